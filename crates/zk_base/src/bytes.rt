@@ -1,0 +1,96 @@
+ghost use Rattle.std.specs.Prelude.{◌≡◌, ◌==◌, length, IfOk};
+
+use crate::Mem;
+use std::alloc::Global;
+use std::marker::Model;
+
+/// A run of bytes that owns its memory. Contracts see it as a list.
+#[derive(Debug, Drop)]
+pub struct Bytes {
+    vec: Vec<u8>,
+}
+
+impl Model for Bytes {
+    ghost use Rattle.std.specs.Prelude.{List, ℕ};
+
+    ghost Value = { List ℕ };
+
+    ghost view = { λ b. b.vec.items };
+}
+
+impl Bytes {
+    /// A copy of a slice.
+    pub fn copy_of(alloc: Global, bytes: &[u8]) -> Result<Bytes, Mem>
+        ensures { IfOk result (λ copy. copy ≡ bytes.now) }
+    {
+        Ok(Bytes {
+            vec: Vec::from_slice(alloc, bytes)?,
+        })
+    }
+
+    pub fn as_slice(&self) -> &[u8]
+        ensures { result.now ≡ self.now }
+    {
+        &self.vec
+    }
+
+    pub fn len(&self) -> usize
+        ensures { result ≡ length self.now }
+    {
+        self.vec.len()
+    }
+
+    pub fn is_empty(&self) -> bool
+        ensures { result ≡ (length self.now == 0) }
+    {
+        self.vec.is_empty()
+    }
+
+    /// The vector that holds the bytes. No memory is taken.
+    pub fn into_vec(self) -> Vec<u8>
+        ensures { result.items ≡ self }
+    {
+        let Bytes { vec } = self;
+        vec
+    }
+}
+
+/// The bytes of a vector. No memory is taken.
+impl From<Vec<u8>> for Bytes {
+    ghost from_gives = { λ vec bytes. bytes ≡ vec.items };
+
+    fn from(vec: Vec<u8>) -> Bytes {
+        Bytes { vec }
+    }
+}
+
+/// One argument of the command line, as bytes.
+#[derive(Debug, Drop)]
+pub struct Word {
+    bytes: Bytes,
+}
+
+impl Model for Word {
+    ghost use Rattle.std.specs.Prelude.{List, ℕ};
+
+    ghost Value = { List ℕ };
+
+    ghost view = { λ w. w.bytes };
+}
+
+impl Word {
+    pub fn as_slice(&self) -> &[u8]
+        ensures { result.now ≡ self.now }
+    {
+        self.bytes.as_slice()
+    }
+}
+
+/// The argument of these bytes. No memory is taken.
+impl From<Bytes> for Word {
+    ghost from_gives = { λ bytes word. word ≡ bytes };
+
+    fn from(bytes: Bytes) -> Word {
+        Word { bytes }
+    }
+}

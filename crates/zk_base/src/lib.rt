@@ -1,0 +1,18 @@
+//! The types that every crate of zeekoff speaks of, and the outside as the program sees it.
+#![tactic(auto)]
+
+mod bytes;
+mod endings;
+mod memory;
+mod network;
+mod numbers;
+mod sequence;
+mod time;
+
+pub use bytes::{Bytes, Word};
+pub use endings::{Ending, ScriptKind};
+pub use memory::Mem;
+pub use network::{Addr, Proto, Side};
+pub use numbers::{ConnNo, EventNo, HandlerNo, HookNo, LogId, ObjectNo, RecordNo};
+pub use sequence::Sequence;
+pub use time::{Moment, Span};

@@ -1,1 +1,4 @@
+pub mod Contents
 pub mod Ending
+pub mod Files
+pub mod Shelf

@@ -1,4 +1,4 @@
-ghost use Rattle.std.specs.Prelude.{◌≡◌, ◌==◌, length, IfOk};
+ghost use Rattle.std.specs.Prelude.{◌≡◌, ◌==◌, [], ◌++◌, length, IfOk, OnOk, OnErr};
 
 use crate::Mem;
 use std::alloc::Global;
@@ -19,6 +19,15 @@ impl Model for Bytes {
 }
 
 impl Bytes {
+    /// No bytes. No memory is taken.
+    pub fn new(alloc: Global) -> Bytes
+        ensures { result ≡ [] }
+    {
+        Bytes {
+            vec: Vec::new(alloc),
+        }
+    }
+
     /// A copy of a slice.
     pub fn copy_of(alloc: Global, bytes: &[u8]) -> Result<Bytes, Mem>
         ensures { IfOk result (λ copy. copy ≡ bytes.now) }
@@ -44,6 +53,22 @@ impl Bytes {
         ensures { result ≡ (length self.now == 0) }
     {
         self.vec.is_empty()
+    }
+
+    /// Adds a slice at the end. At `Mem` nothing is changed.
+    pub fn append(&mut self, bytes: &[u8]) -> Result<(), Mem>
+        ensures ok { OnOk result (self.new ≡ self.old ++ bytes.now) }
+        ensures err { OnErr result (self.new ≡ self.old) }
+    {
+        self.vec.extend_from_slice(bytes)?;
+        Ok(())
+    }
+
+    /// Takes all bytes away.
+    pub fn clear(&mut self)
+        ensures { self.new ≡ [] }
+    {
+        self.vec.clear();
     }
 
     /// The vector that holds the bytes. No memory is taken.

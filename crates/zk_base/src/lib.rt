@@ -2,11 +2,13 @@
 #![tactic(auto)]
 
 mod bytes;
+mod contents;
 mod endings;
 mod memory;
 mod network;
 mod numbers;
 mod sequence;
+mod shelf;
 mod time;
 
 pub use bytes::{Bytes, Word};
@@ -15,4 +17,5 @@ pub use memory::Mem;
 pub use network::{Addr, Proto, Side};
 pub use numbers::{ConnNo, EventNo, HandlerNo, HookNo, LogId, ObjectNo, RecordNo};
 pub use sequence::Sequence;
+pub use shelf::{Got, Shelf, Started, Wrote};
 pub use time::{Moment, Span};

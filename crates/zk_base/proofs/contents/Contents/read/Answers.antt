@@ -1,0 +1,68 @@
+use Rattle.std.proofs.Common.{◌≡◌, ℕ, ◌+◌, ◌<◌, ◌≤◌, List, [], ◌++◌, length, take, drop, min, Some, None, IfSome, arith, sym, ap, ◌∙◌, subst, rules, refl}
+use Rattle.std.specs.List.{slice_get}
+use Rattle.std.proofs.lemmas.Option.{slice_get_read}
+use Rattle.zk_base.specs.declared.contents.Position.{Position}
+use Rattle.zk_base.specs.Contents.{outside_of}
+use Rattle.zk_base.specs.Files.{files_of, IsAt, reading_of}
+use Rattle.zk_base.specs.Shelf.{rest_of, GivesBytes, IsReadOut}
+use Rattle.zk_base.proofs.FileLemmas.{is_read_out, gives, reading_on, at_on}
+use Rattle.zk_base.proofs.contents.Contents.read.Goals as goal
+
+pub copy_from-n-requires : goal.copy_from-n-requires
+copy_from-n-requires c =
+    let inputs = c.args.self.now.inputs.items in
+    let held = c.args.self.now.position in
+    let position = c.in-Some.position in
+    let file = c.index.result.now in
+    let is : held ≡ Some position = c.in-Some.is in
+    let at : IsAt inputs position = c.args.self.now.found position is in
+    let here : slice_get inputs position.file ≡ Some file = slice_get_read inputs (length inputs) position.file file refl at.0 c.index.ensures in
+    let within : position.place ≤ length file.1 = (at.1 file here).1 in
+    omega (arith, ap length c.as_slice-content.ensures)
+
+pub returns-then-n-eq0 : goal.returns-then-n-eq0
+returns-then-n-eq0 c =
+    let inputs = c.args.self.now.inputs.items in
+    let held = c.args.self.now.position in
+    let position = c.in-Some.position in
+    let file = c.index.result.now in
+    let is : held ≡ Some position = c.in-Some.is in
+    let at : IsAt inputs position = c.args.self.now.found position is in
+    let here : slice_get inputs position.file ≡ Some file = slice_get_read inputs (length inputs) position.file file refl at.0 c.index.ensures in
+    let within : position.place ≤ length file.1 = (at.1 file here).1 in
+    record { out = is_read_out inputs held position file is at here (omega (arith, ap length c.as_slice-content.ensures)); same = refl }
+
+pub invariant_of-self : goal.invariant_of-self
+invariant_of-self c =
+    let inputs = c.args.self.now.inputs.items in
+    let held = c.args.self.now.position in
+    let position = c.in-Some.position in
+    let file = c.index.result.now in
+    let is : held ≡ Some position = c.in-Some.is in
+    let at : IsAt inputs position = c.args.self.now.found position is in
+    let here : slice_get inputs position.file ≡ Some file = slice_get_read inputs (length inputs) position.file file refl at.0 c.index.ensures in
+    let within : position.place ≤ length file.1 = (at.1 file here).1 in
+    let n = c.copy_from-n.result in
+    let on : IsAt inputs (record { file = position.file; place = position.place + n }) =
+      at_on inputs held position file is at here n (omega (arith, ap length c.as_slice-content.ensures)) in
+    record { found = λ other there. subst (λ p. IsAt inputs p) (let same : record { file = position.file; place = position.place + n } ≡ other = cc in same) on }
+
+pub returns : goal.returns
+returns c =
+    let inputs = c.args.self.now.inputs.items in
+    let held = c.args.self.now.position in
+    let position = c.in-Some.position in
+    let file = c.index.result.now in
+    let is : held ≡ Some position = c.in-Some.is in
+    let at : IsAt inputs position = c.args.self.now.found position is in
+    let here : slice_get inputs position.file ≡ Some file = slice_get_read inputs (length inputs) position.file file refl at.0 c.index.ensures in
+    let within : position.place ≤ length file.1 = (at.1 file here).1 in
+    let n = c.copy_from-n.result in
+    record {
+      some = omega arith;
+      within = omega arith;
+      bytes = gives inputs held position file is at here n c.args.buf.now c.copy_from-n.new.buf
+        (omega (arith, ap length c.as_slice-content.ensures))
+        (c.copy_from-n.ensures.copied ∙ ap (λ content. take n (drop position.place content) ++ drop n c.args.buf.now) c.as_slice-content.ensures);
+      goes_on = λ p. record (outside_of c.args.self.now) { reading = reading_on inputs held position file is at here n p };
+    }

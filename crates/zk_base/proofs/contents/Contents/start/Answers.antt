@@ -1,0 +1,34 @@
+use Rattle.std.proofs.Common.{◌≡◌, ◌+◌, min, [], Some, None, IsSome, IsNone, arith, sym, ap, ◌∙◌, subst, rules, refl}
+use Rattle.zk_base.specs.Contents.{outside_of}
+use Rattle.zk_base.specs.Files.{number_of, files_of, IsAt, reading_of}
+use Rattle.zk_base.specs.Shelf.{At, Closed, HasRisen}
+use Rattle.zk_base.proofs.FileLemmas.{is_new, first_at, is_at_first, reading_first}
+use Rattle.zk_base.proofs.contents.Contents.start.Goals as goal
+
+pub invariant_of-self-in-Some : goal.invariant_of-self-in-Some
+invariant_of-self-in-Some c = record {
+    found = λ position is.
+      let at : number_of c.args.self.now.inputs.items c.args.name.now ≡ Some c.in-Some.file = cc in
+      let here : record { file = c.in-Some.file; place = 0 } ≡ position = cc in
+      subst (λ p. IsAt c.args.self.now.inputs.items p) here (is_at_first c.args.self.now.inputs.items c.args.name.now c.in-Some.file at);
+  }
+
+pub returns-in-Some : goal.returns-in-Some
+returns-in-Some c =
+    let inputs = c.args.self.now.inputs.items in
+    let at : number_of inputs c.args.name.now ≡ Some c.in-Some.file = cc in
+    record {
+      after = λ p. record (outside_of c.args.self.now) { started = Some (c.in-Ok.ensures.ok p); reading = reading_first inputs c.args.name.now c.in-Some.file at p };
+      holds = subst (λ found. IsSome found) (sym ((first_at inputs c.args.name.now c.in-Some.file at).holds ([], []))) refl;
+    }
+
+pub returns-in-None : goal.returns-in-None
+returns-in-None c =
+    let inputs = c.args.self.now.inputs.items in
+    let at : number_of inputs c.args.name.now ≡ None = cc in
+    record {
+      count = c.saturating_add-self.result;
+      risen = record { kept = omega arith; risen = omega arith };
+      after = λ p. record (outside_of c.args.self.now) { started = Some (c.in-Ok.ensures.ok p); reading = Closed; absences = c.saturating_add-self.result };
+      lacks = subst (λ found. IsNone found) (sym (is_new inputs c.args.name.now 0 at).none) refl;
+    }

@@ -1,0 +1,196 @@
+ghost use Rattle.std.specs.Prelude.{◌≡◌, Some, ◌<◌, ◌≤◌, ◌-◌, [], ◌∷◌, ◌++◌, length, take, drop, min, IsTrue, IsSome, OnOk, OnErr, IfOk};
+ghost use Rattle.std.specs.Option.{ForSome};
+ghost use Rattle.zk_base.specs.Files.{files_of, number_of, IsAt};
+ghost use Rattle.zk_base.specs.Shelf.{with_file, with_piece};
+
+use crate::{Bytes, Got, Mem, Started, Wrote};
+use std::alloc::Global;
+
+/// A file in memory: its name and its content.
+type File = (Bytes, Bytes);
+
+/// The number of the first file of a name. A shelf in memory holds a handful, so it walks.
+fn find(files: &[File], name: &[u8]) -> Option<usize>
+    ensures { result ≡ number_of files.now name.now }
+{
+    for (i, file) in files.iter().enumerate() {
+        if file.0.as_slice() == name {
+            return Some(i);
+        }
+    }
+    None
+}
+
+/// Gives a file this content, and makes it where there is none of the name. At `Mem` nothing is
+/// changed.
+fn put_file(files: &mut Vec<File>, name: Bytes, content: Bytes) -> Result<(), Mem>
+    ensures ok { OnOk result (files_of files.new.items ≡ with_file (files_of files.old.items) name content) }
+    ensures err { OnErr result (files.new.items ≡ files.old.items) }
+{
+    match find(files, name.as_slice()) {
+        Some(i) => files[i] = (name, content),
+        None => files.push((name, content))?,
+    }
+    Ok(())
+}
+
+/// Adds a piece at the end of a file. At `Mem` nothing is changed.
+fn add_piece(files: &mut Vec<File>, name: &[u8], piece: &[u8]) -> Result<(), Mem>
+    requires { IsSome (files_of files.old.items name.now) }
+    ensures ok { OnOk result (files_of files.new.items ≡ with_piece (files_of files.old.items) name.now piece.now) }
+    ensures err { OnErr result (files.new.items ≡ files.old.items) }
+{
+    let Some(i) = find(files, name) else {
+        unreachable!()
+    };
+    files[i].1.append(piece)?;
+    Ok(())
+}
+
+/// Adds a name to those that were started. At `Mem` nothing is changed.
+fn note(alloc: Global, started: &mut Vec<Bytes>, name: &[u8]) -> Result<(), Mem>
+    ensures ok { OnOk result (started.new.items ≡ started.old.items ++ name.now ∷ []) }
+    ensures err { OnErr result (started.new.items ≡ started.old.items) }
+{
+    let name = Bytes::copy_of(alloc, name)?;
+    started.push(name)?;
+    Ok(())
+}
+
+/// Copies the bytes from a place on to the front of a buffer, as many as both hold, and answers
+/// how many.
+fn copy_from(content: &[u8], place: usize, buf: &mut [u8]) -> usize
+    requires { place ≤ length content.now }
+    ensures count { result ≡ min (length content.now - place) (length buf.old) }
+    ensures copied { buf.new ≡ take result (drop place content.now) ++ drop result buf.old }
+{
+    let rest = &content[place..];
+    let n = rest.len().min(buf.len());
+    buf[..n].copy_from_slice(&rest[..n]);
+    n
+}
+
+/// A place in the file of this number.
+#[derive(Clone, Copy, Debug)]
+pub struct Position {
+    pub file: usize,
+    pub place: usize,
+}
+
+/// What a shelf holds that lies in memory, with its counts.
+#[derive(Debug, Drop)]
+pub struct Contents {
+    alloc: Global,
+    inputs: Vec<File>,
+    outputs: Vec<File>,
+    said: Bytes,
+    complained: Bytes,
+    started: Vec<Bytes>,
+    position: Option<Position>,
+    read_faults: u64,
+    write_faults: u64,
+    absences: u64,
+    ghost found: { ForSome position (IsAt inputs.items) },
+}
+
+impl Contents {
+    ghost use Rattle.zk_base.specs.Contents.{outside_of, at_first};
+    ghost use Rattle.zk_base.specs.Shelf.{Starts, FailsToStart, is_open, Reads, FailsToRead, Creates, FailsToCreate, IsCreated, Puts, PutsFront, after_append, after_say, after_complaint};
+
+    pub fn new(alloc: Global, inputs: Vec<File>) -> Contents
+        ensures { outside_of result ≡ at_first inputs.items }
+    {
+        Contents {
+            alloc,
+            inputs,
+            outputs: Vec::new(alloc),
+            said: Bytes::new(alloc),
+            complained: Bytes::new(alloc),
+            started: Vec::new(alloc),
+            position: None,
+            read_faults: 0,
+            write_faults: 0,
+            absences: 0,
+        }
+    }
+
+    pub fn start(&mut self, name: &[u8]) -> Started
+        ensures { Starts (outside_of self.old) name.now result (outside_of self.new) }
+    {
+        let Ok(()) = note(self.alloc, &mut self.started, name) else {
+            return Started::NoMemory;
+        };
+        match find(&self.inputs, name) {
+            Some(file) => {
+                self.position = Some(Position { file, place: 0 });
+                Started::Open
+            }
+            None => {
+                self.position = None;
+                self.absences = self.absences.saturating_add(1);
+                Started::Absent
+            }
+        }
+    }
+
+    pub fn read(&mut self, buf: &mut [u8]) -> Got
+        requires room { 0 < length buf.old }
+        requires input { IsTrue (is_open (outside_of self.old).reading) }
+        ensures { Reads (outside_of self.old) buf.old result buf.new (outside_of self.new) }
+    {
+        let Some(position) = self.position else {
+            unreachable!()
+        };
+        let content = self.inputs[position.file].1.as_slice();
+        let n = copy_from(content, position.place, buf);
+        if n == 0 {
+            return Got::End;
+        }
+        self.position = Some(Position {
+            file: position.file,
+            place: position.place + n,
+        });
+        Got::Bytes(n)
+    }
+
+    pub fn create(&mut self, name: &[u8]) -> Wrote
+        ensures { Creates (outside_of self.old) name.now result (outside_of self.new) }
+    {
+        let Ok(name) = Bytes::copy_of(self.alloc, name) else {
+            return Wrote::NoMemory;
+        };
+        let empty = Bytes::new(self.alloc);
+        match put_file(&mut self.outputs, name, empty) {
+            Ok(()) => Wrote::Done,
+            Err(_) => Wrote::NoMemory,
+        }
+    }
+
+    pub fn append(&mut self, name: &[u8], bytes: &[u8]) -> Wrote
+        requires { IsCreated (outside_of self.old) name.now }
+        ensures { Puts (after_append (outside_of self.old) name.now) (outside_of self.old) bytes.now result (outside_of self.new) }
+    {
+        match add_piece(&mut self.outputs, name, bytes) {
+            Ok(()) => Wrote::Done,
+            Err(_) => Wrote::NoMemory,
+        }
+    }
+
+    pub fn say(&mut self, bytes: &[u8]) -> Wrote
+        ensures { Puts (after_say (outside_of self.old)) (outside_of self.old) bytes.now result (outside_of self.new) }
+    {
+        match self.said.append(bytes) {
+            Ok(()) => Wrote::Done,
+            Err(_) => Wrote::NoMemory,
+        }
+    }
+
+    pub fn complain(&mut self, bytes: &[u8]) -> Wrote
+        ensures { Puts (after_complaint (outside_of self.old)) (outside_of self.old) bytes.now result (outside_of self.new) }
+    {
+        match self.complained.append(bytes) {
+            Ok(()) => Wrote::Done,
+            Err(_) => Wrote::NoMemory,
+        }
+    }
+}

@@ -1,5 +1,5 @@
 -- What a shelf that lies in memory holds.
-use Rattle.std.specs.Prelude.{ℕ, List, [], Some, None}
+use Rattle.std.specs.Prelude.{◌≡◌, ℕ, List, [], Some, None}
 use Rattle.zk_base.specs.declared.contents.Contents.{Contents}
 use Rattle.zk_base.specs.Files.{files_of, reading_of}
 use Rattle.zk_base.specs.Shelf.{Outside, Closed}
@@ -31,3 +31,8 @@ at_first inputs = record {
   write_faults = 0;
   absences = 0;
 }
+
+-- no fault is counted
+pub record SameFaults (old new : Contents) : Type 0 where
+  pub read : new.read_faults ≡ old.read_faults
+  pub write : new.write_faults ≡ old.write_faults

@@ -21,6 +21,11 @@ with_file files name content = λ other. if bytes_eq name other then Some conten
 abbrev pub without_file : Files → List ℕ → Files
 without_file files name = λ other. if bytes_eq name other then None else files other
 
+-- what lies under a name, where the files are told
+abbrev pub lies_under : Option Files → List ℕ → Option (List ℕ)
+lies_under None name = None
+lies_under (Some files) name = files name
+
 -- the open input: none, one that the shelf doesn't tell, or the input of a name at a place
 pub data Reading : Type 0 where
   Closed : Reading

@@ -1,5 +1,5 @@
-ghost use Rattle.std.specs.Prelude.{◌≡◌, Some, ◌<◌, ◌≤◌, ◌-◌, [], ◌∷◌, ◌++◌, length, take, drop, min, IsTrue, IsSome, OnOk, OnErr, IfOk};
-ghost use Rattle.std.specs.Option.{ForSome};
+ghost use Rattle.std.specs.Prelude.{◌≡◌, ◌≢◌, Some, ◌<◌, ◌≤◌, ◌-◌, [], ◌∷◌, ◌++◌, length, take, drop, min, IsTrue, IsSome, OnOk, OnErr, IfOk};
+ghost use Rattle.std.specs.Option.{ForSome, option_copied};
 ghost use Rattle.zk_base.specs.Files.{files_of, number_of, IsAt};
 ghost use Rattle.zk_base.specs.Shelf.{with_file, with_piece};
 
@@ -94,7 +94,7 @@ pub struct Contents {
 }
 
 impl Contents {
-    ghost use Rattle.zk_base.specs.Contents.{outside_of, at_first};
+    ghost use Rattle.zk_base.specs.Contents.{outside_of, at_first, SameFaults};
     ghost use Rattle.zk_base.specs.Shelf.{Starts, FailsToStart, is_open, Reads, FailsToRead, Creates, FailsToCreate, IsCreated, Puts, PutsFront, after_append, after_say, after_complaint};
 
     pub fn new(alloc: Global, inputs: Vec<File>) -> Contents
@@ -115,7 +115,9 @@ impl Contents {
     }
 
     pub fn start(&mut self, name: &[u8]) -> Started
-        ensures { Starts (outside_of self.old) name.now result (outside_of self.new) }
+        ensures leaves { Starts (outside_of self.old) name.now result (outside_of self.new) }
+        ensures sure { result ≢ Started.Failed }
+        ensures faults { SameFaults self.old self.new }
     {
         let Ok(()) = note(self.alloc, &mut self.started, name) else {
             return Started::NoMemory;
@@ -136,7 +138,9 @@ impl Contents {
     pub fn read(&mut self, buf: &mut [u8]) -> Got
         requires room { 0 < length buf.old }
         requires input { IsTrue (is_open (outside_of self.old).reading) }
-        ensures { Reads (outside_of self.old) buf.old result buf.new (outside_of self.new) }
+        ensures leaves { Reads (outside_of self.old) buf.old result buf.new (outside_of self.new) }
+        ensures sure { result ≢ Got.Failed }
+        ensures faults { SameFaults self.old self.new }
     {
         let Some(position) = self.position else {
             unreachable!()
@@ -154,7 +158,9 @@ impl Contents {
     }
 
     pub fn create(&mut self, name: &[u8]) -> Wrote
-        ensures { Creates (outside_of self.old) name.now result (outside_of self.new) }
+        ensures leaves { Creates (outside_of self.old) name.now result (outside_of self.new) }
+        ensures sure { result ≢ Wrote.Failed }
+        ensures faults { SameFaults self.old self.new }
     {
         let Ok(name) = Bytes::copy_of(self.alloc, name) else {
             return Wrote::NoMemory;
@@ -168,7 +174,9 @@ impl Contents {
 
     pub fn append(&mut self, name: &[u8], bytes: &[u8]) -> Wrote
         requires { IsCreated (outside_of self.old) name.now }
-        ensures { Puts (after_append (outside_of self.old) name.now) (outside_of self.old) bytes.now result (outside_of self.new) }
+        ensures leaves { Puts (after_append (outside_of self.old) name.now) (outside_of self.old) bytes.now result (outside_of self.new) }
+        ensures sure { result ≢ Wrote.Failed }
+        ensures faults { SameFaults self.old self.new }
     {
         match add_piece(&mut self.outputs, name, bytes) {
             Ok(()) => Wrote::Done,
@@ -177,7 +185,9 @@ impl Contents {
     }
 
     pub fn say(&mut self, bytes: &[u8]) -> Wrote
-        ensures { Puts (after_say (outside_of self.old)) (outside_of self.old) bytes.now result (outside_of self.new) }
+        ensures leaves { Puts (after_say (outside_of self.old)) (outside_of self.old) bytes.now result (outside_of self.new) }
+        ensures sure { result ≢ Wrote.Failed }
+        ensures faults { SameFaults self.old self.new }
     {
         match self.said.append(bytes) {
             Ok(()) => Wrote::Done,
@@ -186,11 +196,35 @@ impl Contents {
     }
 
     pub fn complain(&mut self, bytes: &[u8]) -> Wrote
-        ensures { Puts (after_complaint (outside_of self.old)) (outside_of self.old) bytes.now result (outside_of self.new) }
+        ensures leaves { Puts (after_complaint (outside_of self.old)) (outside_of self.old) bytes.now result (outside_of self.new) }
+        ensures sure { result ≢ Wrote.Failed }
+        ensures faults { SameFaults self.old self.new }
     {
         match self.complained.append(bytes) {
             Ok(()) => Wrote::Done,
             Err(_) => Wrote::NoMemory,
         }
+    }
+
+    /// What lies under a name among the outputs.
+    pub fn output(&self, name: &[u8]) -> Option<&[u8]>
+        ensures { option_copied result ≡ files_of self.now.outputs.items name.now }
+    {
+        match find(&self.outputs, name) {
+            Some(i) => Some(self.outputs[i].1.as_slice()),
+            None => None,
+        }
+    }
+
+    pub fn said(&self) -> &[u8]
+        ensures { result.now ≡ self.now.said }
+    {
+        self.said.as_slice()
+    }
+
+    pub fn complained(&self) -> &[u8]
+        ensures { result.now ≡ self.now.complained }
+    {
+        self.complained.as_slice()
     }
 }

@@ -9,6 +9,7 @@ mod network;
 mod numbers;
 mod sequence;
 mod shelf;
+mod sure_shelf;
 mod time;
 
 pub use bytes::{Bytes, Word};
@@ -18,4 +19,5 @@ pub use network::{Addr, Proto, Side};
 pub use numbers::{ConnNo, EventNo, HandlerNo, HookNo, LogId, ObjectNo, RecordNo};
 pub use sequence::Sequence;
 pub use shelf::{Got, Shelf, Started, Wrote};
+pub use sure_shelf::SureShelf;
 pub use time::{Moment, Span};

@@ -46,28 +46,28 @@ pub trait Shelf {
 
     /// Opens an input at its first byte, and gives up the one that was open.
     fn start(&mut self, name: &[u8]) -> Started
-        ensures { Starts (outside self.old) name.now result (outside self.new) };
+        ensures leaves { Starts (outside self.old) name.now result (outside self.new) };
 
     /// Reads the next bytes of the open input to the front of a buffer.
     fn read(&mut self, buf: &mut [u8]) -> Got
         requires room { 0 < length buf.old }
         requires input { IsTrue (is_open (outside self.old).reading) }
-        ensures { Reads (outside self.old) buf.old result buf.new (outside self.new) };
+        ensures leaves { Reads (outside self.old) buf.old result buf.new (outside self.new) };
 
     /// Makes an empty output, or empties the one that there is.
     fn create(&mut self, name: &[u8]) -> Wrote
-        ensures { Creates (outside self.old) name.now result (outside self.new) };
+        ensures leaves { Creates (outside self.old) name.now result (outside self.new) };
 
     /// Adds a piece to an output that was created.
     fn append(&mut self, name: &[u8], bytes: &[u8]) -> Wrote
         requires { IsCreated (outside self.old) name.now }
-        ensures { Puts (after_append (outside self.old) name.now) (outside self.old) bytes.now result (outside self.new) };
+        ensures leaves { Puts (after_append (outside self.old) name.now) (outside self.old) bytes.now result (outside self.new) };
 
     /// Adds a piece to standard output.
     fn say(&mut self, bytes: &[u8]) -> Wrote
-        ensures { Puts (after_say (outside self.old)) (outside self.old) bytes.now result (outside self.new) };
+        ensures leaves { Puts (after_say (outside self.old)) (outside self.old) bytes.now result (outside self.new) };
 
     /// Adds a piece to standard error.
     fn complain(&mut self, bytes: &[u8]) -> Wrote
-        ensures { Puts (after_complaint (outside self.old)) (outside self.old) bytes.now result (outside self.new) };
+        ensures leaves { Puts (after_complaint (outside self.old)) (outside self.old) bytes.now result (outside self.new) };
 }

@@ -20,8 +20,8 @@ copy_from-n-requires c =
     let within : position.place ≤ length file.1 = (at.1 file here).1 in
     omega (arith, ap length c.as_slice-content.ensures)
 
-pub returns-then-n-eq0 : goal.returns-then-n-eq0
-returns-then-n-eq0 c =
+pub returns-then-n-eq0-clause-leaves : goal.returns-then-n-eq0-clause-leaves
+returns-then-n-eq0-clause-leaves c =
     let inputs = c.args.self.now.inputs.items in
     let held = c.args.self.now.position in
     let position = c.in-Some.position in
@@ -47,8 +47,8 @@ invariant_of-self c =
       at_on inputs held position file is at here n (omega (arith, ap length c.as_slice-content.ensures)) in
     record { found = λ other there. subst (λ p. IsAt inputs p) (let same : record { file = position.file; place = position.place + n } ≡ other = cc in same) on }
 
-pub returns : goal.returns
-returns c =
+pub returns-clause-leaves : goal.returns-clause-leaves
+returns-clause-leaves c =
     let inputs = c.args.self.now.inputs.items in
     let held = c.args.self.now.position in
     let position = c.in-Some.position in

@@ -13,8 +13,8 @@ invariant_of-self-in-Some c = record {
       subst (λ p. IsAt c.args.self.now.inputs.items p) here (is_at_first c.args.self.now.inputs.items c.args.name.now c.in-Some.file at);
   }
 
-pub returns-in-Some : goal.returns-in-Some
-returns-in-Some c =
+pub returns-in-Some-clause-leaves : goal.returns-in-Some-clause-leaves
+returns-in-Some-clause-leaves c =
     let inputs = c.args.self.now.inputs.items in
     let at : number_of inputs c.args.name.now ≡ Some c.in-Some.file = cc in
     record {
@@ -22,8 +22,8 @@ returns-in-Some c =
       holds = subst (λ found. IsSome found) (sym ((first_at inputs c.args.name.now c.in-Some.file at).holds ([], []))) refl;
     }
 
-pub returns-in-None : goal.returns-in-None
-returns-in-None c =
+pub returns-in-None-clause-leaves : goal.returns-in-None-clause-leaves
+returns-in-None-clause-leaves c =
     let inputs = c.args.self.now.inputs.items in
     let at : number_of inputs c.args.name.now ≡ None = cc in
     record {

@@ -1,0 +1,23 @@
+use Rattle.std.proofs.Common.{◌≡◌, Some, None, arith, sym, ap, ◌∙◌, get_or, List, ℕ}
+use Rattle.zk_base.specs.Files.{number_of, files_of}
+use Rattle.zk_base.proofs.FileLemmas.{first_at, is_new}
+use Rattle.zk_base.proofs.contents.Contents.output.Goals as goal
+
+pub index-requires : goal.index-requires
+index-requires c =
+    let outputs = c.args.self.now.outputs.items in
+    let at : number_of outputs c.args.name.now ≡ Some c.in-Some.i = cc in
+    omega (arith, (first_at outputs c.args.name.now c.in-Some.i at).within)
+
+pub returns-in-None : goal.returns-in-None
+returns-in-None c =
+    let outputs = c.args.self.now.outputs.items in
+    let at : number_of outputs c.args.name.now ≡ None = cc in
+    sym (is_new outputs c.args.name.now 0 at).none
+
+pub returns-in-Some : goal.returns-in-Some
+returns-in-Some c =
+    let outputs = c.args.self.now.outputs.items in
+    let at : number_of outputs c.args.name.now ≡ Some c.in-Some.i = cc in
+    let file = c.index.result.now in
+    ap Some (c.as_slice.ensures ∙ ap (λ (f : List ℕ × List ℕ). f.1) c.index.ensures) ∙ sym ((first_at outputs c.args.name.now c.in-Some.i at).holds file)

@@ -1,0 +1,81 @@
+ghost use Rattle.std.specs.Prelude.{◌≡◌, Some, IfOk};
+ghost use Rattle.std.specs.Option.{option_copied};
+ghost use Rattle.zk_base.specs.Shelf.{lies_under};
+ghost use Rattle.zk_base.specs.Contents.{at_first};
+
+use crate::contents::Contents;
+use crate::{Bytes, Got, Mem, Shelf, Started, Wrote};
+use std::alloc::Global;
+
+/// A shelf in memory that tells everything and never fails: its counts of faults are 0.
+#[derive(Debug, Drop)]
+pub struct SureShelf {
+    contents: Contents,
+    ghost no_read_faults: { contents.read_faults ≡ 0 },
+    ghost no_write_faults: { contents.write_faults ≡ 0 },
+}
+
+impl SureShelf {
+    ghost use Rattle.zk_base.specs.SureShelf.{sure_outside};
+
+    /// A shelf with these inputs, each a name and what lies under it. Of two with one name the
+    /// first counts.
+    pub fn new(alloc: Global, inputs: Vec<(Bytes, Bytes)>) -> Result<SureShelf, Mem>
+        ensures { IfOk result (λ shelf. sure_outside shelf ≡ at_first inputs.items) }
+    {
+        Ok(SureShelf {
+            contents: Contents::new(alloc, inputs),
+        })
+    }
+
+    /// The bytes of an output. None where no output of that name was created.
+    pub fn output(&self, name: &[u8]) -> Option<&[u8]>
+        ensures { option_copied result ≡ lies_under (sure_outside self.now).outputs name.now }
+    {
+        self.contents.output(name)
+    }
+
+    /// The bytes of standard output.
+    pub fn said(&self) -> &[u8]
+        ensures { (sure_outside self.now).said ≡ Some result.now }
+    {
+        self.contents.said()
+    }
+
+    /// The bytes of standard error.
+    pub fn complained(&self) -> &[u8]
+        ensures { (sure_outside self.now).complained ≡ Some result.now }
+    {
+        self.contents.complained()
+    }
+}
+
+impl Shelf for SureShelf {
+    ghost use Rattle.zk_base.specs.SureShelf.{sure_outside};
+
+    ghost outside = { sure_outside };
+
+    fn start(&mut self, name: &[u8]) -> Started {
+        self.contents.start(name)
+    }
+
+    fn read(&mut self, buf: &mut [u8]) -> Got {
+        self.contents.read(buf)
+    }
+
+    fn create(&mut self, name: &[u8]) -> Wrote {
+        self.contents.create(name)
+    }
+
+    fn append(&mut self, name: &[u8], bytes: &[u8]) -> Wrote {
+        self.contents.append(name, bytes)
+    }
+
+    fn say(&mut self, bytes: &[u8]) -> Wrote {
+        self.contents.say(bytes)
+    }
+
+    fn complain(&mut self, bytes: &[u8]) -> Wrote {
+        self.contents.complain(bytes)
+    }
+}

@@ -1,0 +1,87 @@
+ghost use Rattle.std.specs.Prelude.{◌≡◌, ◌<◌, ◌≤◌, ◌↔◌, ◌++◌, ◌+◌, ◌^◌, drop, length, IfOk, IsErr, IsOk, OnErr, OnOk};
+ghost use Rattle.zk_text.specs.Span.{seconds_decimal, span_decimal};
+
+use crate::Short;
+use crate::front::write_front;
+use itoa::write_digits;
+
+/// The length of the longest text of `span_text`, in bytes: that of -9223372036854.775808.
+pub const SPAN_TEXT_MAX: usize = 21;
+
+const MICROSECONDS: u64 = 1_000_000;
+
+/// The place of the point in a text that ends where `ZEROS` ends.
+const POINT: usize = 14;
+
+/// The zeros that the digits of a text are written over.
+const ZEROS: [u8; SPAN_TEXT_MAX] = *b"00000000000000.000000";
+
+/// Writes a time or an interval of `n` microseconds as seconds with six decimals to the front of a
+/// buffer, with `-` before a negative one, and answers the length in bytes.
+/// `Short` comes exactly where the text is longer than the buffer.
+pub fn span_text(n: i64, out: &mut [u8]) -> Result<usize, Short>
+    ensures len { IfOk result (λ len. len ≡ length (span_decimal n)) }
+    ensures text { OnOk result (out.new ≡ span_decimal n ++ drop (length (span_decimal n)) out.old) }
+    ensures short { IsErr result ↔ (length out.old < length (span_decimal n)) }
+    ensures err { OnErr result (out.new ≡ out.old) }
+    ensures bound { length (span_decimal n) ≤ SPAN_TEXT_MAX }
+    ensures room { SPAN_TEXT_MAX ≤ length out.old → IsOk result }
+{
+    let mut text = ZEROS;
+    let start = write_span(n, &mut text);
+    write_front(&text[start..], out)
+}
+
+/// Writes the text over the zeros so that it ends where they end, and answers where it starts.
+fn write_span(n: i64, text: &mut [u8; SPAN_TEXT_MAX]) -> usize
+    requires { text.old ≡ ZEROS }
+    ensures start { result + length (span_decimal n) ≡ SPAN_TEXT_MAX }
+    ensures written { drop result text.new ≡ span_decimal n }
+{
+    let start = write_seconds(n.unsigned_abs(), text);
+    if n >= 0 {
+        return start;
+    }
+    text[start - 1] = b'-';
+    start - 1
+}
+
+/// The same for the size of a number, whose text leaves room for a sign.
+fn write_seconds(size: u64, text: &mut [u8; SPAN_TEXT_MAX]) -> usize
+    requires range { size ≤ 2 ^ 63 }
+    requires zeros { text.old ≡ ZEROS }
+    ensures room { 0 < result }
+    ensures start { result + length (seconds_decimal size) ≡ SPAN_TEXT_MAX }
+    ensures written { drop result text.new ≡ seconds_decimal size }
+{
+    write_digits(size % MICROSECONDS, text, SPAN_TEXT_MAX);
+    write_digits(size / MICROSECONDS, text, POINT)
+}
+
+#[cfg(test)]
+mod tests {
+    use super::*;
+    use std::test::Fail;
+
+    /// The counts of microseconds with what Python's `format(Decimal(n).scaleb(-6), ".6f")` gives.
+    const ROWS: [(i64, &str); 8] = [
+        (0, "0.000000"),
+        (1_999_999, "1.999999"),
+        (-1, "-0.000001"),
+        (1_700_000_000_020_000, "1700000000.020000"),
+        (i64::MIN, "-9223372036854.775808"),
+        (i64::MAX, "9223372036854.775807"),
+        (-60_000_000, "-60.000000"),
+        (300_000_001, "300.000001"),
+    ];
+
+    #[test]
+    fn spans_print_as_seconds_with_six_decimals(rt: HostRuntime) -> Result<(), Fail> {
+        for (n, text) in ROWS {
+            let mut out = [b'?'; SPAN_TEXT_MAX];
+            let len = span_text(n, &mut out)?;
+            assert_eq!(rt; &out[..len], text.as_bytes());
+        }
+        Ok(())
+    }
+}

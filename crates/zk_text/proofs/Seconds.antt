@@ -31,11 +31,6 @@ pub length-padded_decimal : (width n : ℕ) → length (decimal n) ≤ width →
 length-padded_decimal width n h =
     length-append (replicate (width - length (decimal n)) 48) (decimal n) ∙ rw (length-replicate {A = ℕ} (width - length (decimal n)) 48) (omega arith)
 
-pub length-seconds_decimal : (n : ℕ) → length (seconds_decimal n) ≡ length (decimal (n / 1000000)) + 7
-length-seconds_decimal n =
-    let six = length-padded_decimal 6 (n % 1000000) (length-rest n) in
-    length-append (decimal (n / 1000000) ++ codes ".") (padded_decimal 6 (n % 1000000)) ∙ rw (six, length-append (decimal (n / 1000000)) (codes ".")) (omega arith)
-
 -- a number that is not negative has no sign
 pub span_decimal_plain : (z : ℤ) → pos 0 ≤ℤ z → span_decimal z ≡ seconds_decimal (unsigned_abs z)
 unfolding span_decimal

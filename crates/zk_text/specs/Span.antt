@@ -7,7 +7,7 @@ padded_decimal width n = replicate (width - length (decimal n)) 48 ++ decimal n
 
 -- n microseconds as seconds: the whole ones, a point, and the six digits of the rest
 abbrev pub seconds_decimal : ℕ → List ℕ
-seconds_decimal n = decimal (n / 1000000) ++ codes "." ++ padded_decimal 6 (n % 1000000)
+seconds_decimal n = decimal (n / 1_000_000) ++ codes "." ++ padded_decimal 6 (n % 1_000_000)
 
 -- microseconds as seconds, with a minus sign before a negative number
 unfoldable pub span_decimal : ℤ → List ℕ

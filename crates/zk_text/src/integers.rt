@@ -19,3 +19,25 @@ pub fn count_text(n: u64, out: &mut [u8]) -> Result<usize, Short>
 {
     write_front(Buffer::new().format(n).as_bytes(), out)
 }
+
+#[cfg(test)]
+mod tests {
+    use super::*;
+    use std::test::Fail;
+
+    #[test]
+    fn counts_print_in_decimal(rt: HostRuntime) -> Result<(), Fail> {
+        let rows = [
+            (0, "0"),
+            (10, "10"),
+            (999_999, "999999"),
+            (u64::MAX, "18446744073709551615"),
+        ];
+        for (n, text) in rows {
+            let mut out = [b'?'; COUNT_TEXT_MAX];
+            let len = count_text(n, &mut out)?;
+            assert_eq!(rt; &out[..len], text.as_bytes(), "at {n}");
+        }
+        Ok(())
+    }
+}

@@ -8,12 +8,12 @@ use itoa::write_digits;
 /// The length of the longest text of `span_text`, in bytes: that of -9223372036854.775808.
 pub const SPAN_TEXT_MAX: usize = 21;
 
-const MICROSECONDS: u64 = 1_000_000;
+const MICROSECONDS_PER_SECOND: u64 = 1_000_000;
 
 /// The place of the point in a text that ends where `ZEROS` ends.
 const POINT: usize = 14;
 
-/// The zeros that the digits of a text are written over.
+/// The digits of a text are written over these, so that the rest of a second is filled up with zeros.
 const ZEROS: [u8; SPAN_TEXT_MAX] = *b"00000000000000.000000";
 
 /// Writes a time or an interval of `n` microseconds as seconds with six decimals to the front of a
@@ -35,7 +35,7 @@ pub fn span_text(n: i64, out: &mut [u8]) -> Result<usize, Short>
 /// Writes the text over the zeros so that it ends where they end, and answers where it starts.
 fn write_span(n: i64, text: &mut [u8; SPAN_TEXT_MAX]) -> usize
     requires { text.old ≡ ZEROS }
-    ensures start { result + length (span_decimal n) ≡ SPAN_TEXT_MAX }
+    ensures within { result ≤ SPAN_TEXT_MAX }
     ensures written { drop result text.new ≡ span_decimal n }
 {
     let start = write_seconds(n.unsigned_abs(), text);
@@ -46,16 +46,16 @@ fn write_span(n: i64, text: &mut [u8; SPAN_TEXT_MAX]) -> usize
     start - 1
 }
 
-/// The same for the size of a number, whose text leaves room for a sign.
+/// Writes the text of a number without its sign in the same way, and leaves room for the sign.
 fn write_seconds(size: u64, text: &mut [u8; SPAN_TEXT_MAX]) -> usize
     requires range { size ≤ 2 ^ 63 }
     requires zeros { text.old ≡ ZEROS }
     ensures room { 0 < result }
-    ensures start { result + length (seconds_decimal size) ≡ SPAN_TEXT_MAX }
+    ensures within { result ≤ SPAN_TEXT_MAX }
     ensures written { drop result text.new ≡ seconds_decimal size }
 {
-    write_digits(size % MICROSECONDS, text, SPAN_TEXT_MAX);
-    write_digits(size / MICROSECONDS, text, POINT)
+    write_digits(size % MICROSECONDS_PER_SECOND, text, SPAN_TEXT_MAX);
+    write_digits(size / MICROSECONDS_PER_SECOND, text, POINT)
 }
 
 #[cfg(test)]
@@ -63,7 +63,7 @@ mod tests {
     use super::*;
     use std::test::Fail;
 
-    /// The counts of microseconds with what Python's `format(Decimal(n).scaleb(-6), ".6f")` gives.
+    /// Numbers of microseconds with what `format(Decimal(n).scaleb(-6), ".6f")` gives in Python.
     const ROWS: [(i64, &str); 8] = [
         (0, "0.000000"),
         (1_999_999, "1.999999"),
@@ -80,7 +80,7 @@ mod tests {
         for (n, text) in ROWS {
             let mut out = [b'?'; SPAN_TEXT_MAX];
             let len = span_text(n, &mut out)?;
-            assert_eq!(rt; &out[..len], text.as_bytes());
+            assert_eq!(rt; &out[..len], text.as_bytes(), "at {n}");
         }
         Ok(())
     }

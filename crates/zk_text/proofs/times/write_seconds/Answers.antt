@@ -1,6 +1,6 @@
 use Rattle.std.proofs.Common.{◌≡◌, ◌%◌, take, drop, decimal, ap, ◌∙◌, arith, append_assoc, append-nil}
 use Rattle.std.proofs.lemmas.List.{drop_all}
-use Rattle.zk_text.proofs.Seconds.{from_point, length-rest, length-whole, length-seconds_decimal}
+use Rattle.zk_text.proofs.Seconds.{from_point, length-rest, length-whole}
 use Rattle.zk_text.specs.declared.times.TheConstants.{ZEROS}
 use Rattle.zk_text.proofs.times.write_seconds.Goals as goal
 
@@ -12,9 +12,6 @@ write_digits-requires-2 c = (omega (arith, length-whole c.args.size c.requires.r
 
 pub returns-clause-room : goal.returns-clause-room
 returns-clause-room c = omega (arith, length-whole c.args.size c.requires.range)
-
-pub returns-clause-start : goal.returns-clause-start
-returns-clause-start c = omega (arith, length-seconds_decimal c.args.size)
 
 pub returns-clause-written : goal.returns-clause-written
 returns-clause-written c =

@@ -4,26 +4,12 @@ use Rattle.std.proofs.lemmas.List.{drop-set}
 use Rattle.zk_text.proofs.Seconds.{span_decimal_plain, span_decimal_minus}
 use Rattle.zk_text.proofs.times.write_span.Goals as goal
 
-pub returns-then-n-ge0-clause-start : goal.returns-then-n-ge0-clause-start
-returns-then-n-ge0-clause-start c =
-    let positive : pos 0 ≤ℤ c.args.n = grind (arith, ints) in
-    let size : c.unsigned_abs.result ≡ unsigned_abs c.args.n = grind (arith, to_z-of_z) in
-    let text = span_decimal_plain c.args.n positive in
-    rw (text, ← size) c.write_seconds-start.ensures.start
-
 pub returns-then-n-ge0-clause-written : goal.returns-then-n-ge0-clause-written
 returns-then-n-ge0-clause-written c =
     let positive : pos 0 ≤ℤ c.args.n = grind (arith, ints) in
     let size : c.unsigned_abs.result ≡ unsigned_abs c.args.n = grind (arith, to_z-of_z) in
     let text = span_decimal_plain c.args.n positive in
     rw (text, ← size) c.write_seconds-start.ensures.written
-
-pub returns-clause-start : goal.returns-clause-start
-returns-clause-start c =
-    let negative : c.args.n <ℤ pos 0 = grind (arith, ints) in
-    let size : c.unsigned_abs.result ≡ unsigned_abs c.args.n = grind (arith, to_z-of_z) in
-    let text = span_decimal_minus c.args.n negative in
-    rw (text, ← size) (omega arith)
 
 pub returns-clause-written : goal.returns-clause-written
 returns-clause-written c =

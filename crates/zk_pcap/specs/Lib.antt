@@ -1,0 +1,6 @@
+pub mod CaptureFault
+pub mod Stage
+pub mod Header
+pub mod Record
+pub mod Capture
+pub mod NetworkTime

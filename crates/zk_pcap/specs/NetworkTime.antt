@@ -1,0 +1,26 @@
+-- Network time: the greatest moment of the packets so far.
+use Rattle.std.specs.Prelude.{◌≡◌, ℕ, ℤ, pos, int_lt, if◌then◌else◌, List, [], ◌∷◌, ◌++◌, take, fold, All, Any, ◌≤ℤ◌, ◌⊎◌}
+use Rattle.std.proofs.lemmas.List.Sums.{fold-append}
+use Rattle.zk_base.specs.declared.time.Moment.{Moment}
+use Rattle.zk_pcap.specs.declared.records.Packet.{Packet}
+
+abbrev pub later : Moment → Moment → Moment
+later a b = if int_lt a.0 b.0 then b else a
+
+-- the network time after these packets, and 0 before the first
+abbrev pub now : List Packet → Moment
+now packets = fold (λ time packet. later time packet.moment) (record { 0 = pos 0 }) packets
+
+-- one more packet
+pub now-append : (packets : List Packet) (packet : Packet) → now (packets ++ packet ∷ []) ≡ later (now packets) packet.moment
+now-append packets packet =
+    fold-append (λ (time : Moment) (p : Packet). later time p.moment) (record { 0 = pos 0 }) packets (packet ∷ [])
+
+-- the greatest moment of these packets, or 0 where there are none
+pub record IsGreatest (time : Moment) (packets : List Packet) : Type 0 where
+  pub above : All (λ packet. packet.moment.0 ≤ℤ time.0) packets
+  pub among : ((packets ≡ []) × (time ≡ record { 0 = pos 0 })) ⊎ Any (λ packet. packet.moment ≡ time) packets
+
+-- at each record network time is the greatest moment so far
+abbrev pub HasNetworkTime : List Packet → Type 0
+HasNetworkTime packets = (n : ℕ) → IsGreatest (now (take n packets)) (take n packets)

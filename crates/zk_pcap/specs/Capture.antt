@@ -12,11 +12,12 @@ use Rattle.zk_pcap.specs.declared.faults.CaptureFault.TheVariants.{Short, Magic,
 use Rattle.zk_pcap.specs.Header.{counted, header_of}
 use Rattle.zk_pcap.specs.Record.{record_at, end_of}
 
--- the packets whose records stand one behind another from a place on, n of them at most
-abbrev pub packets_from : ℕ → Header → List ℕ → ℕ → List Packet
-packets_from zero header bytes place = []
-packets_from (suc n) header bytes place =
-    option_map_or (λ packet. packet ∷ packets_from n header bytes (end_of packet)) (record_at header bytes place) []
+-- The packets whose records stand one behind another from a place on, n of them at most. `read`
+-- gives the packet of the record that begins at a place.
+abbrev pub packets_from : ℕ → (ℕ → Option Packet) → ℕ → List Packet
+packets_from zero read place = []
+packets_from (suc n) read place =
+    option_map_or (λ packet. packet ∷ packets_from n read (end_of packet)) (read place) []
 
 -- the place behind the last of the packets, which begin at a place
 abbrev pub end_from : ℕ → List Packet → ℕ
@@ -31,7 +32,7 @@ ending_at bytes place = if place == length bytes then Whole else Cut place
 abbrev pub capture_after : Result Header CaptureFault → List ℕ → Result Capture CaptureFault
 capture_after (Err fault) bytes = Err fault
 capture_after (Ok header) bytes =
-    let packets = packets_from (length bytes) header bytes 24 in
+    let packets = packets_from (length bytes) (record_at header bytes) 24 in
     Ok (record { packets = packets; ending = ending_at bytes (end_from 24 packets) })
 
 -- the capture that a file is, or what is wrong with its header
@@ -48,15 +49,15 @@ UnlessNoMemory (Err Link) wanted = Err Link ≡ wanted
 UnlessNoMemory (Err NoMemory) wanted = Unit {0}
 
 -- the packets are those of the records that stand one behind another between two places
-abbrev pub StandBetween : Header → List ℕ → ℕ → List Packet → ℕ → Type 0
-StandBetween header bytes from [] to = from ≡ to
-StandBetween header bytes from (packet ∷ packets) to =
-    (record_at header bytes from ≡ Some packet) × StandBetween header bytes (end_of packet) packets to
+abbrev pub StandBetween : (ℕ → Option Packet) → ℕ → List Packet → ℕ → Type 0
+StandBetween read from [] to = from ≡ to
+StandBetween read from (packet ∷ packets) to =
+    (read from ≡ Some packet) × StandBetween read (end_of packet) packets to
 
 -- a file with this header has these packets, and they end at this place
 pub record HasPackets (bytes : List ℕ) (header : Header) (packets : List Packet) (place : ℕ) : Type 0 where
   pub opens : header_of bytes ≡ Ok header
-  pub records : StandBetween header bytes 24 packets place
+  pub records : StandBetween (record_at header bytes) 24 packets place
   pub no_more : record_at header bytes place ≡ None
 
 -- the capture is what its file has

@@ -2,5 +2,6 @@ pub mod CaptureFault
 pub mod Stage
 pub mod Header
 pub mod Record
+pub mod View
 pub mod Capture
 pub mod NetworkTime

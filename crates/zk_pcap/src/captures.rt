@@ -1,10 +1,13 @@
-ghost use Rattle.std.specs.Prelude.{IfOk, All};
+ghost use Rattle.std.specs.Prelude.{◌≡◌, ◌≤◌, length, IfOk, IfErr, All};
 ghost use Rattle.zk_pcap.specs.Header.{counted};
-ghost use Rattle.zk_pcap.specs.Record.{IsWithinLimits};
-ghost use Rattle.zk_pcap.specs.Capture.{capture_of, UnlessNoMemory, IsRead, IsAlone};
+ghost use Rattle.zk_pcap.specs.Record.{IsWithinLimits, record_at, record_by};
+ghost use Rattle.zk_pcap.specs.Capture.{capture_of, UnlessNoMemory, StandBetween, IsRead, IsAlone, ending_at};
 ghost use Rattle.zk_pcap.specs.NetworkTime.{HasNetworkTime};
+ghost use Rattle.zk_pcap.specs.declared.faults.CaptureFault.TheVariants.{NoMemory};
 
-use crate::{CaptureFault, Packet};
+use crate::records::RecordView;
+use crate::{CaptureFault, Header, Packet};
+use byteorder::{BigEndian, ByteOrder, LittleEndian};
 use std::alloc::Global;
 use zk_base::Sequence;
 
@@ -24,6 +27,12 @@ pub enum CaptureEnding {
     Cut { place: u64 },
 }
 
+/// How many bytes of a file count.
+const COUNTED: usize = 1 << 40;
+
+/// The bytes of a header, behind which the records stand.
+const HEADER: usize = 24;
+
 /// Reads the packets of a capture (draft-ietf-opsawg-pcap). Only the first 2^40 bytes of the file
 /// count. The capture is cut at the first record that isn't whole within them, or whose captured
 /// length is above 262,144. A fault of the header is refused as `Header::read` does.
@@ -37,5 +46,75 @@ pub fn packets(alloc: Global, bytes: &[u8]) -> Result<Capture, CaptureFault>
     ensures limits { IfOk result (λ capture. All IsWithinLimits capture.packets) }
     ensures time { IfOk result (λ capture. HasNetworkTime capture.packets) }
 {
-    Err(CaptureFault::NoMemory)
+    let file = first_bytes(bytes);
+    let header = Header::read(file)?;
+    let (packets, place) = records_of(alloc, file, header)?;
+    Ok(Capture {
+        packets: Sequence::from(packets),
+        ending: ending_at(file, place),
+    })
+}
+
+/// The bytes of a file that count.
+#[tactic(auto, using(std::proofs::lemmas::List::take_min))]
+fn first_bytes(bytes: &[u8]) -> &[u8]
+    ensures { result.now ≡ counted bytes.now }
+{
+    &bytes[..COUNTED.min(bytes.len())]
+}
+
+/// The packets whose records stand one behind another in a file with this header, and the place
+/// behind the last.
+fn records_of(
+    alloc: Global,
+    file: &[u8],
+    header: Header,
+) -> Result<(Vec<Packet>, usize), CaptureFault>
+    requires { HEADER ≤ length file.now }
+    ensures stand { IfOk result (λ found. StandBetween (record_at header file.now) HEADER found.0.items found.1) }
+    ensures no_more { IfOk result (λ found. record_at header file.now found.1 ≡ None) }
+    ensures within { IfOk result (λ found. found.1 ≤ length file.now) }
+    ensures err { IfErr result (λ fault. fault ≡ NoMemory) }
+{
+    if header.big {
+        records::<BigEndian>(alloc, file, header.nano)
+    } else {
+        records::<LittleEndian>(alloc, file, header.nano)
+    }
+}
+
+/// The packets whose records stand one behind another in a file whose numbers stand in the order
+/// `T`, and the place behind the last.
+#[tactic(auto, using(crate::proofs::RecordLemmas::stand_more))]
+fn records<T: ByteOrder>(
+    alloc: Global,
+    file: &[u8],
+    nano: bool,
+) -> Result<(Vec<Packet>, usize), CaptureFault>
+    requires { HEADER ≤ length file.now }
+    ensures stand { IfOk result (λ found. StandBetween (record_by T.number_of nano file.now) HEADER found.0.items found.1) }
+    ensures no_more { IfOk result (λ found. record_by T.number_of nano file.now found.1 ≡ None) }
+    ensures within { IfOk result (λ found. found.1 ≤ length file.now) }
+    ensures err { IfErr result (λ fault. fault ≡ NoMemory) }
+{
+    let mut packets = Vec::new(alloc);
+    let mut place = HEADER;
+    while let Some(record) = RecordView::read::<T>(file, place, nano) {
+        packets.push(record.to_packet(alloc)?)?;
+        place = record.end();
+    }
+    Ok((packets, place))
+}
+
+/// How a file ends whose records end at a place.
+fn ending_at(file: &[u8], place: usize) -> CaptureEnding
+    ensures { result ≡ ending_at file.now place }
+{
+    if place == file.len() {
+        CaptureEnding::Whole
+    } else {
+        CaptureEnding::Cut {
+            place: place as u64,
+        }
+    }
 }

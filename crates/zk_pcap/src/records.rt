@@ -1,3 +1,12 @@
+ghost use Rattle.std.specs.Prelude.{◌≡◌, ◌+◌, ◌<◌, ◌≤◌, ◌^◌, length, drop, IfOk, IfErr, IfSome};
+ghost use Rattle.std.specs.Option.{option_map};
+ghost use Rattle.zk_pcap.specs.Record.{end_of, moment_of, record_by};
+ghost use Rattle.zk_pcap.specs.View.{packet_of};
+ghost use Rattle.zk_pcap.specs.declared.faults.CaptureFault.TheVariants.{NoMemory};
+
+use crate::CaptureFault;
+use byteorder::ByteOrder;
+use std::alloc::Global;
 use zk_base::{Bytes, Moment};
 
 /// A packet of a capture.
@@ -11,4 +20,85 @@ pub struct Packet {
     pub bytes: Bytes,
     /// Where its record begins in the file.
     pub place: u64,
+}
+
+/// A packet whose bytes are borrowed from the file.
+#[derive(Clone, Copy)]
+pub struct RecordView<'a> {
+    moment: Moment,
+    orig_len: u32,
+    bytes: &'a [u8],
+    place: u64,
+}
+
+/// How many bytes a record has before those that were captured.
+const HEADER: usize = 16;
+
+/// The most bytes that a record may say were captured.
+const MOST_CAPTURED: usize = 262_144;
+
+impl<'a> RecordView<'a> {
+    /// The record that begins at a place of a file, if it is whole.
+    pub fn read<T: ByteOrder>(file: &'a [u8], place: usize, nano: bool) -> Option<RecordView<'a>>
+        requires { place ≤ length file.now }
+        ensures record { option_map packet_of result ≡ record_by T.number_of nano file.now place }
+        ensures place { IfSome result (λ view. (packet_of view).place ≡ place) }
+        ensures within { IfSome result (λ view. end_of (packet_of view) ≤ length file.now) }
+    {
+        if file.len() - place < HEADER {
+            return None;
+        }
+        let captured = number_at::<T>(file, place + 8) as usize;
+        if file.len() - place - HEADER < captured {
+            return None;
+        }
+        if captured > MOST_CAPTURED {
+            return None;
+        }
+        let seconds = number_at::<T>(file, place);
+        let fraction = number_at::<T>(file, place + 4);
+        Some(RecordView {
+            moment: moment_of(nano, seconds, fraction),
+            orig_len: number_at::<T>(file, place + 12),
+            bytes: &file[place + HEADER..place + HEADER + captured],
+            place: place as u64,
+        })
+    }
+
+    /// The place behind the record.
+    pub fn end(&self) -> usize
+        requires { end_of (packet_of self.now) < 2 ^ 64 }
+        ensures { result ≡ end_of (packet_of self.now) }
+    {
+        self.place as usize + HEADER + self.bytes.len()
+    }
+
+    /// The packet with a copy of the bytes.
+    pub fn to_packet(&self, alloc: Global) -> Result<Packet, CaptureFault>
+        ensures ok { IfOk result (λ packet. packet ≡ packet_of self.now) }
+        ensures err { IfErr result (λ fault. fault ≡ NoMemory) }
+    {
+        Ok(Packet {
+            moment: self.moment,
+            orig_len: self.orig_len,
+            bytes: Bytes::copy_of(alloc, self.bytes)?,
+            place: self.place,
+        })
+    }
+}
+
+/// The moment of a second and a fraction of it.
+fn moment_of(nano: bool, seconds: u32, fraction: u32) -> Moment
+    ensures { result ≡ moment_of nano seconds fraction }
+{
+    let microseconds = if nano { fraction / 1_000 } else { fraction };
+    Moment((u64::from(seconds) * 1_000_000 + u64::from(microseconds)) as i64)
+}
+
+/// The number in the four bytes from a place on.
+fn number_at<T: ByteOrder>(file: &[u8], place: usize) -> u32
+    requires { place + 4 ≤ length file.now }
+    ensures { result ≡ T.number_of 4 (drop place file.now) }
+{
+    T::read_u32(&file[place..])
 }

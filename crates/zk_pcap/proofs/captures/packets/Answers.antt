@@ -1,0 +1,38 @@
+use Rattle.std.proofs.Common.{◌≡◌, ℕ, ◌<◌, ◌≤◌, ◌^◌, List, length, take, slice_index, Ok, sym, ap, subst, ◌∙◌, rules, arith}
+use Rattle.std.specs.List.{All}
+use Rattle.std.proofs.lemmas.List.{length-take}
+use Rattle.zk_pcap.specs.declared.headers.Header.{Header}
+use Rattle.zk_pcap.specs.declared.records.Packet.{Packet}
+use Rattle.zk_pcap.specs.declared.captures.Capture.{Capture}
+use Rattle.zk_pcap.specs.Header.{counted, header_of}
+use Rattle.zk_pcap.specs.Record.{record_at, IsWithinLimits}
+use Rattle.zk_pcap.specs.Capture.{HasPackets, StandBetween, IsAlone, capture_after, ending_at}
+use Rattle.zk_pcap.proofs.CaptureLemmas.{capture_after-stand, packets-alone, packets-within, bytes-take}
+use Rattle.zk_pcap.proofs.TimeLemmas.{now_of_file}
+use Rattle.zk_pcap.proofs.captures.packets.Goals as goal
+
+pub returns-clause-exact : goal.returns-clause-exact
+returns-clause-exact c =
+    let e = capture_after-stand c.first_bytes-file.result.now c.in_ok-header.header c.in_ok-packets.packets.items c.in_ok-packets.place
+    (sym c.in_ok-header.ensures.exact) c.in_ok-packets.ensures.stand c.in_ok-packets.ensures.no_more c.in_ok-packets.ensures.within in
+    rw (c.from.ensures, c.ending_at.ensures, ← c.first_bytes-file.ensures) e
+
+pub returns-clause-alone : goal.returns-clause-alone
+returns-clause-alone c =
+    let has : HasPackets c.first_bytes-file.result.now c.in_ok-header.header c.in_ok-packets.packets.items c.in_ok-packets.place = record {
+      opens = sym c.in_ok-header.ensures.exact;
+      records = c.in_ok-packets.ensures.stand;
+      no_more = c.in_ok-packets.ensures.no_more;
+    } in
+    let alone = packets-alone c.first_bytes-file.result.now c.in_ok-header.header c.in_ok-packets.packets.items c.in_ok-packets.place has in
+    rw (c.from.ensures, c.ending_at.ensures, ← c.first_bytes-file.ensures) alone
+
+pub returns-clause-limits : goal.returns-clause-limits
+returns-clause-limits c =
+    let short : length c.first_bytes-file.result.now ≤ 2 ^ 40 = rw c.first_bytes-file.ensures (omega (arith, length-take (2 ^ 40) c.args.bytes.now)) in
+    let small : (k : ℕ) → slice_index c.first_bytes-file.result.now k < 256 = rw c.first_bytes-file.ensures (bytes-take (2 ^ 40) c.args.bytes.now (λ i. omega (arith, c.type_inv.bytes i))) in
+    rw c.from.ensures (packets-within c.first_bytes-file.result.now c.in_ok-header.header c.in_ok-packets.packets.items c.in_ok-packets.place
+    small short c.in_ok-packets.ensures.stand)
+
+pub returns-clause-time : goal.returns-clause-time
+returns-clause-time c = now_of_file c.from.result (returns-clause-limits c)

@@ -1,5 +1,5 @@
 -- The capture that a file is, by the packets that stand in it.
-use Rattle.std.proofs.Common.{◌≡◌, ℕ, zero, suc, ◌+◌, ◌*◌, ◌/◌, ◌<◌, ◌≤◌, ◌^◌, Bool, true, false, nat_le, ◌&&◌, if◌then◌else◌, List, [], ◌∷◌, length, take, drop, get_or, slice_index, Option, Some, None, Result, Ok, Err, refl, sym, ap, subst, ◌∙◌, rules, arith}
+use Rattle.std.proofs.Common.{◌≡◌, ℕ, zero, suc, ◌+◌, ◌*◌, ◌/◌, ◌<◌, ◌≤◌, ◌^◌, Bool, true, false, nat_le, if◌then◌else◌, List, [], ◌∷◌, length, take, drop, slice_index, Some, None, Result, Ok, refl, sym, ap, subst, ◌∙◌, arith}
 use Rattle.std.specs.List.{All}
 use Rattle.std.proofs.lemmas.Bool.{and_parts, leb-true}
 use Rattle.std.proofs.lemmas.List.{get_or-drop, length-take}
@@ -7,11 +7,10 @@ use Rattle.std.proofs.lemmas.Option.{cond_some}
 use Rattle.byteorder.specs.Numbers.{big_from-lt, little_from-lt}
 use Rattle.zk_pcap.specs.declared.headers.Header.{Header}
 use Rattle.zk_pcap.specs.declared.records.Packet.{Packet}
-use Rattle.zk_pcap.specs.declared.captures.Capture.{Capture}
 use Rattle.zk_pcap.specs.declared.faults.CaptureFault.{CaptureFault}
 use Rattle.zk_pcap.specs.Header.{number_of, header_of}
-use Rattle.zk_pcap.specs.Record.{moment_of, record_by, record_at, end_of, IsWithinLimits}
-use Rattle.zk_pcap.specs.Capture.{packets_from, end_from, ending_at, capture_after, StandBetween, HasPackets, IsRead, IsAlone}
+use Rattle.zk_pcap.specs.Record.{record_by, record_at, end_of, IsWithinLimits}
+use Rattle.zk_pcap.specs.Capture.{end_from, ending_at, capture_after, StandBetween, HasPackets, IsAlone}
 use Rattle.zk_pcap.proofs.RecordLemmas.{packets_from-stand, end_from-stand, stand_alone, length-stand, all-stand}
 
 -- a record ends at a later place than it begins at

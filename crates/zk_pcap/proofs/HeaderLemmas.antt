@@ -1,5 +1,5 @@
 -- The bytes behind the first 2 ^ 40 say nothing about the header.
-use Rattle.std.proofs.Common.{◌≡◌, ℕ, ◌+◌, ◌-◌, ◌<◌, ◌≤◌, ◌^◌, Bool, true, false, nat_lt, List, length, take, drop, Option, Some, None, ◌⊎◌, refl, sym, inl, inr, ap, ◌∙◌, rules, arith}
+use Rattle.std.proofs.Common.{◌≡◌, ℕ, ◌+◌, ◌-◌, ◌<◌, ◌≤◌, ◌^◌, Bool, true, false, nat_lt, List, length, take, drop, Option, Some, None, refl, sym, inl, inr, ap, ◌∙◌, arith}
 use Rattle.std.proofs.lemmas.List.{take_all, drop-take, length-take-le}
 use Rattle.std.proofs.lemmas.Bool.{cases_order, le-ltb}
 use Rattle.byteorder.specs.Endian.{big_number, little_number}

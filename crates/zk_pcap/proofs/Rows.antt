@@ -1,8 +1,6 @@
 -- Small captures, computed.
-use Rattle.std.specs.Prelude.{◌≡◌, ℕ, List, [], ◌∷◌, ◌++◌, ℤ, pos, true, false, Result, Ok, Err, refl}
-use Rattle.zk_base.specs.declared.time.Moment.{Moment}
+use Rattle.std.specs.Prelude.{◌≡◌, ℕ, List, [], ◌∷◌, ◌++◌, pos, Ok, Err, refl}
 use Rattle.zk_pcap.specs.declared.records.Packet.{Packet}
-use Rattle.zk_pcap.specs.declared.captures.Capture.{Capture}
 use Rattle.zk_pcap.specs.declared.captures.CaptureEnding.TheVariants.{Whole, Cut}
 use Rattle.zk_pcap.specs.declared.faults.CaptureFault.TheVariants.{Short}
 use Rattle.zk_pcap.specs.Capture.{capture_of}

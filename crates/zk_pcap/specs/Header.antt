@@ -1,6 +1,6 @@
 -- The header of a capture (draft-ietf-opsawg-pcap, section 4): in its 24 bytes stand the magic number,
 -- the two numbers of the version, the zone, the accuracy, the snaplen and the link type.
-use Rattle.std.specs.Prelude.{ℕ, ◌+◌, ◌*◌, ◌%◌, ◌^◌, Bool, true, false, not, ◌&&◌, ◌||◌, ◌==◌, nat_lt, if◌then◌else◌, List, length, take, drop, Option, Some, None, Result, Ok, Err}
+use Rattle.std.specs.Prelude.{ℕ, ◌%◌, ◌^◌, Bool, true, false, not, ◌&&◌, ◌||◌, ◌==◌, nat_lt, if◌then◌else◌, List, length, take, drop, Option, Some, None, Result, Ok, Err}
 use Rattle.byteorder.specs.Endian.{big_number, little_number}
 use Rattle.zk_pcap.specs.declared.headers.Header.{Header}
 use Rattle.zk_pcap.specs.declared.headers.Form.{Form}

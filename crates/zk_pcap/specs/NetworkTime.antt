@@ -1,5 +1,5 @@
 -- Network time: the greatest moment of the packets so far.
-use Rattle.std.specs.Prelude.{◌≡◌, ℕ, ℤ, pos, int_lt, if◌then◌else◌, List, [], ◌∷◌, ◌++◌, take, fold, All, Any, ◌≤ℤ◌, ◌⊎◌}
+use Rattle.std.specs.Prelude.{◌≡◌, ℕ, pos, int_lt, if◌then◌else◌, List, [], ◌∷◌, ◌++◌, take, fold, All, Any, ◌≤ℤ◌, ◌⊎◌}
 use Rattle.std.proofs.lemmas.List.Sums.{fold-append}
 use Rattle.zk_base.specs.declared.time.Moment.{Moment}
 use Rattle.zk_pcap.specs.declared.records.Packet.{Packet}

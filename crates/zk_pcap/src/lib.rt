@@ -10,3 +10,6 @@ pub use captures::{Capture, CaptureEnding, packets};
 pub use faults::CaptureFault;
 pub use headers::Header;
 pub use records::Packet;
+
+#[cfg(test)]
+mod tests;

@@ -1,12 +1,6 @@
-use Rattle.std.proofs.Common.{◌≡◌, ℕ, ◌<◌, ◌≤◌, ◌^◌, List, length, take, slice_index, Ok, sym, ap, subst, ◌∙◌, rules, arith}
-use Rattle.std.specs.List.{All}
+use Rattle.std.proofs.Common.{ℕ, ◌<◌, ◌≤◌, ◌^◌, length, slice_index, sym, arith}
 use Rattle.std.proofs.lemmas.List.{length-take}
-use Rattle.zk_pcap.specs.declared.headers.Header.{Header}
-use Rattle.zk_pcap.specs.declared.records.Packet.{Packet}
-use Rattle.zk_pcap.specs.declared.captures.Capture.{Capture}
-use Rattle.zk_pcap.specs.Header.{counted, header_of}
-use Rattle.zk_pcap.specs.Record.{record_at, IsWithinLimits}
-use Rattle.zk_pcap.specs.Capture.{HasPackets, StandBetween, IsAlone, capture_after, ending_at}
+use Rattle.zk_pcap.specs.Capture.{HasPackets}
 use Rattle.zk_pcap.proofs.CaptureLemmas.{capture_after-stand, packets-alone, packets-within, bytes-take}
 use Rattle.zk_pcap.proofs.TimeLemmas.{now_of_file}
 use Rattle.zk_pcap.proofs.captures.packets.Goals as goal

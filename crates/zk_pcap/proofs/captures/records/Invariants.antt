@@ -1,4 +1,4 @@
-use Rattle.std.proofs.Common.{ℕ, ◌-◌, ◌≤◌, length}
+use Rattle.std.proofs.Common.{◌-◌, ◌≤◌, length}
 use Rattle.zk_pcap.specs.Record.{record_by}
 use Rattle.zk_pcap.specs.Capture.{StandBetween}
 use Rattle.zk_pcap.proofs.captures.records.Given as goal

@@ -1,5 +1,5 @@
 -- Files in a list: what the first of a name holds, and what putting one leaves under each name.
-use Rattle.std.proofs.Common.{◌≡◌, ℕ, zero, suc, ◌+◌, ◌<◌, ◌≤◌, Bool, true, false, cond, List, [], ◌∷◌, ◌++◌, ◌-◌, take, drop, IfSome, length-drop, length, get_or, set, Option, Some, None, refl, sym, ap, subst, ◌∙◌, arith, rules, add-one}
+use Rattle.std.proofs.Common.{◌≡◌, ℕ, suc, ◌+◌, ◌<◌, ◌≤◌, true, false, cond, List, [], ◌∷◌, ◌++◌, ◌-◌, take, drop, IfSome, length-drop, length, get_or, set, Option, Some, None, is_some, refl, sym, ap, subst, ◌∙◌, arith}
 use Rattle.std.specs.List.{position_from, slice_get}
 use Rattle.std.specs.Option.{option_map}
 use Rattle.std.specs.Str.{bytes_eq}
@@ -7,13 +7,14 @@ use Rattle.std.proofs.lemmas.List.{drop_all}
 use Rattle.std.proofs.lemmas.Slice.Eq.{bytes_eq-Decides}
 use Rattle.std.proofs.lemmas.Option.{get_or_from_slice_get, slice_get-get_or}
 use Rattle.zk_base.specs.declared.contents.Position.{Position}
-use Rattle.zk_base.specs.Shelf.{with_file, with_piece, appended, Reading, At, bytes_from, advanced}
+use Rattle.zk_base.specs.Shelf.{with_file, with_piece, appended, At, bytes_from, advanced}
+use Rattle.zk_base.specs.Faults.{with_emptied}
 use Rattle.zk_base.specs.Files.{files_of, number_of, IsAt, reading_at, reading_of}
 
 abbrev Pairs : Type 0
 Pairs = List (List ℕ × List ℕ)
 
-same_name : (a b : List ℕ) → bytes_eq a b ≡ true → a ≡ b
+pub same_name : (a b : List ℕ) → bytes_eq a b ≡ true → a ≡ b
 same_name a b = (bytes_eq-Decides a b).0
 
 -- the file at j is the first of its name
@@ -24,7 +25,7 @@ pub record IsFirst (files : Pairs) (name : List ℕ) (j : ℕ) : Type 0 where
   pub put : (content other : List ℕ) → files_of (set files j (name, content)) other ≡ with_file (files_of files) name content other
 
 put_first : (file : List ℕ × List ℕ) (files : Pairs) (name content other : List ℕ) → file.0 ≡ name
-  → files_of ((name, content) ∷ files) other ≡ with_file (files_of (file ∷ files)) name content other
+    → files_of ((name, content) ∷ files) other ≡ with_file (files_of (file ∷ files)) name content other
 put_first file files name content other same =
     elim (bytes_eq name other) as (λ b. bytes_eq name other ≡ b → cond b (Some content) (files_of files other) ≡ cond b (Some content) (cond (bytes_eq file.0 other) (Some file.1) (files_of files other))) [
       | true ↦ λ e. refl
@@ -32,8 +33,8 @@ put_first file files name content other same =
     ] refl
 
 put_behind : (file : List ℕ × List ℕ) (files : Pairs) (name content other : List ℕ) (rest : Option (List ℕ)) → bytes_eq file.0 name ≡ false
-  → rest ≡ with_file (files_of files) name content other
-  → cond (bytes_eq file.0 other) (Some file.1) rest ≡ with_file (files_of (file ∷ files)) name content other
+    → rest ≡ with_file (files_of files) name content other
+    → cond (bytes_eq file.0 other) (Some file.1) rest ≡ with_file (files_of (file ∷ files)) name content other
 put_behind file files name content other rest differs is =
     elim (bytes_eq file.0 other) as (λ b. bytes_eq file.0 other ≡ b → cond b (Some file.1) rest ≡ cond (bytes_eq name other) (Some content) (cond b (Some file.1) (files_of files other))) [
       | true ↦ λ e.
@@ -54,21 +55,27 @@ is_first (file ∷ files) name k i at =
     elim (bytes_eq file.0 name) as (λ b. bytes_eq file.0 name ≡ b → cond b (Some k) (position_from (λ file. bytes_eq file.0 name) (k + 1) files) ≡ Some i → (j : ℕ) × (i ≡ k + j) × IsFirst (file ∷ files) name j) [
       | true ↦ λ e at.
           let same : file.0 ≡ name = same_name file.0 name e in
-          let here : k ≡ i = cc in
-          (0, omega arith, record {
-            within = omega arith;
-            named = λ d. same;
-            holds = λ d. ap (λ b. cond b (Some file.1) (files_of files name)) e;
-            put = λ content other. put_first file files name content other same;
-          })
+          let here : k ≡ i = cc in (
+            0,
+            omega arith,
+            record {
+              within = omega arith;
+              named = λ d. same;
+              holds = λ d. ap (λ b. cond b (Some file.1) (files_of files name)) e;
+              put = λ content other. put_first file files name content other same;
+            },
+          )
       | false ↦ λ e at.
-          let later = is_first files name (k + 1) i at in
-          (suc later.0, omega (arith, later.1), record {
-            within = omega (arith, later.2.within);
-            named = later.2.named;
-            holds = λ d. ap (λ b. cond b (Some file.1) (files_of files name)) e ∙ later.2.holds d;
-            put = λ content other. put_behind file files name content other _ e (later.2.put content other);
-          })
+          let later = is_first files name (k + 1) i at in (
+            suc later.0,
+            omega (arith, later.1),
+            record {
+              within = omega (arith, later.2.within);
+              named = later.2.named;
+              holds = λ d. ap (λ b. cond b (Some file.1) (files_of files name)) e ∙ later.2.holds d;
+              put = λ content other. put_behind file files name content other _ e (later.2.put content other);
+            },
+          )
     ] refl at
 
 -- no file has the name
@@ -97,38 +104,53 @@ first_at files name i at =
 
 -- a file that is put where the search for its name leads
 pub put_found : (files : Pairs) (name content : List ℕ) (i : ℕ) → number_of files name ≡ Some i
-  → files_of (set files i (name, content)) ≡ with_file (files_of files) name content
+    → files_of (set files i (name, content)) ≡ with_file (files_of files) name content
 put_found files name content i at = λ p other. (first_at files name i at).put content other p
 
 -- a file that is put behind the others, where the search leads nowhere
 pub put_new : (files : Pairs) (name content : List ℕ) → number_of files name ≡ None
-  → files_of (files ++ (name, content) ∷ []) ≡ with_file (files_of files) name content
+    → files_of (files ++ (name, content) ∷ []) ≡ with_file (files_of files) name content
 put_new files name content at = λ p other. (is_new files name 0 at).put content other p
 
 -- a piece that is added where the search for the name leads
 pub add_found : (files : Pairs) (name piece : List ℕ) (i : ℕ) (file : List ℕ × List ℕ) (content : List ℕ) → number_of files name ≡ Some i
-  → file ≡ get_or files i file → content ≡ file.1 ++ piece → files_of (set files i (file.0, content)) ≡ with_piece (files_of files) name piece
+    → file ≡ get_or files i file → content ≡ file.1 ++ piece → files_of (set files i (file.0, content)) ≡ with_piece (files_of files) name piece
 add_found files name piece i file content at is longer =
     let first = first_at files name i at in
     let named : file.0 ≡ name = ap (λ (f : List ℕ × List ℕ). f.0) is ∙ first.named file in
     let holds : files_of files name ≡ Some file.1 = first.holds file ∙ ap (λ (f : List ℕ × List ℕ). Some f.1) (sym is) in
     let each : (other : List ℕ) → with_file (files_of files) name content other ≡ with_piece (files_of files) name piece other =
-      λ other. elim (bytes_eq name other) as (λ b. bytes_eq name other ≡ b → cond b (Some content) (files_of files other) ≡ cond b (appended (files_of files other) piece) (files_of files other)) [
-        | true ↦ λ e.
-            let here : files_of files other ≡ Some file.1 = ap (files_of files) (sym (same_name name other e)) ∙ holds in
-            ap Some longer ∙ ap (λ found. appended found piece) (sym here)
-        | false ↦ λ e. refl
-      ] refl in
+    λ other. elim (bytes_eq name other) as (λ b. bytes_eq name other ≡ b → cond b (Some content) (files_of files other) ≡ cond b (appended (files_of files other) piece) (files_of files other)) [
+      | true ↦ λ e.
+          let here : files_of files other ≡ Some file.1 = ap (files_of files) (sym (same_name name other e)) ∙ holds in
+          ap Some longer ∙ ap (λ found. appended found piece) (sym here)
+      | false ↦ λ e. refl
+    ] refl in
     ap (λ own. files_of (set files i (own, content))) named ∙ put_found files name content i at ∙ (λ p other. each other p)
+
+-- a file that is emptied where the search for the name leads
+pub empty_found : (files : Pairs) (name : List ℕ) (i : ℕ) (file : List ℕ × List ℕ) (content : List ℕ) → number_of files name ≡ Some i
+    → file ≡ get_or files i file → content ≡ [] → files_of (set files i (file.0, content)) ≡ with_emptied (files_of files) name
+empty_found files name i file content at is empty =
+    let first = first_at files name i at in
+    let named : file.0 ≡ name = ap (λ (f : List ℕ × List ℕ). f.0) is ∙ first.named file in
+    ap (λ own. files_of (set files i (own, content))) named ∙ ap (λ bytes. files_of (set files i (name, bytes))) empty ∙ put_found files name [] i at
+    ∙ sym (ap (λ found. cond (is_some found) (with_file (files_of files) name []) (files_of files)) (first.holds file))
+
+-- and where it leads nowhere nothing changes
+pub empty_absent : (files : Pairs) (name : List ℕ) → number_of files name ≡ None → files_of files ≡ with_emptied (files_of files) name
+empty_absent files name at = sym (ap (λ found. cond (is_some found) (with_file (files_of files) name []) (files_of files)) (is_new files name 0 at).none)
 
 -- the position at the first byte of the first file of a name
 pub is_at_first : (files : Pairs) (name : List ℕ) (i : ℕ) → number_of files name ≡ Some i → IsAt files (record { file = i; place = 0 })
 is_at_first files name i at =
-    let first = first_at files name i at in
-    (first.within, λ file here.
-      let same : get_or files i file ≡ file = get_or_from_slice_get files i file file here in
-      let named : file.0 ≡ name = ap (λ (f : List ℕ × List ℕ). f.0) (sym same) ∙ first.named file in
-      (ap (files_of files) named ∙ first.holds file ∙ ap (λ (f : List ℕ × List ℕ). Some f.1) same, omega arith))
+    let first = first_at files name i at in (
+      first.within,
+      λ file here.
+          let same : get_or files i file ≡ file = get_or_from_slice_get files i file file here in
+          let named : file.0 ≡ name = ap (λ (f : List ℕ × List ℕ). f.0) (sym same) ∙ first.named file in
+          (ap (files_of files) named ∙ first.holds file ∙ ap (λ (f : List ℕ × List ℕ). Some f.1) same, omega arith),
+    )
 
 pub reading_first : (files : Pairs) (name : List ℕ) (i : ℕ) → number_of files name ≡ Some i → reading_of files (Some (record { file = i; place = 0 })) ≡ At name 0
 reading_first files name i at =
@@ -137,7 +159,7 @@ reading_first files name i at =
 
 -- An input is open at a position, and this is its file.
 module _ (files : Pairs) (held : Option Position) (position : Position) (file : List ℕ × List ℕ)
-  (is : held ≡ Some position) (at : IsAt files position) (here : slice_get files position.file ≡ Some file) where
+    (is : held ≡ Some position) (at : IsAt files position) (here : slice_get files position.file ≡ Some file) where
   -- what it has left
   rest_at : bytes_from (Some (files_of files)) (reading_of files held) ≡ Some (drop position.place file.1)
   rest_at =
@@ -149,10 +171,10 @@ module _ (files : Pairs) (held : Option Position) (position : Position) (file : 
   is_read_out out = subst (λ rest. IfSome rest (λ bytes. bytes ≡ [])) (sym rest_at) (drop_all position.place file.1 out)
 
   pub gives : (n : ℕ) (before after : List ℕ) → n ≤ length file.1 - position.place → after ≡ take n (drop position.place file.1) ++ drop n before
-    → IfSome (bytes_from (Some (files_of files)) (reading_of files held)) (λ rest. (n ≤ length rest) × (after ≡ take n rest ++ drop n before))
+      → IfSome (bytes_from (Some (files_of files)) (reading_of files held)) (λ rest. (n ≤ length rest) × (after ≡ take n rest ++ drop n before))
   gives n before after within copied =
       subst (λ rest. IfSome rest (λ bytes. (n ≤ length bytes) × (after ≡ take n bytes ++ drop n before))) (sym rest_at)
-        (omega (arith, length-drop position.place file.1), copied)
+      (omega (arith, length-drop position.place file.1), copied)
 
   -- and further on
   pub reading_on : (n : ℕ) → reading_of files (Some (record { file = position.file; place = position.place + n })) ≡ advanced (reading_of files held) n
@@ -161,7 +183,9 @@ module _ (files : Pairs) (held : Option Position) (position : Position) (file : 
       ∙ sym (ap (λ (p : Option Position). advanced (reading_of files p) n) is ∙ ap (λ (found : Option (List ℕ × List ℕ)). advanced (reading_at found position.place) n) here)
 
   pub at_on : (n : ℕ) → position.place + n ≤ length file.1 → IsAt files (record { file = position.file; place = position.place + n })
-  at_on n within =
-      (at.0, λ other there.
+  at_on n within = (
+    at.0,
+    λ other there.
         let same : file ≡ other = cc in
-        ((at.1 other there).0, subst (λ (f : List ℕ × List ℕ). position.place + n ≤ length f.1) same within))
+        ((at.1 other there).0, subst (λ (f : List ℕ × List ℕ). position.place + n ≤ length f.1) same within),
+  )

@@ -27,4 +27,4 @@ reading_of files (Some position) = reading_at (slice_get files position.file) po
 -- the file at a position is the one that its name finds, and the place is within it
 abbrev pub IsAt : List (List ℕ × List ℕ) → Position → Type 0
 IsAt files position = (position.file < length files) × ForSome (slice_get files position.file) (λ file.
-  (files_of files file.0 ≡ Some file.1) × (position.place ≤ length file.1))
+    (files_of files file.0 ≡ Some file.1) × (position.place ≤ length file.1))

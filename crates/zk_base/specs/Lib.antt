@@ -1,5 +1,7 @@
 pub mod Contents
 pub mod Ending
+pub mod Faults
 pub mod Files
+pub mod MemShelf
 pub mod Shelf
 pub mod SureShelf

@@ -1,7 +1,6 @@
 -- What a shelf in memory shows that never fails.
-use Rattle.std.specs.Prelude.{◌≡◌, ℕ, List, Option, Some, None}
 use Rattle.zk_base.specs.declared.sure_shelf.SureShelf.{SureShelf}
-use Rattle.zk_base.specs.Shelf.{Files, Outside}
+use Rattle.zk_base.specs.Shelf.{Outside}
 use Rattle.zk_base.specs.Contents.{outside_of}
 
 abbrev pub sure_outside : SureShelf → Outside

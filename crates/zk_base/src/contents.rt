@@ -2,6 +2,7 @@ ghost use Rattle.std.specs.Prelude.{◌≡◌, ◌≢◌, Some, ◌<◌, ◌≤�
 ghost use Rattle.std.specs.Option.{ForSome, option_copied};
 ghost use Rattle.zk_base.specs.Files.{files_of, number_of, IsAt};
 ghost use Rattle.zk_base.specs.Shelf.{with_file, with_piece};
+ghost use Rattle.zk_base.specs.Faults.{with_emptied};
 
 use crate::{Bytes, Got, Mem, Started, Wrote};
 use std::alloc::Global;
@@ -45,6 +46,15 @@ fn add_piece(files: &mut Vec<File>, name: &[u8], piece: &[u8]) -> Result<(), Mem
     };
     files[i].1.append(piece)?;
     Ok(())
+}
+
+/// Takes all bytes out of a file, if there is one of the name.
+fn empty_file(files: &mut Vec<File>, name: &[u8])
+    ensures { files_of files.new.items ≡ with_emptied (files_of files.old.items) name.now }
+{
+    if let Some(i) = find(files, name) {
+        files[i].1.clear();
+    }
 }
 
 /// Adds a name to those that were started. At `Mem` nothing is changed.
@@ -95,6 +105,7 @@ pub struct Contents {
 
 impl Contents {
     ghost use Rattle.zk_base.specs.Contents.{outside_of, at_first, SameFaults};
+    ghost use Rattle.zk_base.specs.Faults.{one_more, after_failed_start, after_failed_read, after_failed_create, with_write_fault};
     ghost use Rattle.zk_base.specs.Shelf.{Starts, FailsToStart, is_open, Reads, FailsToRead, Creates, FailsToCreate, IsCreated, Puts, PutsFront, after_append, after_say, after_complaint};
 
     pub fn new(alloc: Global, inputs: Vec<File>) -> Contents
@@ -118,6 +129,7 @@ impl Contents {
         ensures leaves { Starts (outside_of self.old) name.now result (outside_of self.new) }
         ensures sure { result ≢ Started.Failed }
         ensures faults { SameFaults self.old self.new }
+        ensures absence { result ≡ Started.Absent → self.new.absences ≡ one_more self.old.absences }
     {
         let Ok(()) = note(self.alloc, &mut self.started, name) else {
             return Started::NoMemory;
@@ -133,6 +145,20 @@ impl Contents {
                 Started::Absent
             }
         }
+    }
+
+    /// Starts an input, and fails.
+    pub fn fail_to_start(&mut self, name: &[u8]) -> Started
+        ensures failed { result ≡ Started.Failed → outside_of self.new ≡ after_failed_start (outside_of self.old) name.now }
+        ensures memory { result ≡ Started.NoMemory → outside_of self.new ≡ outside_of self.old }
+        ensures fails { (result ≢ Started.Open) × (result ≢ Started.Absent) }
+    {
+        let Ok(()) = note(self.alloc, &mut self.started, name) else {
+            return Started::NoMemory;
+        };
+        self.position = None;
+        self.read_faults = self.read_faults.saturating_add(1);
+        Started::Failed
     }
 
     pub fn read(&mut self, buf: &mut [u8]) -> Got
@@ -157,6 +183,15 @@ impl Contents {
         Got::Bytes(n)
     }
 
+    /// Reads nothing, and fails.
+    pub fn fail_to_read(&mut self) -> Got
+        ensures failed { result ≡ Got.Failed }
+        ensures leaves { outside_of self.new ≡ after_failed_read (outside_of self.old) }
+    {
+        self.read_faults = self.read_faults.saturating_add(1);
+        Got::Failed
+    }
+
     pub fn create(&mut self, name: &[u8]) -> Wrote
         ensures leaves { Creates (outside_of self.old) name.now result (outside_of self.new) }
         ensures sure { result ≢ Wrote.Failed }
@@ -170,6 +205,16 @@ impl Contents {
             Ok(()) => Wrote::Done,
             Err(_) => Wrote::NoMemory,
         }
+    }
+
+    /// Makes no output, and fails. One that is there is emptied.
+    pub fn fail_to_create(&mut self, name: &[u8]) -> Wrote
+        ensures failed { result ≡ Wrote.Failed }
+        ensures leaves { outside_of self.new ≡ after_failed_create (outside_of self.old) name.now }
+    {
+        empty_file(&mut self.outputs, name);
+        self.count_write_fault();
+        Wrote::Failed
     }
 
     pub fn append(&mut self, name: &[u8], bytes: &[u8]) -> Wrote
@@ -204,6 +249,13 @@ impl Contents {
             Ok(()) => Wrote::Done,
             Err(_) => Wrote::NoMemory,
         }
+    }
+
+    /// Counts a write that fails.
+    pub fn count_write_fault(&mut self)
+        ensures { outside_of self.new ≡ with_write_fault (outside_of self.old) }
+    {
+        self.write_faults = self.write_faults.saturating_add(1);
     }
 
     /// What lies under a name among the outputs.

@@ -4,6 +4,7 @@
 mod bytes;
 mod contents;
 mod endings;
+mod mem_shelf;
 mod memory;
 mod network;
 mod numbers;
@@ -14,6 +15,7 @@ mod time;
 
 pub use bytes::{Bytes, Word};
 pub use endings::{Ending, ScriptKind};
+pub use mem_shelf::MemShelf;
 pub use memory::Mem;
 pub use network::{Addr, Proto, Side};
 pub use numbers::{ConnNo, EventNo, HandlerNo, HookNo, LogId, ObjectNo, RecordNo};

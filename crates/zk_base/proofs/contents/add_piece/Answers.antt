@@ -1,6 +1,6 @@
-use Rattle.std.proofs.Common.{◌≡◌, Some, None, Ok, IsSome, arith, sym, ◌∙◌, subst}
+use Rattle.std.proofs.Common.{◌≡◌, Some, None, IsSome, arith, subst}
 use Rattle.std.proofs.lemmas.Bool.{false≢true}
-use Rattle.zk_base.specs.Files.{number_of, files_of}
+use Rattle.zk_base.specs.Files.{number_of}
 use Rattle.zk_base.proofs.FileLemmas.{first_at, is_new, add_found}
 use Rattle.zk_base.proofs.contents.add_piece.Goals as goal
 

@@ -1,4 +1,4 @@
-use Rattle.std.proofs.Common.{◌≡◌, ◌++◌, ◌∷◌, [], Some, None, arith, sym, ap, ◌∙◌}
+use Rattle.std.proofs.Common.{◌≡◌, Some, None, arith, ap, ◌∙◌}
 use Rattle.zk_base.specs.Files.{number_of, files_of}
 use Rattle.zk_base.proofs.FileLemmas.{first_at, put_found, put_new}
 use Rattle.zk_base.proofs.contents.put_file.Goals as goal

@@ -1,5 +1,5 @@
-use Rattle.std.proofs.Common.{◌≡◌, Some, None, arith, sym, ap, ◌∙◌, get_or, List, ℕ}
-use Rattle.zk_base.specs.Files.{number_of, files_of}
+use Rattle.std.proofs.Common.{◌≡◌, Some, None, arith, sym, ap, ◌∙◌, List, ℕ}
+use Rattle.zk_base.specs.Files.{number_of}
 use Rattle.zk_base.proofs.FileLemmas.{first_at, is_new}
 use Rattle.zk_base.proofs.contents.Contents.output.Goals as goal
 

@@ -1,10 +1,8 @@
-use Rattle.std.proofs.Common.{◌≡◌, ℕ, ◌+◌, ◌<◌, ◌≤◌, List, [], ◌++◌, length, take, drop, min, Some, None, IfSome, arith, sym, ap, ◌∙◌, subst, rules, refl}
+use Rattle.std.proofs.Common.{◌≡◌, ◌+◌, ◌≤◌, ◌++◌, length, take, drop, Some, arith, ap, ◌∙◌, subst, refl}
 use Rattle.std.specs.List.{slice_get}
 use Rattle.std.proofs.lemmas.Option.{slice_get_read}
-use Rattle.zk_base.specs.declared.contents.Position.{Position}
 use Rattle.zk_base.specs.Contents.{outside_of}
-use Rattle.zk_base.specs.Files.{files_of, IsAt, reading_of}
-use Rattle.zk_base.specs.Shelf.{rest_of, GivesBytes, IsReadOut}
+use Rattle.zk_base.specs.Files.{IsAt}
 use Rattle.zk_base.proofs.FileLemmas.{is_read_out, gives, reading_on, at_on}
 use Rattle.zk_base.proofs.contents.Contents.read.Goals as goal
 
@@ -44,7 +42,7 @@ invariant_of-self c =
     let within : position.place ≤ length file.1 = (at.1 file here).1 in
     let n = c.copy_from-n.result in
     let on : IsAt inputs (record { file = position.file; place = position.place + n }) =
-      at_on inputs held position file is at here n (omega (arith, ap length c.as_slice-content.ensures)) in
+    at_on inputs held position file is at here n (omega (arith, ap length c.as_slice-content.ensures)) in
     record { found = λ other there. subst (λ p. IsAt inputs p) (let same : record { file = position.file; place = position.place + n } ≡ other = cc in same) on }
 
 pub returns-clause-leaves : goal.returns-clause-leaves
@@ -62,7 +60,7 @@ returns-clause-leaves c =
       some = omega arith;
       within = omega arith;
       bytes = gives inputs held position file is at here n c.args.buf.now c.copy_from-n.new.buf
-        (omega (arith, ap length c.as_slice-content.ensures))
-        (c.copy_from-n.ensures.copied ∙ ap (λ content. take n (drop position.place content) ++ drop n c.args.buf.now) c.as_slice-content.ensures);
+          (omega (arith, ap length c.as_slice-content.ensures))
+          (c.copy_from-n.ensures.copied ∙ ap (λ content. take n (drop position.place content) ++ drop n c.args.buf.now) c.as_slice-content.ensures);
       goes_on = λ p. record (outside_of c.args.self.now) { reading = reading_on inputs held position file is at here n p };
     }

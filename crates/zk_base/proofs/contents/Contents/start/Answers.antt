@@ -1,17 +1,17 @@
-use Rattle.std.proofs.Common.{◌≡◌, ◌+◌, min, [], Some, None, IsSome, IsNone, arith, sym, ap, ◌∙◌, subst, rules, refl}
+use Rattle.std.proofs.Common.{◌≡◌, [], Some, None, IsSome, IsNone, arith, sym, subst, refl}
 use Rattle.zk_base.specs.Contents.{outside_of}
-use Rattle.zk_base.specs.Files.{number_of, files_of, IsAt, reading_of}
-use Rattle.zk_base.specs.Shelf.{At, Closed, HasRisen}
+use Rattle.zk_base.specs.Files.{number_of, IsAt}
+use Rattle.zk_base.specs.Shelf.{Closed}
 use Rattle.zk_base.proofs.FileLemmas.{is_new, first_at, is_at_first, reading_first}
 use Rattle.zk_base.proofs.contents.Contents.start.Goals as goal
 
 pub invariant_of-self-in-Some : goal.invariant_of-self-in-Some
 invariant_of-self-in-Some c = record {
-    found = λ position is.
+  found = λ position is.
       let at : number_of c.args.self.now.inputs.items c.args.name.now ≡ Some c.in-Some.file = cc in
       let here : record { file = c.in-Some.file; place = 0 } ≡ position = cc in
       subst (λ p. IsAt c.args.self.now.inputs.items p) here (is_at_first c.args.self.now.inputs.items c.args.name.now c.in-Some.file at);
-  }
+}
 
 pub returns-in-Some-clause-leaves : goal.returns-in-Some-clause-leaves
 returns-in-Some-clause-leaves c =

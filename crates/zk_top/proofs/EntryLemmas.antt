@@ -1,0 +1,148 @@
+-- From what the parts of a run do to what a run does.
+use Rattle.std.proofs.Common.{◌≡◌, ◌↔◌, ℕ, ◌≤◌, List, [], ◌++◌, Option, Some, None, Result, Ok, Err, inl, refl, sym, ap, subst, ◌∙◌, arith}
+use Rattle.std.specs.Option.{option_map}
+use Rattle.std.proofs.lemmas.List.{append-nil}
+use Rattle.zk_base.specs.declared.endings.Ending.{Ending}
+use Rattle.zk_base.specs.declared.endings.Ending.TheVariants.{Usage}
+use Rattle.zk_base.specs.Shelf.{Files, Outside, HasRisen, appended}
+use Rattle.zk_pcap.specs.declared.captures.Capture.{Capture}
+use Rattle.zk_pcap.specs.declared.faults.CaptureFault.{CaptureFault}
+use Rattle.zk_pcap.specs.Capture.{capture_of}
+use Rattle.zk_top.specs.declared.stop.Stop.{Stop}
+use Rattle.zk_top.specs.Command.{Command, ListItems, understand}
+use Rattle.zk_top.specs.Complaint.{complaint_of}
+use Rattle.zk_top.specs.Outcome.{Outcome, no_files, listing, listing_of, outcome_of, outcome}
+use Rattle.zk_top.specs.Run.{IsOfListing, IsFront, files_over, IsDone, OutputsBegun, StaysWithin, DoesAll, DoesPart, Fulfils, BreaksOff}
+use Rattle.zk_top.proofs.Doing.{front_all, does_nothing_all, does_both_all, does_both_part}
+
+-- Of what is wanted: no file is written, and the complaint is that of the ending ---------------------------------
+
+record IsPlain (wanted : Outcome) : Type 0 where
+  files : wanted.files ≡ no_files
+  complained : wanted.complained ≡ complaint_of wanted.ending
+
+plain_capture : (file : List ℕ) (read : Result Capture CaptureFault) → IsPlain (listing_of file read)
+plain_capture file (Ok capture) = record { files = refl; complained = refl }
+plain_capture file (Err why) = record { files = refl; complained = refl }
+
+plain_listing : (file : List ℕ) (found : Option (List ℕ)) → IsPlain (listing file found)
+plain_listing file None = record { files = refl; complained = refl }
+plain_listing file (Some bytes) = plain_capture file (capture_of bytes)
+
+plain_of : (asked : Result Command ℕ) (inputs : Files) → IsPlain (outcome_of asked inputs)
+plain_of (Err word) inputs = record { files = refl; complained = refl }
+plain_of (Ok (ListItems file)) inputs = plain_listing file (inputs file)
+
+plain : (words : List (List ℕ)) (inputs : Files) → IsPlain (outcome words inputs)
+plain words inputs = plain_of (understand words) inputs
+
+-- Outputs that stay ------------------------------------------------------------------------------------------------
+
+outputs_over : (written : Files) (old new : Option Files) → written ≡ no_files → new ≡ old → new ≡ option_map (files_over written) old
+outputs_over written None new none same = same
+outputs_over written (Some files) new none same = same ∙ ap (λ w. Some (files_over w files)) (sym none)
+
+outputs_begun : (written : Files) (old new : Option Files) → new ≡ old → OutputsBegun written old new
+outputs_begun written None new same = same
+outputs_begun written (Some files) new same = (files, same, λ name. inl refl)
+
+-- A run ------------------------------------------------------------------------------------------------------------
+
+pub is_done : (words : List (List ℕ)) (inputs : Files) (old : Outside) (ending : Ending) (new : Outside) → old.inputs ≡ Some inputs
+    → Fulfils (outcome words) (complaint_of ending) old ending new → IsDone (outcome words inputs) old ending new
+is_done words inputs old ending new told does = record {
+  ends = does.ends inputs told;
+  files = outputs_over (outcome words inputs).files old.outputs new.outputs (plain words inputs).files does.does.does.outputs_stay;
+  said = does.does.does.says ∙ ap (appended old.said) (does.said_is inputs told);
+  complained = does.does.does.complains ∙ ap (appended old.complained) (ap complaint_of (does.ends inputs told) ∙ sym (plain words inputs).complained);
+  started = does.does.does.starts ∙ ap (λ names. option_map (λ before. before ++ names) old.started) (does.names_are inputs told);
+}
+
+pub within_of_done : (words : List (List ℕ)) (inputs : Files) (old : Outside) (ending : Ending) (new : Outside) → old.inputs ≡ Some inputs
+    → Fulfils (outcome words) (complaint_of ending) old ending new → StaysWithin (outcome words inputs) old new
+within_of_done words inputs old ending new told does =
+    let done : IsDone (outcome words inputs) old ending new = is_done words inputs old ending new told does in
+    record {
+      files = outputs_begun (outcome words inputs).files old.outputs new.outputs does.does.does.outputs_stay;
+      said = (outcome words inputs).said;
+      said_front = front_all (outcome words inputs).said;
+      said_is = done.said;
+      complained = (outcome words inputs).complained;
+      complained_front = front_all (outcome words inputs).complained;
+      complained_is = done.complained;
+      started = (outcome words inputs).asked;
+      started_front = front_all (outcome words inputs).asked;
+      started_is = done.started;
+    }
+
+pub within_of_broken : (words : List (List ℕ)) (inputs : Files) (old : Outside) (stop : Stop) (new : Outside) → old.inputs ≡ Some inputs
+    → BreaksOff (outcome words) old stop new → StaysWithin (outcome words inputs) old new
+within_of_broken words inputs old stop new told broken = record {
+  files = outputs_begun (outcome words inputs).files old.outputs new.outputs broken.does.outputs_stay;
+  said = broken.said;
+  said_front = broken.said_front inputs told;
+  said_is = broken.does.says;
+  complained = broken.complained;
+  complained_front = broken.complained_front inputs told;
+  complained_is = broken.does.complains;
+  started = broken.names;
+  started_front = broken.names_front inputs told;
+  started_is = broken.does.starts;
+}
+
+risen_then : (a b c : ℕ) → HasRisen a b → b ≤ c → HasRisen a c
+risen_then a b c risen later = record { kept = omega arith; risen = omega arith }
+
+-- with the complaint
+pub with_complaint : (words : List (List ℕ)) (old mid : Outside) (ending : Ending) (new : Outside) → Fulfils (outcome words) [] old ending mid
+    → DoesAll [] [] (complaint_of ending) mid new → Fulfils (outcome words) (complaint_of ending) old ending new
+with_complaint words old mid ending new does complains = record {
+  names = does.names ++ [];
+  said = does.said ++ [];
+  does = does_both_all does.names [] does.said [] [] (complaint_of ending) old mid new does.does complains;
+  whole = does.whole;
+  absent = λ name is. risen_then old.absences mid.absences new.absences (does.absent name is) complains.does.absences;
+  ends = does.ends;
+  names_are = λ inputs told. append-nil does.names ∙ does.names_are inputs told;
+  said_is = λ inputs told. append-nil does.said ∙ does.said_is inputs told;
+}
+
+-- stopped while it complains
+pub broken_complaint : (words : List (List ℕ)) (old mid : Outside) (ending : Ending) (stop : Stop) (new : Outside) → Fulfils (outcome words) [] old ending mid
+    → DoesPart [] [] (complaint_of ending) mid stop new → BreaksOff (outcome words) old stop new
+broken_complaint words old mid ending stop new does part =
+    let both : DoesPart (does.names ++ []) (does.said ++ []) (complaint_of ending) old stop new =
+    does_both_part does.names [] does.said [] [] (complaint_of ending) old mid stop new does.does part in
+    record {
+      names = both.names_part;
+      said = both.said_part;
+      complained = both.complained_part;
+      does = both.does;
+      cause = both.cause;
+      names_front = λ inputs told. subst (λ names. IsFront both.names_part names) (append-nil does.names ∙ does.names_are inputs told) both.names_front;
+      said_front = λ inputs told. subst (λ said. IsFront both.said_part said) (append-nil does.said ∙ does.said_is inputs told) both.said_front;
+      complained_front = λ inputs told. subst (λ text. IsFront both.complained_part text) (ap complaint_of (does.ends inputs told) ∙ sym (plain words inputs).complained) both.complained_front;
+    }
+
+-- words that are no command
+pub not_understood : (words : List (List ℕ)) (word : ℕ) (old : Outside) → understand words ≡ Err word → Fulfils (outcome words) [] old (Usage word) old
+not_understood words word old is = record {
+  names = [];
+  said = [];
+  does = does_nothing_all old;
+  whole = tt;
+  absent = λ name same. absurd (let never : ⊥ = cc in never);
+  ends = λ inputs told. ap (λ asked. (outcome_of asked inputs).ending) (sym is);
+  names_are = λ inputs told. ap (λ asked. (outcome_of asked inputs).asked) (sym is);
+  said_is = λ inputs told. ap (λ asked. (outcome_of asked inputs).said) (sym is);
+}
+
+-- a listing that was asked for
+pub usage_of_listing : (words : List (List ℕ)) (file : List ℕ) (ending : Ending) → understand words ≡ Ok (ListItems file) → IsOfListing ending
+    → (word : ℕ) → (ending ≡ Usage word) ↔ (understand words ≡ Err word)
+usage_of_listing words file ending is listed word =
+    (λ same. absurd (subst IsOfListing same listed), λ same. absurd (let never : ⊥ = cc in never))
+
+pub usage_of_usage : (words : List (List ℕ)) (found : ℕ) → understand words ≡ Err found → (word : ℕ) → (Usage found ≡ Usage word) ↔ (understand words ≡ Err word)
+usage_of_usage words found is word =
+    (λ same. let equal : found ≡ word = cc in is ∙ ap Err equal, λ same. let equal : found ≡ word = cc in ap Usage equal)

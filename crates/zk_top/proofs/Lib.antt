@@ -1,0 +1,6 @@
+mod CommandLemmas
+mod Doing
+mod EntryLemmas
+mod ListingLemmas
+mod Said
+mod SoFar

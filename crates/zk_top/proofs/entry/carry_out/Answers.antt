@@ -1,0 +1,14 @@
+use Rattle.std.proofs.Common.{IfErr, sym, subst}
+use Rattle.zk_top.specs.Outcome.{outcome_of}
+use Rattle.zk_top.specs.Run.{BreaksOff}
+use Rattle.zk_top.proofs.EntryLemmas.{not_understood}
+use Rattle.zk_top.proofs.entry.carry_out.Goals as goal
+
+pub returns-in-Ok-clause-stopped : goal.returns-in-Ok-clause-stopped
+returns-in-Ok-clause-stopped g c =
+    let old = g.S.Shelf.outside c.args.shelf.now in
+    let new = g.S.Shelf.outside c.perform.new.shelf in
+    subst (λ asked. IfErr c.perform.result (λ stop. BreaksOff (outcome_of asked) old stop new)) (sym c.in-Ok.ensures) c.perform.ensures.stopped
+
+pub returns-in-Err-clause-done : goal.returns-in-Err-clause-done
+returns-in-Err-clause-done g c = not_understood c.args.words.now c.in-Err.word (g.S.Shelf.outside c.args.shelf.now) c.in-Err.ensures

@@ -1,0 +1,57 @@
+-- The command line: which words are a command, and which word is the first that isn't understood.
+use Rattle.std.specs.Prelude.{◌≡◌, ℕ, Bool, true, false, not, ◌&&◌, ◌==◌, List, [], ◌∷◌, ◌++◌, length, codes, Option, Some, None, Result, Ok, Err, IsTrue, if◌then◌else◌}
+use Rattle.std.specs.Str.{bytes_eq}
+use Rattle.zk_top.specs.declared.command.Command as code
+use Rattle.zk_top.specs.declared.command.Command.TheVariants as variants
+
+-- what the program is asked to do
+pub data Command : Type 0 where
+  -- say a line for each item of a capture
+  ListItems : (file : List ℕ) → Command
+
+-- the name of a file is neither empty nor like an option
+abbrev pub is_file_name : List ℕ → Bool
+is_file_name [] = false
+is_file_name (first ∷ others) = not (first == 45)
+
+-- the words of a command
+abbrev pub words_of : Command → List (List ℕ)
+words_of (ListItems file) = codes "list" ∷ file ∷ []
+
+-- the files that it names are named so
+abbrev pub is_well_named : Command → Bool
+is_well_named (ListItems file) = is_file_name file
+
+-- the words are those of this command
+abbrev pub IsCommand : List (List ℕ) → Command → Type 0
+IsCommand words command = (words ≡ words_of command) × IsTrue (is_well_named command)
+
+-- the command that the words are, if they are one
+abbrev pub command_of : List (List ℕ) → Option Command
+command_of (verb ∷ file ∷ []) = if bytes_eq verb (codes "list") && is_file_name file then Some (ListItems file) else None
+command_of words = None
+
+-- the words are the first ones of some command
+abbrev pub begins : List (List ℕ) → Bool
+begins [] = true
+begins (verb ∷ []) = bytes_eq verb (codes "list")
+begins (verb ∷ file ∷ []) = bytes_eq verb (codes "list") && is_file_name file
+begins (verb ∷ file ∷ more ∷ others) = false
+
+-- with words that begin a command before them: the number of words up to the first with which they don't
+abbrev pub understood : List (List ℕ) → List (List ℕ) → ℕ
+understood before [] = length before
+understood before (word ∷ words) =
+    if begins (before ++ word ∷ []) then understood (before ++ word ∷ []) words else length before
+
+-- the command, or the number of the first word that isn't understood
+abbrev pub command_or : Option Command → List (List ℕ) → Result Command ℕ
+command_or (Some command) words = Ok command
+command_or None words = Err (understood [] words)
+
+abbrev pub understand : List (List ℕ) → Result Command ℕ
+understand words = command_or (command_of words) words
+
+-- the command that the code has read
+abbrev pub command_seen : code.Command → Command
+command_seen (variants.List file) = ListItems file.now

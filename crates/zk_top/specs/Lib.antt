@@ -1,0 +1,7 @@
+pub mod Command
+pub mod Item
+pub mod Line
+pub mod Complaint
+pub mod Outcome
+pub mod Run
+pub mod Stop

@@ -1,0 +1,142 @@
+ghost use Rattle.std.specs.Prelude.{◌≡◌, [], ◌++◌, codes, decimal, OnOk, IfOk, IfErr};
+ghost use Rattle.zk_text.specs.Span.{span_decimal};
+ghost use Rattle.zk_top.specs.Complaint.{complaint_of, kind_name, line};
+ghost use Rattle.zk_top.specs.Run.{DoesAll, DoesPart};
+
+use crate::line::{push_count, push_span};
+use crate::stop::Stop;
+use std::alloc::{AllocError, Global};
+use zk_base::{Ending, ScriptKind, Shelf, Wrote};
+
+/// Complains of an ending on standard error, where there is something to complain of.
+pub fn complain<S: Shelf>(alloc: Global, shelf: &mut S, ending: &Ending) -> Result<(), Stop>
+    ensures done { OnOk result (DoesAll [] [] (complaint_of ending.now) (S.outside shelf.old) (S.outside shelf.new)) }
+    ensures stopped { IfErr result (λ stop. DoesPart [] [] (complaint_of ending.now) (S.outside shelf.old) stop (S.outside shelf.new)) }
+{
+    let complaint = complaint(alloc, ending)?;
+    if complaint.is_empty() {
+        return Ok(());
+    }
+    match shelf.complain(&complaint) {
+        Wrote::Done => Ok(()),
+        Wrote::Failed => Err(Stop::WriteFault),
+        Wrote::NoMemory => Err(Stop::NoMemory),
+    }
+}
+
+/// The complaint of an ending: a line, or nothing.
+fn complaint(alloc: Global, ending: &Ending) -> Result<Vec<u8>, AllocError>
+    ensures { IfOk result (λ text. text.items ≡ complaint_of ending.now) }
+{
+    match ending {
+        Ending::Done | Ending::ReadFault | Ending::WriteFault | Ending::NoMemory => {
+            Ok(Vec::new(alloc))
+        }
+        Ending::Usage { word } => usage(alloc, *word),
+        Ending::ScriptRefused { file, place, kind } => {
+            script_refused(alloc, file.as_slice(), *place, *kind)
+        }
+        Ending::NoInput { name } => no_input(alloc, name.as_slice()),
+        Ending::CaptureRefused { name, place } => {
+            at_byte(alloc, name.as_slice(), b" refused at byte ", *place)
+        }
+        Ending::CutShort { name, place } => {
+            at_byte(alloc, name.as_slice(), b" cut at byte ", *place)
+        }
+        Ending::Flood { moment } => flood(alloc, moment.0),
+    }
+}
+
+/// The front of each complaint.
+fn begun(alloc: Global) -> Result<Vec<u8>, AllocError>
+    ensures { IfOk result (λ text. text.items ≡ codes "zeekoff: ") }
+{
+    Vec::from_slice(alloc, b"zeekoff: ")
+}
+
+fn usage(alloc: Global, word: usize) -> Result<Vec<u8>, AllocError>
+    ensures { IfOk result (λ text. text.items ≡ line (codes "word " ++ decimal word ++ codes " is not understood")) }
+{
+    let mut text = begun(alloc)?;
+    text.extend_from_slice(b"word ")?;
+    push_count(&mut text, word as u64)?;
+    text.extend_from_slice(b" is not understood\n")?;
+    Ok(text)
+}
+
+fn script_refused(
+    alloc: Global,
+    file: &[u8],
+    place: u64,
+    kind: ScriptKind,
+) -> Result<Vec<u8>, AllocError>
+    ensures { IfOk result (λ text. text.items
+        ≡ line (file.now ++ codes ", byte " ++ decimal place ++ codes ": " ++ kind_name kind)) }
+{
+    let mut text = begun(alloc)?;
+    text.extend_from_slice(file)?;
+    text.extend_from_slice(b", byte ")?;
+    push_count(&mut text, place)?;
+    text.extend_from_slice(b": ")?;
+    text.extend_from_slice(name_of(kind))?;
+    text.push(b'\n')?;
+    Ok(text)
+}
+
+fn no_input(alloc: Global, name: &[u8]) -> Result<Vec<u8>, AllocError>
+    ensures { IfOk result (λ text. text.items ≡ line (codes "no file " ++ name.now)) }
+{
+    let mut text = begun(alloc)?;
+    text.extend_from_slice(b"no file ")?;
+    text.extend_from_slice(name)?;
+    text.push(b'\n')?;
+    Ok(text)
+}
+
+/// What befell a file at a byte.
+fn at_byte(alloc: Global, name: &[u8], what: &[u8], place: u64) -> Result<Vec<u8>, AllocError>
+    ensures { IfOk result (λ text. text.items ≡ line (name.now ++ what.now ++ decimal place)) }
+{
+    let mut text = begun(alloc)?;
+    text.extend_from_slice(name)?;
+    text.extend_from_slice(what)?;
+    push_count(&mut text, place)?;
+    text.push(b'\n')?;
+    Ok(text)
+}
+
+fn flood(alloc: Global, moment: i64) -> Result<Vec<u8>, AllocError>
+    ensures { IfOk result (λ text. text.items ≡ line (codes "flood at " ++ span_decimal moment)) }
+{
+    let mut text = begun(alloc)?;
+    text.extend_from_slice(b"flood at ")?;
+    push_span(&mut text, moment)?;
+    text.push(b'\n')?;
+    Ok(text)
+}
+
+/// The bare name of a kind.
+fn name_of(kind: ScriptKind) -> &'static [u8]
+    ensures { result.now ≡ kind_name kind }
+{
+    match kind {
+        ScriptKind::TooLarge => b"TooLarge",
+        ScriptKind::TooMany => b"TooMany",
+        ScriptKind::BadByte => b"BadByte",
+        ScriptKind::OpenString => b"OpenString",
+        ScriptKind::BigNumber => b"BigNumber",
+        ScriptKind::NoTree => b"NoTree",
+        ScriptKind::Unknown => b"Unknown",
+        ScriptKind::Twice => b"Twice",
+        ScriptKind::WrongType => b"WrongType",
+        ScriptKind::Field => b"Field",
+        ScriptKind::Recursive => b"Recursive",
+        ScriptKind::NotConst => b"NotConst",
+        ScriptKind::FixedGlobal => b"FixedGlobal",
+        ScriptKind::Arguments => b"Arguments",
+        ScriptKind::Return => b"Return",
+        ScriptKind::Break => b"Break",
+        ScriptKind::Attribute => b"Attribute",
+        ScriptKind::Format => b"Format",
+    }
+}

@@ -1,0 +1,79 @@
+ghost use Rattle.std.specs.Prelude.{◌≡◌, ◌↔◌, [], List, ℕ, Some, Ok, Err, IfOk, IfErr};
+ghost use Rattle.zk_base.specs.Shelf.{Files, HasRisen};
+ghost use Rattle.zk_top.specs.Command.{understand, command_seen};
+ghost use Rattle.zk_top.specs.Complaint.{complaint_of};
+ghost use Rattle.zk_top.specs.Outcome.{outcome, outcome_of};
+ghost use Rattle.zk_top.specs.Run.{IsWhole, IsDone, StaysWithin, IsOfListing, Fulfils, BreaksOff, SameFaults};
+
+use crate::command::{Command, read_command};
+use crate::complaint::complain;
+use crate::listing::list;
+use crate::stop::Stop;
+use std::alloc::Global;
+use zk_base::{Ending, Shelf, Word};
+
+/// Carries out the words of a command line over a shelf, and says how that ended. The words are
+/// those behind the program's own name.
+///
+/// Over a shelf that tells its inputs, the ending, what is said and complained, the files that are
+/// written and the inputs that are asked for are those of `outcome`. `ReadFault`, `WriteFault` and
+/// `NoMemory` stop a run at any place: then a front of each was done.
+pub fn run<S: Shelf>(alloc: Global, words: &[Word], shelf: &mut S) -> Ending
+    // A run that isn't stopped does what its words ask for, and nothing else.
+    ensures done { (inputs : Files) → (S.outside shelf.old).inputs ≡ Some inputs → IsWhole result
+        → IsDone (outcome words.now inputs) (S.outside shelf.old) result (S.outside shelf.new) }
+
+    // However it ends, it has done a front of that.
+    ensures within { (inputs : Files) → (S.outside shelf.old).inputs ≡ Some inputs
+        → StaysWithin (outcome words.now inputs) (S.outside shelf.old) (S.outside shelf.new) }
+
+    // What no shelf needs to tell.
+    ensures usage { (word : ℕ) → IsWhole result → (result ≡ Ending.Usage word) ↔ (understand words.now ≡ Err word) }
+    ensures absent { (name : List ℕ) → result ≡ Ending.NoInput name
+        → HasRisen (S.outside shelf.old).absences (S.outside shelf.new).absences }
+    ensures faults { IsWhole result → SameFaults (S.outside shelf.old) (S.outside shelf.new) }
+    ensures read_fault { result ≡ Ending.ReadFault
+        → HasRisen (S.outside shelf.old).read_faults (S.outside shelf.new).read_faults }
+    ensures write_fault { result ≡ Ending.WriteFault
+        → HasRisen (S.outside shelf.old).write_faults (S.outside shelf.new).write_faults }
+    ensures inputs { (S.outside shelf.new).inputs ≡ (S.outside shelf.old).inputs }
+{
+    match attempt(alloc, words, shelf) {
+        Ok(ending) => ending,
+        Err(stop) => Ending::from(stop),
+    }
+}
+
+/// The run itself, up to what may stop it.
+fn attempt<S: Shelf>(alloc: Global, words: &[Word], shelf: &mut S) -> Result<Ending, Stop>
+    ensures done { IfOk result (λ ending. Fulfils (outcome words.now) (complaint_of ending) (S.outside shelf.old) ending (S.outside shelf.new)) }
+    ensures usage { IfOk result (λ ending. (word : ℕ) → (ending ≡ Ending.Usage word) ↔ (understand words.now ≡ Err word)) }
+    ensures stopped { IfErr result (λ stop. BreaksOff (outcome words.now) (S.outside shelf.old) stop (S.outside shelf.new)) }
+{
+    let ending = carry_out(alloc, words, shelf)?;
+    complain(alloc, shelf, &ending)?;
+    Ok(ending)
+}
+
+/// Does what the words ask for, but for the complaint.
+fn carry_out<S: Shelf>(alloc: Global, words: &[Word], shelf: &mut S) -> Result<Ending, Stop>
+    ensures done { IfOk result (λ ending. Fulfils (outcome words.now) [] (S.outside shelf.old) ending (S.outside shelf.new)) }
+    ensures usage { IfOk result (λ ending. (word : ℕ) → (ending ≡ Ending.Usage word) ↔ (understand words.now ≡ Err word)) }
+    ensures stopped { IfErr result (λ stop. BreaksOff (outcome words.now) (S.outside shelf.old) stop (S.outside shelf.new)) }
+{
+    match read_command(words) {
+        Ok(command) => perform(alloc, command, shelf),
+        Err(word) => Ok(Ending::Usage { word }),
+    }
+}
+
+/// Does what a command asks for, but for the complaint.
+fn perform<S: Shelf>(alloc: Global, command: Command<'_>, shelf: &mut S) -> Result<Ending, Stop>
+    ensures done { IfOk result (λ ending. Fulfils (outcome_of (Ok (command_seen command.entry))) [] (S.outside shelf.old) ending (S.outside shelf.new)) }
+    ensures performed { IfOk result IsOfListing }
+    ensures stopped { IfErr result (λ stop. BreaksOff (outcome_of (Ok (command_seen command.entry))) (S.outside shelf.old) stop (S.outside shelf.new)) }
+{
+    match command {
+        Command::List { file } => list(alloc, shelf, file),
+    }
+}

@@ -1,0 +1,12 @@
+//! The whole of zeekoff, over any outside: from the words of the command line to the ending.
+#![tactic(auto)]
+
+mod command;
+mod complaint;
+mod entry;
+mod line;
+mod listing;
+mod reading;
+mod stop;
+
+pub use entry::run;

@@ -1,0 +1,59 @@
+ghost use Rattle.std.specs.Prelude.{◌≡◌, ◌++◌, decimal, OnOk};
+ghost use Rattle.zk_text.specs.Span.{span_decimal};
+ghost use Rattle.zk_top.specs.Line.{line_of, fields_of, tab};
+ghost use Rattle.zk_top.specs.Item.{seen_at, what_seen};
+
+use std::alloc::AllocError;
+use zk_base::Moment;
+use zk_pcap::Packet;
+use zk_text::{COUNT_TEXT_MAX, SPAN_TEXT_MAX, count_text, span_text};
+
+/// Adds the decimal digits of a number.
+pub fn push_count(out: &mut Vec<u8>, n: u64) -> Result<(), AllocError>
+    ensures ok { OnOk result (out.new.items ≡ out.old.items ++ decimal n) }
+{
+    let mut text = [0; COUNT_TEXT_MAX];
+    let Ok(len) = count_text(n, &mut text) else {
+        unreachable!()
+    };
+    out.extend_from_slice(&text[..len])
+}
+
+/// Adds a number of microseconds as seconds with six decimals.
+pub fn push_span(out: &mut Vec<u8>, n: i64) -> Result<(), AllocError>
+    ensures ok { OnOk result (out.new.items ≡ out.old.items ++ span_decimal n) }
+{
+    let mut text = [0; SPAN_TEXT_MAX];
+    let Ok(len) = span_text(n, &mut text) else {
+        unreachable!()
+    };
+    out.extend_from_slice(&text[..len])
+}
+
+/// Adds a tab and the decimal digits of a number.
+fn push_count_field(out: &mut Vec<u8>, n: u64) -> Result<(), AllocError>
+    ensures ok { OnOk result (out.new.items ≡ out.old.items ++ (tab ++ decimal n)) }
+{
+    out.push(b'\t')?;
+    push_count(out, n)
+}
+
+/// Adds what is seen of a packet, each field with a tab before it.
+fn push_packet_fields(out: &mut Vec<u8>, packet: &Packet) -> Result<(), AllocError>
+    ensures ok { OnOk result (out.new.items ≡ out.old.items ++ fields_of (what_seen packet.now)) }
+{
+    out.extend_from_slice(b"\tpacket\t")?;
+    push_span(out, packet.moment.0)?;
+    push_count_field(out, packet.bytes.len() as u64)?;
+    push_count_field(out, u64::from(packet.orig_len))
+}
+
+/// Adds the line of a packet that is seen at a network time.
+pub fn push_packet_line(out: &mut Vec<u8>, now: Moment, packet: &Packet) -> Result<(), AllocError>
+    ensures ok { OnOk result (out.new.items ≡ out.old.items ++ line_of (seen_at now packet.now)) }
+{
+    push_span(out, now.0)?;
+    push_packet_fields(out, packet)?;
+    out.push(b'\n')?;
+    Ok(())
+}

@@ -2,5 +2,6 @@ mod CommandLemmas
 mod Doing
 mod EntryLemmas
 mod ListingLemmas
+mod Rows
 mod Said
 mod SoFar

@@ -10,3 +10,6 @@ mod reading;
 mod stop;
 
 pub use entry::run;
+
+#[cfg(test)]
+mod tests;

@@ -52,11 +52,14 @@ fn later(a: Moment, b: Moment) -> Moment
     if a < b { b } else { a }
 }
 
-/// Says a piece on standard output.
+/// Says a piece on standard output, where there is anything to say.
 fn say<S: Shelf>(shelf: &mut S, piece: &[u8]) -> Result<(), Stop>
     ensures said { OnOk result (DoesAll [] piece.now [] (S.outside shelf.old) (S.outside shelf.new)) }
     ensures stopped { IfErr result (λ stop. DoesPart [] piece.now [] (S.outside shelf.old) stop (S.outside shelf.new)) }
 {
+    if piece.is_empty() {
+        return Ok(());
+    }
     match shelf.say(piece) {
         Wrote::Done => Ok(()),
         Wrote::Failed => Err(Stop::WriteFault),

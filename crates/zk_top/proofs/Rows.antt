@@ -1,0 +1,74 @@
+-- What the definition of a run gives for small captures, computed by the checker.
+use Rattle.std.proofs.Common.{◌≡◌, ℕ, List, [], ◌∷◌, ◌++◌, codes, Option, Some, None, if◌then◌else◌, refl}
+use Rattle.std.specs.Str.{bytes_eq}
+use Rattle.std.specs.Fmt.{digits}
+use Rattle.zk_base.specs.declared.endings.Ending.TheVariants.{Done, Usage, NoInput, CaptureRefused, CutShort}
+use Rattle.zk_base.specs.Shelf.{Files}
+use Rattle.zk_text.specs.Span.{span_decimal}
+use Rattle.zk_top.specs.Outcome.{outcome}
+
+-- one input, c.pcap
+one : List ℕ → Files
+one bytes name = if bytes_eq name (codes "c.pcap") then Some bytes else None
+
+list : List (List ℕ)
+list = codes "list" ∷ codes "c.pcap" ∷ []
+
+header : List ℕ
+header = 0xd4 ∷ 0xc3 ∷ 0xb2 ∷ 0xa1 ∷ 2 ∷ 0 ∷ 4 ∷ 0 ∷ 0 ∷ 0 ∷ 0 ∷ 0 ∷ 0 ∷ 0 ∷ 0 ∷ 0 ∷ 0 ∷ 0 ∷ 4 ∷ 0 ∷ 1 ∷ 0 ∷ 0 ∷ 0 ∷ []
+
+-- 2 bytes at 1 s, and the first 3 bytes of another record
+cut : List ℕ
+cut = 1 ∷ 0 ∷ 0 ∷ 0 ∷ 0 ∷ 0 ∷ 0 ∷ 0 ∷ 2 ∷ 0 ∷ 0 ∷ 0 ∷ 2 ∷ 0 ∷ 0 ∷ 0 ∷ 0xff ∷ 0xff ∷ 2 ∷ 0 ∷ 0 ∷ []
+
+-- no bytes at 5 s, and then none at 3 s
+backwards : List ℕ
+backwards = 5 ∷ 0 ∷ 0 ∷ 0 ∷ 0 ∷ 0 ∷ 0 ∷ 0 ∷ 0 ∷ 0 ∷ 0 ∷ 0 ∷ 0 ∷ 0 ∷ 0 ∷ 0 ∷ 3 ∷ 0 ∷ 0 ∷ 0 ∷ 0 ∷ 0 ∷ 0 ∷ 0 ∷ 0 ∷ 0 ∷ 0 ∷ 0 ∷ 0 ∷ 0 ∷ 0 ∷ 0 ∷ []
+
+an_empty_file_is_refused_at_its_first_byte : (outcome list (one [])).ending ≡ CaptureRefused (codes "c.pcap") 0
+unfolding one list
+an_empty_file_is_refused_at_its_first_byte = refl
+
+a_refusal_is_complained_of : (outcome list (one [])).complained ≡ codes "zeekoff: c.pcap refused at byte 0\n"
+unfolding one list digits
+a_refusal_is_complained_of = refl
+
+a_header_alone_is_whole : (outcome list (one header)).ending ≡ Done
+unfolding one list header
+a_header_alone_is_whole = refl
+
+a_header_alone_says_nothing : (outcome list (one header)).said ≡ []
+unfolding one list header
+a_header_alone_says_nothing = refl
+
+a_cut_capture_says_its_whole_records : (outcome list (one (header ++ cut))).said ≡ codes "1.000000\tpacket\t1.000000\t2\t2\n"
+unfolding one list header cut span_decimal digits
+a_cut_capture_says_its_whole_records = refl
+
+a_cut_capture_ends_at_the_record_that_is_not_whole : (outcome list (one (header ++ cut))).ending ≡ CutShort (codes "c.pcap") 42
+unfolding one list header cut
+a_cut_capture_ends_at_the_record_that_is_not_whole = refl
+
+network_time_does_not_fall : (outcome list (one (header ++ backwards))).said ≡ codes "5.000000\tpacket\t5.000000\t0\t0\n5.000000\tpacket\t3.000000\t0\t0\n"
+unfolding one list header backwards span_decimal digits
+network_time_does_not_fall = refl
+
+a_missing_file_is_named : (outcome (codes "list" ∷ codes "x.pcap" ∷ []) (one header)).ending ≡ NoInput (codes "x.pcap")
+unfolding one
+a_missing_file_is_named = refl
+
+a_missing_file_is_asked_for : (outcome (codes "list" ∷ codes "x.pcap" ∷ []) (one header)).asked ≡ codes "x.pcap" ∷ []
+unfolding one
+a_missing_file_is_asked_for = refl
+
+no_words_are_no_command : (outcome [] (one header)).ending ≡ Usage 0
+no_words_are_no_command = refl
+
+a_list_of_no_file_ends_too_soon : (outcome (codes "list" ∷ []) (one header)).ending ≡ Usage 1
+a_list_of_no_file_ends_too_soon = refl
+
+a_list_of_two_files_is_not_understood : (outcome (codes "list" ∷ codes "a" ∷ codes "b" ∷ []) (one header)).ending ≡ Usage 2
+a_list_of_two_files_is_not_understood = refl
+
+words_that_are_not_understood_start_nothing : (outcome (codes "list" ∷ codes "-x" ∷ []) (one header)).asked ≡ []
+words_that_are_not_understood_start_nothing = refl

@@ -1,4 +1,4 @@
-ghost use Rattle.std.specs.Prelude.{◌≡◌, ◌≢◌, Some, ◌<◌, ◌≤◌, ◌-◌, [], ◌∷◌, ◌++◌, length, take, drop, min, IsTrue, IsSome, OnOk, OnErr, IfOk};
+ghost use Rattle.std.specs.Prelude.{◌≡◌, ◌≢◌, Some, ◌<◌, ◌≤◌, ◌-◌, [], ◌∷◌, ◌++◌, length, take, drop, min, IsTrue, IsSome, OnOk, OnErr, MatchResult};
 ghost use Rattle.std.specs.Option.{ForSome, option_copied};
 ghost use Rattle.zk_base.specs.Files.{files_of, number_of, IsAt};
 ghost use Rattle.zk_base.specs.Shelf.{with_file, with_piece};
@@ -80,14 +80,27 @@ fn copy_from(content: &[u8], place: usize, buf: &mut [u8]) -> usize
     n
 }
 
-/// A place in the file of this number.
+/// The answer of a write that needs nothing but memory.
+fn wrote(outcome: Result<(), Mem>) -> Wrote
+    ensures { MatchResult outcome (λ _. result ≡ Wrote.Done) (λ _. result ≡ Wrote.NoMemory) }
+{
+    match outcome {
+        Ok(()) => Wrote::Done,
+        Err(_) => Wrote::NoMemory,
+    }
+}
+
+/// A place in a file.
 #[derive(Clone, Copy, Debug)]
 pub struct Position {
+    /// The file's number in the list.
     pub file: usize,
+    /// A byte of it, or its end.
     pub place: usize,
 }
 
-/// What a shelf holds that lies in memory, with its counts.
+/// What a shelf holds that lies in memory, with its counts. Its calls are those of a shelf that
+/// never fails, and beside them what such a shelf needs to fail at a call.
 #[derive(Debug, Drop)]
 pub struct Contents {
     alloc: Global,
@@ -106,8 +119,9 @@ pub struct Contents {
 impl Contents {
     ghost use Rattle.zk_base.specs.Contents.{outside_of, at_first, SameFaults};
     ghost use Rattle.zk_base.specs.Faults.{one_more, after_failed_start, after_failed_read, after_failed_create, with_write_fault};
-    ghost use Rattle.zk_base.specs.Shelf.{Starts, FailsToStart, is_open, Reads, FailsToRead, Creates, FailsToCreate, IsCreated, Puts, PutsFront, after_append, after_say, after_complaint};
+    ghost use Rattle.zk_base.specs.Shelf.{Starts, is_open, Reads, Creates, IsCreated, Puts, after_append, after_say, after_complaint};
 
+    /// These inputs, nothing written and no count risen. No memory is taken.
     pub fn new(alloc: Global, inputs: Vec<File>) -> Contents
         ensures { outside_of result ≡ at_first inputs.items }
     {
@@ -125,6 +139,7 @@ impl Contents {
         }
     }
 
+    /// Opens an input at its first byte. Memory is taken for the name.
     pub fn start(&mut self, name: &[u8]) -> Started
         ensures leaves { Starts (outside_of self.old) name.now result (outside_of self.new) }
         ensures sure { result ≢ Started.Failed }
@@ -147,11 +162,11 @@ impl Contents {
         }
     }
 
-    /// Starts an input, and fails.
+    /// Notes the name of an input, opens none, and fails.
     pub fn fail_to_start(&mut self, name: &[u8]) -> Started
         ensures failed { result ≡ Started.Failed → outside_of self.new ≡ after_failed_start (outside_of self.old) name.now }
         ensures memory { result ≡ Started.NoMemory → outside_of self.new ≡ outside_of self.old }
-        ensures fails { (result ≢ Started.Open) × (result ≢ Started.Absent) }
+        ensures never_open { (result ≢ Started.Open) × (result ≢ Started.Absent) }
     {
         let Ok(()) = note(self.alloc, &mut self.started, name) else {
             return Started::NoMemory;
@@ -161,6 +176,7 @@ impl Contents {
         Started::Failed
     }
 
+    /// Reads as many bytes as the open input has left and the buffer holds.
     pub fn read(&mut self, buf: &mut [u8]) -> Got
         requires room { 0 < length buf.old }
         requires input { IsTrue (is_open (outside_of self.old).reading) }
@@ -183,7 +199,7 @@ impl Contents {
         Got::Bytes(n)
     }
 
-    /// Reads nothing, and fails.
+    /// Reads nothing, leaves the place as it was, and fails.
     pub fn fail_to_read(&mut self) -> Got
         ensures failed { result ≡ Got.Failed }
         ensures leaves { outside_of self.new ≡ after_failed_read (outside_of self.old) }
@@ -192,6 +208,7 @@ impl Contents {
         Got::Failed
     }
 
+    /// Makes an empty output, or empties the one that there is.
     pub fn create(&mut self, name: &[u8]) -> Wrote
         ensures leaves { Creates (outside_of self.old) name.now result (outside_of self.new) }
         ensures sure { result ≢ Wrote.Failed }
@@ -201,10 +218,7 @@ impl Contents {
             return Wrote::NoMemory;
         };
         let empty = Bytes::new(self.alloc);
-        match put_file(&mut self.outputs, name, empty) {
-            Ok(()) => Wrote::Done,
-            Err(_) => Wrote::NoMemory,
-        }
+        wrote(put_file(&mut self.outputs, name, empty))
     }
 
     /// Makes no output, and fails. One that is there is emptied.
@@ -217,38 +231,32 @@ impl Contents {
         Wrote::Failed
     }
 
+    /// Adds a piece to an output that was created.
     pub fn append(&mut self, name: &[u8], bytes: &[u8]) -> Wrote
         requires { IsCreated (outside_of self.old) name.now }
         ensures leaves { Puts (after_append (outside_of self.old) name.now) (outside_of self.old) bytes.now result (outside_of self.new) }
         ensures sure { result ≢ Wrote.Failed }
         ensures faults { SameFaults self.old self.new }
     {
-        match add_piece(&mut self.outputs, name, bytes) {
-            Ok(()) => Wrote::Done,
-            Err(_) => Wrote::NoMemory,
-        }
+        wrote(add_piece(&mut self.outputs, name, bytes))
     }
 
+    /// Adds a piece to standard output.
     pub fn say(&mut self, bytes: &[u8]) -> Wrote
         ensures leaves { Puts (after_say (outside_of self.old)) (outside_of self.old) bytes.now result (outside_of self.new) }
         ensures sure { result ≢ Wrote.Failed }
         ensures faults { SameFaults self.old self.new }
     {
-        match self.said.append(bytes) {
-            Ok(()) => Wrote::Done,
-            Err(_) => Wrote::NoMemory,
-        }
+        wrote(self.said.append(bytes))
     }
 
+    /// Adds a piece to standard error.
     pub fn complain(&mut self, bytes: &[u8]) -> Wrote
         ensures leaves { Puts (after_complaint (outside_of self.old)) (outside_of self.old) bytes.now result (outside_of self.new) }
         ensures sure { result ≢ Wrote.Failed }
         ensures faults { SameFaults self.old self.new }
     {
-        match self.complained.append(bytes) {
-            Ok(()) => Wrote::Done,
-            Err(_) => Wrote::NoMemory,
-        }
+        wrote(self.complained.append(bytes))
     }
 
     /// Counts a write that fails.
@@ -268,12 +276,14 @@ impl Contents {
         }
     }
 
+    /// What was said.
     pub fn said(&self) -> &[u8]
         ensures { result.now ≡ self.now.said }
     {
         self.said.as_slice()
     }
 
+    /// What was complained.
     pub fn complained(&self) -> &[u8]
         ensures { result.now ≡ self.now.complained }
     {

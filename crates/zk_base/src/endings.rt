@@ -105,3 +105,52 @@ impl Ending {
         }
     }
 }
+
+#[cfg(test)]
+mod tests {
+    use super::*;
+
+    #[test]
+    fn each_ending_has_its_status(rt: HostRuntime) {
+        let alloc = rt.alloc();
+        let rows = [
+            (Ending::Done, 0),
+            (Ending::Usage { word: 2 }, 1),
+            (
+                Ending::ScriptRefused {
+                    file: Bytes::new(alloc),
+                    place: 3,
+                    kind: ScriptKind::NoTree,
+                },
+                2,
+            ),
+            (
+                Ending::CaptureRefused {
+                    name: Bytes::new(alloc),
+                    place: 20,
+                },
+                3,
+            ),
+            (
+                Ending::CutShort {
+                    name: Bytes::new(alloc),
+                    place: 24,
+                },
+                4,
+            ),
+            (Ending::ReadFault, 5),
+            (Ending::WriteFault, 6),
+            (Ending::NoMemory, 7),
+            (Ending::Flood { moment: Moment(0) }, 8),
+            (
+                Ending::NoInput {
+                    name: Bytes::new(alloc),
+                },
+                9,
+            ),
+        ];
+        for (ending, status) in rows {
+            assert_eq!(rt; ending.status(), status);
+        }
+    }
+}

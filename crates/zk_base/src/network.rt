@@ -7,10 +7,12 @@ pub enum Addr {
     V6(u128),
 }
 
-/// A transport protocol.
+/// A transport protocol: TCP (RFC 9293) or UDP (RFC 768).
 #[derive(Clone, Copy, Debug, PartialEq, Eq, PartialOrd, Ord, Hash)]
 pub enum Proto {
+    /// The Transmission Control Protocol.
     Tcp,
+    /// The User Datagram Protocol.
     Udp,
 }
 

@@ -1,5 +1,6 @@
-ghost use Rattle.std.specs.Prelude.{◌≡◌, ◌==◌, length};
+ghost use Rattle.std.specs.Prelude.{◌≡◌, ◌==◌, [], length};
 
+use std::alloc::Global;
 use std::marker::Model;
 
 /// A list of values that owns its memory. Contracts see it as a list.
@@ -17,18 +18,30 @@ impl<T> Model for Sequence<T> {
 }
 
 impl<T> Sequence<T> {
+    /// No values. No memory is taken.
+    pub fn new(alloc: Global) -> Sequence<T>
+        ensures { result ≡ [] }
+    {
+        Sequence {
+            vec: Vec::new(alloc),
+        }
+    }
+
+    /// The values, lent.
     pub fn as_slice(&self) -> &[T]
         ensures { result.now ≡ self.now }
     {
         &self.vec
     }
 
+    /// The number of values.
     pub fn len(&self) -> usize
         ensures { result ≡ length self.now }
     {
         self.vec.len()
     }
 
+    /// Whether there are no values.
     pub fn is_empty(&self) -> bool
         ensures { result ≡ (length self.now == 0) }
     {

@@ -6,10 +6,11 @@ ghost use Rattle.zk_base.specs.Shelf.{Outside, Starts, is_open, Reads, Creates, 
 pub enum Started {
     /// The input is open, at its first byte.
     Open,
-    /// There is no input of that name.
+    /// There is no input of that name. None is open.
     Absent,
-    /// The outside failed.
+    /// The outside failed. The name counts as started, and no input is open.
     Failed,
+    /// Memory ran out, and nothing has happened.
     NoMemory,
 }
 
@@ -20,7 +21,7 @@ pub enum Got {
     Bytes(usize),
     /// The input is read out.
     End,
-    /// The outside failed.
+    /// The outside failed. The input stays open, at the same place.
     Failed,
 }
 
@@ -29,8 +30,10 @@ pub enum Got {
 pub enum Wrote {
     /// All of it is written.
     Done,
-    /// The outside failed. Of a piece some first bytes may be written.
+    /// The outside failed. Of a piece some first bytes may be written, and an output that was to be
+    /// made is absent or empty.
     Failed,
+    /// Memory ran out, and nothing has happened.
     NoMemory,
 }
 

@@ -79,3 +79,55 @@ impl Shelf for SureShelf {
         self.contents.complain(bytes)
     }
 }
+
+#[cfg(test)]
+mod tests {
+    use super::*;
+    use std::test::Fail;
+
+    fn shelf(alloc: Global) -> Result<SureShelf, Mem> {
+        let name = Bytes::copy_of(alloc, b"greeting")?;
+        let content = Bytes::copy_of(alloc, b"hello")?;
+        SureShelf::new(alloc, vec![in alloc; (name, content)]?)
+    }
+
+    #[test]
+    fn an_input_is_read_in_pieces_to_its_end(rt: HostRuntime) -> Result<(), Fail> {
+        let mut shelf = shelf(rt.alloc())?;
+        assert_eq!(rt; shelf.start(b"letter"), Started::Absent);
+        assert_eq!(rt; shelf.start(b"greeting"), Started::Open);
+        let mut buf = [b'?'; 3];
+        assert_eq!(rt; shelf.read(&mut buf), Got::Bytes(3));
+        assert_eq!(rt; buf, *b"hel");
+        assert_eq!(rt; shelf.read(&mut buf), Got::Bytes(2));
+        assert_eq!(rt; buf, *b"lol");
+        assert_eq!(rt; shelf.read(&mut buf), Got::End);
+        Ok(())
+    }
+
+    #[test]
+    fn an_output_is_made_written_and_emptied(rt: HostRuntime) -> Result<(), Fail> {
+        let mut shelf = shelf(rt.alloc())?;
+        assert_eq!(rt; shelf.output(b"log"), None);
+        assert_eq!(rt; shelf.create(b"log"), Wrote::Done);
+        for (piece, whole) in [("one ", "one "), ("two", "one two")] {
+            assert!(rt; shelf.output(b"log").is_some());
+            assert_eq!(rt; shelf.append(b"log", piece.as_bytes()), Wrote::Done);
+            assert_eq!(rt; shelf.output(b"log"), Some(whole.as_bytes()));
+        }
+        assert_eq!(rt; shelf.create(b"log"), Wrote::Done);
+        assert_eq!(rt; shelf.output(b"log"), Some(b"".as_slice()));
+        Ok(())
+    }
+
+    #[test]
+    fn what_is_said_and_complained_is_told(rt: HostRuntime) -> Result<(), Fail> {
+        let mut shelf = shelf(rt.alloc())?;
+        assert_eq!(rt; shelf.say(b"yes "), Wrote::Done);
+        assert_eq!(rt; shelf.say(b"and no"), Wrote::Done);
+        assert_eq!(rt; shelf.complain(b"but"), Wrote::Done);
+        assert_eq!(rt; shelf.said(), b"yes and no".as_slice());
+        assert_eq!(rt; shelf.complained(), b"but".as_slice());
+        Ok(())
+    }
+}

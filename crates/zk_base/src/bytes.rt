@@ -83,6 +83,26 @@ impl Bytes {
     }
 }
 
+impl PartialEq for Bytes {
+    ghost use Rattle.std.specs.Cmp.{partial_equiv_from_equiv};
+    ghost use Rattle.std.specs.Cmp.Lexicographic.{nat_list_eq_equiv};
+    ghost use Rattle.std.specs.Str.{bytes_eq};
+
+    ghost eq = { bytes_eq };
+
+    ghost laws = { partial_equiv_from_equiv nat_list_eq_equiv };
+
+    fn eq(&self, other: &Bytes) -> bool {
+        self.as_slice() == other.as_slice()
+    }
+}
+
+impl Eq for Bytes {
+    ghost use Rattle.std.specs.Cmp.Lexicographic.{nat_list_eq_equiv};
+
+    ghost laws = { nat_list_eq_equiv };
+}
+
 /// The bytes of a vector. No memory is taken.
 impl From<Vec<u8>> for Bytes {
     ghost from_gives = { λ vec bytes. bytes ≡ vec.items };
@@ -121,5 +141,28 @@ impl From<Bytes> for Word {
 
     fn from(bytes: Bytes) -> Word {
         Word { bytes }
+    }
+}
+
+#[cfg(test)]
+mod tests {
+    use super::*;
+    use std::test::Fail;
+
+    #[test]
+    fn bytes_are_added_compared_and_given_back(rt: HostRuntime) -> Result<(), Fail> {
+        let alloc = rt.alloc();
+        let mut bytes = Bytes::copy_of(alloc, b"web")?;
+        bytes.append(b".pcap")?;
+        assert_eq!(rt; bytes, Bytes::from(Vec::from_slice(alloc, b"web.pcap")?));
+        assert_eq!(rt; bytes.len(), 8);
+        assert_eq!(rt; Word::from(bytes).as_slice(), b"web.pcap".as_slice());
+
+        let mut bytes = Bytes::copy_of(alloc, b"dns")?;
+        bytes.clear();
+        assert!(rt; bytes.is_empty());
+        bytes.append(b"log")?;
+        assert_eq!(rt; bytes.into_vec().as_slice(), b"log".as_slice());
+        Ok(())
     }
 }

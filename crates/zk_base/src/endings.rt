@@ -4,7 +4,7 @@ ghost use Rattle.zk_base.specs.Ending.{exit_status};
 use crate::{Bytes, Moment};
 
 /// How a run of the program ends.
-#[derive(Debug, Drop)]
+#[derive(Debug, PartialEq, Eq, Drop)]
 pub enum Ending {
     /// All that was asked for was done.
     Done,

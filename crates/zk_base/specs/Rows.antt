@@ -1,0 +1,54 @@
+-- What the definitions give at some values, computed by the checker.
+use Rattle.std.specs.Prelude.{◌≡◌, ℕ, ◌-◌, ◌^◌, List, [], ◌∷◌, true, false, Some, None, codes, refl}
+use Rattle.zk_base.specs.Shelf.{At, rest_of, with_piece}
+use Rattle.zk_base.specs.Files.{files_of}
+use Rattle.zk_base.specs.Contents.{at_first}
+use Rattle.zk_base.specs.Faults.{one_more, first_half, with_emptied}
+use Rattle.zk_base.specs.MemShelf.{MemState, fails_next, next_number}
+
+-- Files -----------------------------------------------------------------------------------------------------
+
+abbrev log : List ℕ × List ℕ
+log = (codes "log", codes "one")
+
+pub the_first_of_two_counts : files_of (log ∷ (codes "log", codes "two") ∷ []) (codes "log") ≡ Some (codes "one")
+the_first_of_two_counts = refl
+
+pub a_piece_goes_to_the_end : with_piece (files_of (log ∷ [])) (codes "log") (codes " two") (codes "log") ≡ Some (codes "one two")
+a_piece_goes_to_the_end = refl
+
+pub another_file_is_as_it_was : with_piece (files_of (log ∷ [])) (codes "lo") (codes " two") (codes "log") ≡ Some (codes "one")
+another_file_is_as_it_was = refl
+
+pub the_rest_is_what_was_not_read : rest_of (record (at_first (log ∷ [])) { reading = At (codes "log") 2 }) ≡ Some (codes "e")
+the_rest_is_what_was_not_read = refl
+
+-- Calls that fail -------------------------------------------------------------------------------------------
+
+-- a shelf whose second and fifth call fail, after some calls
+abbrev after_calls : ℕ → MemState
+after_calls n = record { outside = at_first []; fails = 2 ∷ 5 ∷ []; calls = n }
+
+pub the_first_call_does_not_fail : fails_next (after_calls 0) ≡ false
+the_first_call_does_not_fail = refl
+
+pub the_second_call_fails : fails_next (after_calls 1) ≡ true
+the_second_call_fails = refl
+
+pub numbers_stop : next_number (after_calls (2 ^ 64 - 1)) ≡ 2 ^ 64 - 1
+numbers_stop = refl
+
+pub counts_come_to_their_end : one_more (2 ^ 64 - 2) ≡ 2 ^ 64 - 1
+counts_come_to_their_end = refl
+
+pub half_of_five_bytes_is_two : first_half (codes "12345") ≡ codes "12"
+half_of_five_bytes_is_two = refl
+
+pub half_of_a_byte_is_none : first_half (codes "1") ≡ []
+half_of_a_byte_is_none = refl
+
+pub an_output_is_emptied : with_emptied (files_of (log ∷ [])) (codes "log") (codes "log") ≡ Some []
+an_output_is_emptied = refl
+
+pub an_absent_output_stays_absent : with_emptied (files_of (log ∷ [])) (codes "lo") (codes "lo") ≡ None
+an_absent_output_stays_absent = refl

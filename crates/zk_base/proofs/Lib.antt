@@ -1,2 +1,3 @@
+mod ChecksumLemmas
 mod FileLemmas
 mod MemShelfLemmas

@@ -1,3 +1,4 @@
+pub mod Checksum
 pub mod Contents
 pub mod Ending
 pub mod Faults

@@ -2,6 +2,7 @@
 #![tactic(auto)]
 
 mod bytes;
+mod checksum;
 mod contents;
 mod endings;
 mod mem_shelf;
@@ -14,6 +15,7 @@ mod sure_shelf;
 mod time;
 
 pub use bytes::{Bytes, Word};
+pub use checksum::{is_right, word_sum};
 pub use endings::{Ending, ScriptKind};
 pub use mem_shelf::MemShelf;
 pub use memory::Mem;

@@ -1,0 +1,6 @@
+use Rattle.std.proofs.Common.{◌≡◌, ℕ, ◌*◌, ◌/◌, ◌%◌, ◌^◌, Bool, nat_eq, not, bit_and, arith}
+use Rattle.std.proofs.lemmas.Nat.Bits.{and_pow}
+use Rattle.zk_link_ip.proofs.ip4.Ip4.more.Goals as goal
+
+pub returns : goal.returns
+returns c = grind (arith, and_pow c.flags_and_offset.result 13)

@@ -1,0 +1,90 @@
+ghost use Rattle.std.specs.Prelude.{◌≡◌, ◌+◌, ◌<◌, ◌≤◌, ◌^◌, length, drop, MatchOption, Some, None};
+ghost use Rattle.zk_link_ip.specs.Frame.{content_of, ethernet_content, ip_part_of, is_tag, raw_content, type_at};
+
+use byteorder::{BigEndian, ByteOrder};
+
+/// Link types of captures, by the capture format's list: Ethernet, and IP with nothing before it.
+const ETHERNET: u16 = 1;
+const RAW: u16 = 101;
+
+/// Types of contents, by the list of IEEE 802 numbers.
+const IPV4: u16 = 0x0800;
+const IPV6: u16 = 0x86dd;
+const CUSTOMER_TAG: u16 = 0x8100;
+const SERVICE_TAG: u16 = 0x88a8;
+
+/// Where the type may stand: behind the two addresses, or behind one or two tags of four bytes.
+const TYPE_PLACES: [usize; 3] = [12, 16, 20];
+const TYPE_LEN: usize = 2;
+
+/// The type of what a frame holds (IEEE 802 numbers), and the content itself: a slice of the
+/// frame. Up to two tags (IEEE 802.1Q) are passed. A raw frame holds the version of IP that its
+/// first four bits say.
+///
+/// `None` where the frame ends before its type, has a third tag, is raw and has other first bits
+/// or is empty, and at a link type other than 1 (Ethernet) and 101 (raw IP).
+pub fn content<'a>(link: u16, frame: &'a [u8]) -> Option<(u16, &'a [u8])>
+    ensures { MatchOption result (content_of link frame.now ≡ None)
+        (λ found. content_of link frame.now ≡ Some (found.0, found.1.now)) }
+{
+    match link {
+        ETHERNET => in_ethernet(frame),
+        RAW => in_raw(frame),
+        _ => None,
+    }
+}
+
+/// The IPv4 packet that a frame holds with what follows it there: the content of type 0x0800.
+pub fn ip_part<'a>(link: u16, frame: &'a [u8]) -> Option<&'a [u8]>
+    ensures { MatchOption result (ip_part_of link frame.now ≡ None)
+        (λ part. ip_part_of link frame.now ≡ Some part.now) }
+{
+    match content(link, frame) {
+        Some((IPV4, part)) => Some(part),
+        _ => None,
+    }
+}
+
+fn in_ethernet<'a>(frame: &'a [u8]) -> Option<(u16, &'a [u8])>
+    ensures { MatchOption result (ethernet_content frame.now ≡ None)
+        (λ found. ethernet_content frame.now ≡ Some (found.0, found.1.now)) }
+{
+    for place in TYPE_PLACES {
+        let (kind, content) = type_and_rest(frame, place)?;
+        if !is_tag_type(kind) {
+            return Some((kind, content));
+        }
+    }
+    None
+}
+
+/// The type at a place and what stands behind it, `None` where the frame ends before that.
+fn type_and_rest<'a>(frame: &'a [u8], place: usize) -> Option<(u16, &'a [u8])>
+    requires { place < 2 ^ 32 }
+    ensures { MatchOption result (length frame.now < place + 2)
+        (λ found. (place + 2 ≤ length frame.now) × (found.0 ≡ type_at frame.now place) × (found.1.now ≡ drop (place + 2) frame.now)) }
+{
+    let end = place + TYPE_LEN;
+    if frame.len() < end {
+        return None;
+    }
+    Some((BigEndian::read_u16(&frame[place..]), &frame[end..]))
+}
+
+fn is_tag_type(kind: u16) -> bool
+    ensures { result ≡ is_tag kind }
+{
+    kind == CUSTOMER_TAG || kind == SERVICE_TAG
+}
+
+fn in_raw<'a>(frame: &'a [u8]) -> Option<(u16, &'a [u8])>
+    ensures { MatchOption result (raw_content frame.now ≡ None)
+        (λ found. raw_content frame.now ≡ Some (found.0, found.1.now)) }
+{
+    let first = frame.first()?;
+    match first >> 4 {
+        4 => Some((IPV4, frame)),
+        6 => Some((IPV6, frame)),
+        _ => None,
+    }
+}

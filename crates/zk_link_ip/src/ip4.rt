@@ -1,0 +1,190 @@
+ghost use Rattle.std.specs.Prelude.{◌≡◌, ◌≤◌, ◌<◌, ◌^◌, length, false};
+ghost use Rattle.zk_link_ip.specs.Ip4.{destination, flags_and_offset, full_len, header_len, identification, ip4_of, more, offset, payload, protocol, source, total_length, was_cut};
+
+use byteorder::{BigEndian, ByteOrder};
+use std::marker::Model;
+use thiserror::Error;
+use zk_base::{Addr, is_right, word_sum};
+
+/// Why bytes begin with no IPv4 packet: the first fault that holds, in this order.
+#[derive(Clone, Copy, Debug, PartialEq, Eq, Error)]
+pub enum IpFault {
+    /// There are fewer than 20 bytes, the least header.
+    #[error("fewer bytes than an IPv4 header has")]
+    Short,
+    /// The version is not 4.
+    #[error("the version is not 4")]
+    NotFour,
+    /// The header's length is below five words, or passes the bytes.
+    #[error("the header's length is below five words or passes the bytes")]
+    Ihl,
+    /// The total length is not 0 and below the header's.
+    #[error("the total length is below the header's")]
+    Total,
+    /// The header's checksum was asked for and is wrong.
+    #[error("the header's checksum is wrong")]
+    Checksum,
+}
+
+/// Places of a header's fields (RFC 791, section 3.1).
+const VERSION_AND_IHL: usize = 0;
+const TOTAL_LENGTH: usize = 2;
+const IDENTIFICATION: usize = 4;
+const FLAGS_AND_FRAGMENT_OFFSET: usize = 6;
+const PROTOCOL: usize = 9;
+const SOURCE_ADDRESS: usize = 12;
+const DESTINATION_ADDRESS: usize = 16;
+
+/// The least header, in bytes, and in words of 32 bits.
+const LEAST_HEADER: usize = 20;
+const LEAST_IHL: usize = 5;
+const WORD: usize = 4;
+
+const MORE_FRAGMENTS: u16 = 0x2000;
+const FRAGMENT_OFFSET: u16 = 0x1fff;
+
+/// What a total length can say at most, in bytes.
+const GREATEST_PACKET: usize = 65_535;
+
+/// An IPv4 packet at the front of bytes of a frame. Contracts see it as the list of these bytes,
+/// padding among them.
+#[derive(Debug, Drop)]
+pub struct Ip4<'a> {
+    bytes: &'a [u8],
+}
+
+impl<'a> Model for Ip4<'a> {
+    ghost use Rattle.std.specs.Prelude.{List, ℕ};
+    ghost use Rattle.zk_link_ip.specs.Ip4.{HasHeader};
+
+    ghost Value = { List ℕ };
+
+    ghost view = { λ packet. packet.bytes.now };
+
+    ghost invariant = { λ packet. HasHeader packet.bytes.now };
+}
+
+impl<'a> Ip4<'a> {
+    /// The packet at the front of `bytes`, its header judged once: afterwards no accessor can
+    /// fail. `check` asks for the header's checksum.
+    pub fn read(bytes: &'a [u8], check: bool) -> Result<Ip4<'a>, IpFault>
+        ensures { result ≡ ip4_of bytes.now check }
+    {
+        if bytes.len() < LEAST_HEADER {
+            return Err(IpFault::Short);
+        }
+        let first = bytes[VERSION_AND_IHL];
+        if first >> 4 != 4 {
+            return Err(IpFault::NotFour);
+        }
+        let ihl = usize::from(first & 0x0f);
+        let header_len = WORD * ihl;
+        if ihl < LEAST_IHL || bytes.len() < header_len {
+            return Err(IpFault::Ihl);
+        }
+        let total_length = usize::from(BigEndian::read_u16(&bytes[TOTAL_LENGTH..]));
+        if total_length != 0 && total_length < header_len {
+            return Err(IpFault::Total);
+        }
+        if check && !is_right(word_sum(&bytes[..header_len])) {
+            return Err(IpFault::Checksum);
+        }
+        Ok(Ip4 { bytes })
+    }
+
+    pub fn src(&self) -> Addr
+        ensures { result ≡ source self.now }
+    {
+        Addr::V4(BigEndian::read_u32(&self.bytes[SOURCE_ADDRESS..]))
+    }
+
+    pub fn dst(&self) -> Addr
+        ensures { result ≡ destination self.now }
+    {
+        Addr::V4(BigEndian::read_u32(&self.bytes[DESTINATION_ADDRESS..]))
+    }
+
+    /// The number of the protocol of the payload (IANA's list of protocol numbers).
+    pub fn protocol(&self) -> u8
+        ensures { result ≡ protocol self.now }
+    {
+        self.bytes[PROTOCOL]
+    }
+
+    /// What the fragments of one datagram have in common.
+    pub fn identification(&self) -> u16
+        ensures { result ≡ identification self.now }
+    {
+        BigEndian::read_u16(&self.bytes[IDENTIFICATION..])
+    }
+
+    /// Whether more fragments of the datagram follow (the flag MF).
+    pub fn more(&self) -> bool
+        ensures { result ≡ more self.now }
+    {
+        self.flags_and_offset() & MORE_FRAGMENTS != 0
+    }
+
+    /// Where the payload stands in the datagram, in units of 8 bytes.
+    pub fn offset(&self) -> u16
+        ensures place { result ≡ offset self.now }
+        ensures bound { result < 2 ^ 13 }
+    {
+        self.flags_and_offset() & FRAGMENT_OFFSET
+    }
+
+    /// The length of the header in bytes.
+    pub fn header_len(&self) -> usize
+        ensures value { result ≡ header_len self.now }
+        ensures least { 20 ≤ result }
+        ensures within { result ≤ length self.now }
+    {
+        WORD * usize::from(self.bytes[VERSION_AND_IHL] & 0x0f)
+    }
+
+    /// The payload's length by the total length, in bytes. Where that is 0 the packet ends with
+    /// the bytes, at the latest after 65,535.
+    pub fn full_len(&self) -> usize
+        ensures value { result ≡ full_len self.now }
+        ensures bound { result ≤ 65535 }
+    {
+        let total_length = self.total_length();
+        let packet_len = if total_length == 0 {
+            self.bytes.len().min(GREATEST_PACKET)
+        } else {
+            total_length
+        };
+        packet_len - self.header_len()
+    }
+
+    /// Whether the total length passes the bytes.
+    pub fn was_cut(&self) -> bool
+        ensures { result ≡ was_cut self.now }
+    {
+        self.bytes.len() < self.total_length()
+    }
+
+    /// What is there of the payload: a slice of the bytes that were read. What stands behind the
+    /// packet is padding, and left out.
+    pub fn payload(&self) -> &'a [u8]
+        ensures value { result.now ≡ payload self.now }
+        ensures bound { length result.now ≤ full_len self.now }
+        ensures whole { was_cut self.now ≡ false → length result.now ≡ full_len self.now }
+    {
+        let behind = &self.bytes[self.header_len()..];
+        &behind[..self.full_len().min(behind.len())]
+    }
+
+    fn total_length(&self) -> usize
+        ensures value { result ≡ total_length self.now }
+        ensures bound { result ≤ 65535 }
+    {
+        usize::from(BigEndian::read_u16(&self.bytes[TOTAL_LENGTH..]))
+    }
+
+    fn flags_and_offset(&self) -> u16
+        ensures { result ≡ flags_and_offset self.now }
+    {
+        BigEndian::read_u16(&self.bytes[FLAGS_AND_FRAGMENT_OFFSET..])
+    }
+}

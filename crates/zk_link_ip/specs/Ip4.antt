@@ -1,5 +1,5 @@
 -- An IPv4 packet (RFC 791, section 3.1), by the places of its header's fields.
-use Rattle.std.specs.Prelude.{◌≡◌, ◌≢◌, ◌≤◌, ℕ, ◌+◌, ◌-◌, ◌*◌, ◌/◌, ◌%◌, ◌^◌, Bool, ◌==◌, ◌&&◌, ◌||◌, not, nat_lt, min, if◌then◌else◌, List, length, take, drop, sum, slice_index, Result, Ok, Err}
+use Rattle.std.specs.Prelude.{◌≢◌, ◌≤◌, ℕ, ◌-◌, ◌*◌, ◌/◌, ◌%◌, ◌^◌, Bool, ◌==◌, ◌&&◌, ◌||◌, not, nat_lt, min, if◌then◌else◌, List, length, take, drop, sum, slice_index, Result, Ok, Err}
 use Rattle.byteorder.specs.Endian.{big_number}
 use Rattle.zk_base.specs.Checksum.{words, folded}
 use Rattle.zk_base.specs.declared.network.Addr.{Addr}
@@ -44,7 +44,7 @@ source bytes = V4 (big_number 4 (drop 12 bytes))
 abbrev pub destination : List ℕ → Addr
 destination bytes = V4 (big_number 4 (drop 16 bytes))
 
--- where the packet ends: at its total length, or where that is 0 with the bytes, but after 65,535 of them at the latest
+-- where the packet ends: at its total length, or where that is 0 with the bytes, after 65,535 of them at the latest
 abbrev pub packet_len : List ℕ → ℕ
 packet_len bytes = if total_length bytes == 0 then min (length bytes) 65535 else total_length bytes
 

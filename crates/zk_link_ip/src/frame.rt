@@ -5,24 +5,29 @@ use byteorder::{BigEndian, ByteOrder};
 
 /// Link types of captures, by the capture format's list: Ethernet, and IP with nothing before it.
 const ETHERNET: u16 = 1;
+
 const RAW: u16 = 101;
 
-/// Types of contents, by the list of IEEE 802 numbers.
+/// Types of contents and of tags, by the list of IEEE 802 numbers.
 const IPV4: u16 = 0x0800;
+
 const IPV6: u16 = 0x86dd;
+
 const CUSTOMER_TAG: u16 = 0x8100;
+
 const SERVICE_TAG: u16 = 0x88a8;
 
 /// Where the type may stand: behind the two addresses, or behind one or two tags of four bytes.
 const TYPE_PLACES: [usize; 3] = [12, 16, 20];
+
 const TYPE_LEN: usize = 2;
 
-/// The type of what a frame holds (IEEE 802 numbers), and the content itself: a slice of the
+/// The type of what a frame holds (IEEE 802 numbers), and the content itself, a slice of the
 /// frame. Up to two tags (IEEE 802.1Q) are passed. A raw frame holds the version of IP that its
 /// first four bits say.
 ///
-/// `None` where the frame ends before its type, has a third tag, is raw and has other first bits
-/// or is empty, and at a link type other than 1 (Ethernet) and 101 (raw IP).
+/// `None` exactly where the frame ends before its type, a third tag follows, a raw frame is empty
+/// or has other first bits, or the link type is neither 1 (Ethernet) nor 101 (raw IP).
 pub fn content<'a>(link: u16, frame: &'a [u8]) -> Option<(u16, &'a [u8])>
     ensures { MatchOption result (content_of link frame.now ≡ None)
         (λ found. content_of link frame.now ≡ Some (found.0, found.1.now)) }
@@ -50,9 +55,9 @@ fn in_ethernet<'a>(frame: &'a [u8]) -> Option<(u16, &'a [u8])>
         (λ found. ethernet_content frame.now ≡ Some (found.0, found.1.now)) }
 {
     for place in TYPE_PLACES {
-        let (kind, content) = type_and_rest(frame, place)?;
-        if !is_tag_type(kind) {
-            return Some((kind, content));
+        let (ether_type, content) = type_and_rest(frame, place)?;
+        if !is_tag_type(ether_type) {
+            return Some((ether_type, content));
         }
     }
     None
@@ -62,7 +67,8 @@ fn in_ethernet<'a>(frame: &'a [u8]) -> Option<(u16, &'a [u8])>
 fn type_and_rest<'a>(frame: &'a [u8], place: usize) -> Option<(u16, &'a [u8])>
     requires { place < 2 ^ 32 }
     ensures { MatchOption result (length frame.now < place + 2)
-        (λ found. (place + 2 ≤ length frame.now) × (found.0 ≡ type_at frame.now place) × (found.1.now ≡ drop (place + 2) frame.now)) }
+        (λ found. (place + 2 ≤ length frame.now) × (found.0 ≡ type_at frame.now place)
+        × (found.1.now ≡ drop (place + 2) frame.now)) }
 {
     let end = place + TYPE_LEN;
     if frame.len() < end {
@@ -71,10 +77,10 @@ fn type_and_rest<'a>(frame: &'a [u8], place: usize) -> Option<(u16, &'a [u8])>
     Some((BigEndian::read_u16(&frame[place..]), &frame[end..]))
 }
 
-fn is_tag_type(kind: u16) -> bool
-    ensures { result ≡ is_tag kind }
+fn is_tag_type(ether_type: u16) -> bool
+    ensures { result ≡ is_tag ether_type }
 {
-    kind == CUSTOMER_TAG || kind == SERVICE_TAG
+    ether_type == CUSTOMER_TAG || ether_type == SERVICE_TAG
 }
 
 fn in_raw<'a>(frame: &'a [u8]) -> Option<(u16, &'a [u8])>

@@ -1,4 +1,4 @@
-ghost use Rattle.std.specs.Prelude.{◌≡◌, ◌≤◌, ◌<◌, ◌^◌, length, false};
+ghost use Rattle.std.specs.Prelude.{◌≡◌, ◌≤◌, ◌<◌, ◌^◌, length, false, IfOk};
 ghost use Rattle.zk_link_ip.specs.Ip4.{destination, flags_and_offset, full_len, header_len, identification, ip4_of, more, offset, payload, protocol, source, total_length, was_cut};
 
 use byteorder::{BigEndian, ByteOrder};
@@ -28,19 +28,28 @@ pub enum IpFault {
 
 /// Places of a header's fields (RFC 791, section 3.1).
 const VERSION_AND_IHL: usize = 0;
+
 const TOTAL_LENGTH: usize = 2;
+
 const IDENTIFICATION: usize = 4;
+
 const FLAGS_AND_FRAGMENT_OFFSET: usize = 6;
+
 const PROTOCOL: usize = 9;
+
 const SOURCE_ADDRESS: usize = 12;
+
 const DESTINATION_ADDRESS: usize = 16;
 
 /// The least header, in bytes, and in words of 32 bits.
 const LEAST_HEADER: usize = 20;
+
 const LEAST_IHL: usize = 5;
+
 const WORD: usize = 4;
 
 const MORE_FRAGMENTS: u16 = 0x2000;
+
 const FRAGMENT_OFFSET: u16 = 0x1fff;
 
 /// What a total length can say at most, in bytes.
@@ -68,7 +77,8 @@ impl<'a> Ip4<'a> {
     /// The packet at the front of `bytes`, its header judged once: afterwards no accessor can
     /// fail. `check` asks for the header's checksum.
     pub fn read(bytes: &'a [u8], check: bool) -> Result<Ip4<'a>, IpFault>
-        ensures { result ≡ ip4_of bytes.now check }
+        ensures exact { result ≡ ip4_of bytes.now check }
+        ensures whole { IfOk result (λ packet. packet ≡ bytes.now) }
     {
         if bytes.len() < LEAST_HEADER {
             return Err(IpFault::Short);
@@ -92,12 +102,14 @@ impl<'a> Ip4<'a> {
         Ok(Ip4 { bytes })
     }
 
+    /// The source address.
     pub fn src(&self) -> Addr
         ensures { result ≡ source self.now }
     {
         Addr::V4(BigEndian::read_u32(&self.bytes[SOURCE_ADDRESS..]))
     }
 
+    /// The destination address.
     pub fn dst(&self) -> Addr
         ensures { result ≡ destination self.now }
     {
@@ -164,8 +176,19 @@ impl<'a> Ip4<'a> {
         self.bytes.len() < self.total_length()
     }
 
-    /// What is there of the payload: a slice of the bytes that were read. What stands behind the
+    /// What is there of the payload, a slice of the bytes that were read. What stands behind the
     /// packet is padding, and left out.
+    ///
+    /// The slice outlives the packet, and not the bytes. So this does not compile: `frame` is
+    /// borrowed past its end.
+    ///
+    /// ```text
+    /// fn payload_of_a_local_frame<'a>() -> Option<&'a [u8]> {
+    ///     let frame = [0u8; 60];
+    ///     let packet = Ip4::read(&frame, false).ok()?;
+    ///     Some(packet.payload())
+    /// }
+    /// ```
     pub fn payload(&self) -> &'a [u8]
         ensures value { result.now ≡ payload self.now }
         ensures bound { length result.now ≤ full_len self.now }

@@ -1,4 +1,4 @@
-use Rattle.std.proofs.Common.{◌≡◌, ℕ, ◌*◌, ◌/◌, ◌%◌, ◌^◌, Bool, nat_eq, not, bit_and, arith}
+use Rattle.std.proofs.Common.{arith}
 use Rattle.std.proofs.lemmas.Nat.Bits.{and_pow}
 use Rattle.zk_link_ip.proofs.ip4.Ip4.more.Goals as goal
 

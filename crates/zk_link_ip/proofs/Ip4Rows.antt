@@ -1,7 +1,8 @@
 -- Headers that show what the definitions of `Ip4` say.
 use Rattle.std.proofs.Common.{◌≡◌, ℕ, List, [], ◌∷◌, ◌++◌, true, false, Ok, Err, refl}
 use Rattle.zk_base.specs.Checksum.{folded}
-use Rattle.zk_link_ip.specs.Ip4.{ip4_of, identification, more, offset, protocol, full_len, was_cut, payload}
+use Rattle.zk_base.specs.declared.network.Addr.TheVariants.{V4}
+use Rattle.zk_link_ip.specs.Ip4.{ip4_of, identification, more, offset, protocol, source, destination, full_len, was_cut, payload}
 use Rattle.zk_link_ip.specs.declared.ip4.IpFault.TheVariants.{Short, NotFour, Ihl, Total, Checksum}
 
 -- a header of UDP with its first byte, total length and checksum left open
@@ -15,6 +16,14 @@ right = refl
 right-protocol : protocol (header 0x45 0x73 0x61) ≡ 17
 unfolding header
 right-protocol = refl
+
+right-source : source (header 0x45 0x73 0x61) ≡ V4 0xc0a80001
+unfolding header
+right-source = refl
+
+right-destination : destination (header 0x45 0x73 0x61) ≡ V4 0xc0a800c7
+unfolding header
+right-destination = refl
 
 right-full_len : full_len (header 0x45 0x73 0x61) ≡ 95
 unfolding header

@@ -3,12 +3,14 @@ ghost use Rattle.zk_link_ip.specs.Frame.{content_of, ethernet_content, ip_part_o
 
 use byteorder::{BigEndian, ByteOrder};
 
-/// Link types of captures, by the capture format's list: Ethernet, and IP with nothing before it.
+// Link types, by the capture format's list: Ethernet, and IP with nothing before it.
+
 const ETHERNET: u16 = 1;
 
 const RAW: u16 = 101;
 
-/// Types of contents and of tags, by the list of IEEE 802 numbers.
+// Types of contents and of tags, by the list of IEEE 802 numbers.
+
 const IPV4: u16 = 0x0800;
 
 const IPV6: u16 = 0x86dd;
@@ -20,6 +22,7 @@ const SERVICE_TAG: u16 = 0x88a8;
 /// Where the type may stand: behind the two addresses, or behind one or two tags of four bytes.
 const TYPE_PLACES: [usize; 3] = [12, 16, 20];
 
+/// The bytes of a type.
 const TYPE_LEN: usize = 2;
 
 /// The type of what a frame holds (IEEE 802 numbers), and the content itself, a slice of the

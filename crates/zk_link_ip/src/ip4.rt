@@ -26,7 +26,8 @@ pub enum IpFault {
     Checksum,
 }
 
-/// Places of a header's fields (RFC 791, section 3.1).
+// Places of a header's fields (RFC 791, section 3.1).
+
 const VERSION_AND_IHL: usize = 0;
 
 const TOTAL_LENGTH: usize = 2;
@@ -41,18 +42,20 @@ const SOURCE_ADDRESS: usize = 12;
 
 const DESTINATION_ADDRESS: usize = 16;
 
-/// The least header, in bytes, and in words of 32 bits.
-const LEAST_HEADER: usize = 20;
-
-const LEAST_IHL: usize = 5;
-
-const WORD: usize = 4;
-
+/// The flag MF, and the bits of the offset, in the field that holds both.
 const MORE_FRAGMENTS: u16 = 0x2000;
 
 const FRAGMENT_OFFSET: u16 = 0x1fff;
 
-/// What a total length can say at most, in bytes.
+/// The bytes of a word, in which IHL counts.
+const WORD: usize = 4;
+
+const LEAST_IHL: usize = 5;
+
+/// The bytes of a header without options.
+const LEAST_HEADER: usize = 20;
+
+/// The greatest total length, in bytes.
 const GREATEST_PACKET: usize = 65_535;
 
 /// An IPv4 packet at the front of bytes of a frame. Contracts see it as the list of these bytes,

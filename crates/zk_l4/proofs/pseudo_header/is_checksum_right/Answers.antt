@@ -1,0 +1,16 @@
+use Rattle.std.proofs.Common.{◌≡◌, ◌==◌, ℕ, ◌+◌, ◌<◌, ◌++◌, length, sum, ap, ◌∙◌, arith}
+use Rattle.std.proofs.lemmas.Bool.Decides.{same_from_decides, Decides-eqb}
+use Rattle.zk_base.specs.Checksum.{words, folded}
+use Rattle.zk_l4.specs.PseudoHeader.{pseudo_header}
+use Rattle.zk_l4.proofs.PseudoHeaderLemmas.{sum_words-pseudo_header}
+use Rattle.zk_l4.proofs.pseudo_header.is_checksum_right.Goals as goal
+
+pub returns : goal.returns
+returns c =
+    let datagram = c.args.datagram.now in
+    let len : ℕ = length datagram in
+    let small : len < 65536 = omega arith in
+    let total : ℕ = c.address_sum.result + c.address_sum-2.result + c.from.result + len + c.word_sum.result in
+    let all : total ≡ sum (words (pseudo_header c.args.src c.args.dst c.args.protocol len ++ datagram)) =
+        omega (arith, sum_words-pseudo_header c.args.src c.args.dst c.args.protocol len datagram small) in
+    same_from_decides _ _ c.is_right.ensures.value (Decides-eqb (folded total) 0xffff) ∙ ap (λ n. folded n == 0xffff) all

@@ -1,0 +1,1 @@
+-- Datagrams of which other programs say what they are.

@@ -1,1 +1,2 @@
 pub mod PseudoHeaderLemmas
+pub mod Rows

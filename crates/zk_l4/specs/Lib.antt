@@ -1,5 +1,4 @@
 pub mod PseudoHeader
-pub mod Rows
 pub mod Slices
 pub mod Tcp
 pub mod Udp

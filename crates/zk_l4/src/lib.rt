@@ -5,6 +5,8 @@ mod fault;
 pub mod flags;
 mod pseudo_header;
 mod tcp;
+#[cfg(test)]
+mod tests;
 mod udp;
 
 pub use fault::L4Fault;

@@ -14,10 +14,15 @@ const LEAST_HEADER: usize = 20;
 
 // The places of the header's fields.
 const SOURCE_PORT: usize = 0;
+
 const DESTINATION_PORT: usize = 2;
+
 const SEQUENCE_NUMBER: usize = 4;
+
 const ACKNOWLEDGMENT_NUMBER: usize = 8;
+
 const DATA_OFFSET: usize = 12;
+
 const CONTROL_BITS: usize = 13;
 
 /// A TCP segment, or the part of it that was captured (RFC 9293 3.1).

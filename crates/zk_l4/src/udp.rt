@@ -14,8 +14,11 @@ const HEADER: usize = 8;
 
 // The places of the header's fields.
 const SOURCE_PORT: usize = 0;
+
 const DESTINATION_PORT: usize = 2;
+
 const LENGTH: usize = 4;
+
 const CHECKSUM: usize = 6;
 
 /// A UDP datagram, or the part of it that was captured (RFC 768).

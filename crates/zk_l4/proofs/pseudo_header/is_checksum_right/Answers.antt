@@ -12,5 +12,5 @@ returns c =
     let small : len < 65536 = omega arith in
     let total : ℕ = c.address_sum.result + c.address_sum-2.result + c.from.result + len + c.word_sum.result in
     let all : total ≡ sum (words (pseudo_header c.args.src c.args.dst c.args.protocol len ++ datagram)) =
-        omega (arith, sum_words-pseudo_header c.args.src c.args.dst c.args.protocol len datagram small) in
+    omega (arith, sum_words-pseudo_header c.args.src c.args.dst c.args.protocol len datagram small) in
     same_from_decides _ _ c.is_right.ensures.value (Decides-eqb (folded total) 0xffff) ∙ ap (λ n. folded n == 0xffff) all

@@ -1,1 +1,0 @@
--- Datagrams of which other programs say what they are.

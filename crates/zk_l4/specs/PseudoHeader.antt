@@ -26,6 +26,6 @@ abbrev pub pseudo_header : Addr → Addr → ℕ → ℕ → List ℕ
 pseudo_header src dst protocol len = address_bytes src ++ (address_bytes dst ++ protocol_and_length src protocol len)
 
 -- the one's complement sum over the pseudo header and the datagram, its checksum field among them, is all ones (RFC 1071 1)
-abbrev pub has_right_checksum : Addr → Addr → ℕ → List ℕ → Bool
+unfoldable pub has_right_checksum : Addr → Addr → ℕ → List ℕ → Bool
 has_right_checksum src dst protocol datagram =
     folded (sum (words (pseudo_header src dst protocol (length datagram) ++ datagram))) == 0xffff

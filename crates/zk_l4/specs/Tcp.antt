@@ -6,26 +6,26 @@ use Rattle.zk_l4.specs.PseudoHeader.{has_right_checksum}
 use Rattle.zk_l4.specs.declared.fault.L4Fault.{L4Fault}
 use Rattle.zk_l4.specs.declared.fault.L4Fault.TheVariants.{Short, Offset, Checksum}
 
-abbrev pub source_port : List ℕ → ℕ
+unfoldable pub source_port : List ℕ → ℕ
 source_port bytes = big_number 2 bytes
 
-abbrev pub destination_port : List ℕ → ℕ
+unfoldable pub destination_port : List ℕ → ℕ
 destination_port bytes = big_number 2 (drop 2 bytes)
 
-abbrev pub sequence_number : List ℕ → ℕ
+unfoldable pub sequence_number : List ℕ → ℕ
 sequence_number bytes = big_number 4 (drop 4 bytes)
 
-abbrev pub acknowledgment_number : List ℕ → ℕ
+unfoldable pub acknowledgment_number : List ℕ → ℕ
 acknowledgment_number bytes = big_number 4 (drop 8 bytes)
 
 -- the header's length in words of 32 bits, options among them: the high half of its byte
-abbrev pub data_offset : List ℕ → ℕ
+unfoldable pub data_offset : List ℕ → ℕ
 data_offset bytes = slice_index bytes 12 / 16
 
 abbrev pub header_length : List ℕ → ℕ
 header_length bytes = 4 * data_offset bytes
 
-abbrev pub control_bits : List ℕ → ℕ
+unfoldable pub control_bits : List ℕ → ℕ
 control_bits bytes = slice_index bytes 13
 
 abbrev pub payload : List ℕ → List ℕ
@@ -40,7 +40,7 @@ abbrev pub is_judged : List ℕ → ℕ → Bool → Bool
 is_judged bytes full check = check && (length bytes == full)
 
 -- the first fault of a segment between two hosts: its captured bytes, its full length, and whether checksums are asked for
-abbrev pub tcp_fault : Addr → Addr → List ℕ → ℕ → Bool → Option L4Fault
+unfoldable pub tcp_fault : Addr → Addr → List ℕ → ℕ → Bool → Option L4Fault
 tcp_fault src dst bytes full check =
     if nat_lt (length bytes) 20 then Some Short
     else if nat_lt (data_offset bytes) 5 || nat_lt (length bytes) (header_length bytes) then Some Offset

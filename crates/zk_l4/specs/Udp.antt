@@ -6,18 +6,18 @@ use Rattle.zk_l4.specs.PseudoHeader.{has_right_checksum}
 use Rattle.zk_l4.specs.declared.fault.L4Fault.{L4Fault}
 use Rattle.zk_l4.specs.declared.fault.L4Fault.TheVariants.{Short, Length, Checksum}
 
-abbrev pub source_port : List ℕ → ℕ
+unfoldable pub source_port : List ℕ → ℕ
 source_port bytes = big_number 2 bytes
 
-abbrev pub destination_port : List ℕ → ℕ
+unfoldable pub destination_port : List ℕ → ℕ
 destination_port bytes = big_number 2 (drop 2 bytes)
 
 -- the bytes of header and payload
-abbrev pub length_field : List ℕ → ℕ
+unfoldable pub length_field : List ℕ → ℕ
 length_field bytes = big_number 2 (drop 4 bytes)
 
 -- 0 where the sender computed none
-abbrev pub checksum_field : List ℕ → ℕ
+unfoldable pub checksum_field : List ℕ → ℕ
 checksum_field bytes = big_number 2 (drop 6 bytes)
 
 -- what was captured of the payload; bytes past the length field are not part of the datagram
@@ -33,7 +33,7 @@ abbrev pub is_judged : List ℕ → Bool → Bool
 is_judged bytes check = check && (not (checksum_field bytes == 0) && nat_le (length_field bytes) (length bytes))
 
 -- the first fault of a datagram between two hosts: its captured bytes, its length by the IP header, and whether checksums are asked for
-abbrev pub udp_fault : Addr → Addr → List ℕ → ℕ → Bool → Option L4Fault
+unfoldable pub udp_fault : Addr → Addr → List ℕ → ℕ → Bool → Option L4Fault
 udp_fault src dst bytes full check =
     if nat_lt (length bytes) 8 then Some Short
     else if nat_lt (length_field bytes) 8 || nat_lt full (length_field bytes) then Some Length

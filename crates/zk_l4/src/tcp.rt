@@ -12,7 +12,7 @@ const PROTOCOL: u8 = 6;
 /// The length of a header without options.
 const LEAST_HEADER: usize = 20;
 
-// The places of the header's fields.
+// Where the header's fields begin, in bytes.
 const SOURCE_PORT: usize = 0;
 
 const DESTINATION_PORT: usize = 2;
@@ -46,6 +46,7 @@ impl<'a> Tcp<'a> {
     ///
     /// The checksum is judged where `check` is set and the segment is not cut. The answer is the
     /// first that holds of `Short`, `Offset` and `Checksum`, else the segment.
+    #[tactic(auto, unfolding(crate::specs::Tcp::tcp_fault, crate::specs::Tcp::data_offset))]
     pub fn read(
         src: Addr,
         dst: Addr,
@@ -76,6 +77,7 @@ impl<'a> Tcp<'a> {
     }
 
     /// The port of the sender.
+    #[tactic(auto, unfolding(crate::specs::Tcp::source_port))]
     pub fn src_port(&self) -> u16
         ensures { result ≡ source_port (segment self.now).now }
     {
@@ -83,6 +85,7 @@ impl<'a> Tcp<'a> {
     }
 
     /// The port of the receiver.
+    #[tactic(auto, unfolding(crate::specs::Tcp::destination_port))]
     pub fn dst_port(&self) -> u16
         ensures { result ≡ destination_port (segment self.now).now }
     {
@@ -90,6 +93,7 @@ impl<'a> Tcp<'a> {
     }
 
     /// The sequence number.
+    #[tactic(auto, unfolding(crate::specs::Tcp::sequence_number))]
     pub fn seq(&self) -> u32
         ensures { result ≡ sequence_number (segment self.now).now }
     {
@@ -97,6 +101,7 @@ impl<'a> Tcp<'a> {
     }
 
     /// The acknowledgment number, whether ACK is set or not.
+    #[tactic(auto, unfolding(crate::specs::Tcp::acknowledgment_number))]
     pub fn ack(&self) -> u32
         ensures { result ≡ acknowledgment_number (segment self.now).now }
     {
@@ -104,6 +109,7 @@ impl<'a> Tcp<'a> {
     }
 
     /// The control bits, which [`crate::flags`] names.
+    #[tactic(auto, unfolding(crate::specs::Tcp::control_bits))]
     pub fn flags(&self) -> u8
         ensures { result ≡ control_bits (segment self.now).now }
     {
@@ -128,6 +134,7 @@ impl<'a> Tcp<'a> {
 }
 
 /// The length in bytes of the header, options among them.
+#[tactic(auto, unfolding(crate::specs::Tcp::data_offset))]
 fn header_len(bytes: &[u8]) -> usize
     requires { LEAST_HEADER ≤ length bytes.now }
     ensures { result ≡ header_length bytes.now }

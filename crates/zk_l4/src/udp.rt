@@ -12,7 +12,7 @@ const PROTOCOL: u8 = 17;
 /// The length of the header.
 const HEADER: usize = 8;
 
-// The places of the header's fields.
+// Where the header's fields begin, in bytes.
 const SOURCE_PORT: usize = 0;
 
 const DESTINATION_PORT: usize = 2;
@@ -41,6 +41,7 @@ impl<'a> Udp<'a> {
     /// Bytes past its own length field are not part of it. The checksum is judged where `check` is
     /// set, the sender computed one and the datagram is not cut. The answer is the first that holds
     /// of `Short`, `Length` and `Checksum`, else the datagram.
+    #[tactic(auto, unfolding(crate::specs::Udp::udp_fault))]
     pub fn read(
         src: Addr,
         dst: Addr,
@@ -70,6 +71,7 @@ impl<'a> Udp<'a> {
     }
 
     /// The port of the sender.
+    #[tactic(auto, unfolding(crate::specs::Udp::source_port))]
     pub fn src_port(&self) -> u16
         ensures { result ≡ source_port (datagram self.now).now }
     {
@@ -77,6 +79,7 @@ impl<'a> Udp<'a> {
     }
 
     /// The port of the receiver.
+    #[tactic(auto, unfolding(crate::specs::Udp::destination_port))]
     pub fn dst_port(&self) -> u16
         ensures { result ≡ destination_port (datagram self.now).now }
     {
@@ -101,6 +104,7 @@ impl<'a> Udp<'a> {
 }
 
 /// The length field, in bytes of header and payload.
+#[tactic(auto, unfolding(crate::specs::Udp::length_field))]
 fn length_of(bytes: &[u8]) -> usize
     requires { HEADER ≤ length bytes.now }
     ensures { result ≡ length_field bytes.now }
@@ -109,6 +113,7 @@ fn length_of(bytes: &[u8]) -> usize
 }
 
 /// Whether the sender computed a checksum: a field of 0 says that there is none.
+#[tactic(auto, unfolding(crate::specs::Udp::checksum_field))]
 fn has_checksum(bytes: &[u8]) -> bool
     requires { HEADER ≤ length bytes.now }
     ensures { result ≡ not (checksum_field bytes.now == 0) }

@@ -1,11 +1,12 @@
 use Rattle.std.proofs.Common.{◌≡◌, ◌==◌, ℕ, ◌+◌, ◌<◌, ◌++◌, length, sum, ap, ◌∙◌, arith}
 use Rattle.std.proofs.lemmas.Bool.Decides.{same_from_decides, Decides-eqb}
 use Rattle.zk_base.specs.Checksum.{words, folded}
-use Rattle.zk_l4.specs.PseudoHeader.{pseudo_header}
+use Rattle.zk_l4.specs.PseudoHeader.{has_right_checksum, pseudo_header}
 use Rattle.zk_l4.proofs.PseudoHeaderLemmas.{sum_words-pseudo_header}
 use Rattle.zk_l4.proofs.pseudo_header.is_checksum_right.Goals as goal
 
 pub returns : goal.returns
+unfolding has_right_checksum
 returns c =
     let datagram = c.args.datagram.now in
     let len : ℕ = length datagram in

@@ -33,6 +33,7 @@ pub struct Tcp<'a> {
     ghost holds_least_header: { 20 ≤ length bytes.now },
     ghost holds_header: { header_length bytes.now ≤ length bytes.now },
     ghost within_full: { length bytes.now ≤ full },
+    ghost within_limit: { full ≤ 65535 },
 }
 
 impl<'a> Tcp<'a> {
@@ -118,7 +119,8 @@ impl<'a> Tcp<'a> {
 
     /// The length in bytes of the whole segment's payload, also where less was captured.
     pub fn full_payload(&self) -> usize
-        ensures { result ≡ full_length self.now - header_length (segment self.now).now }
+        ensures value { result ≡ full_length self.now - header_length (segment self.now).now }
+        ensures bound { result ≤ 65535 }
     {
         self.full - header_len(self.bytes)
     }
@@ -127,6 +129,7 @@ impl<'a> Tcp<'a> {
     pub fn payload(&self) -> &'a [u8]
         ensures bytes { result.now ≡ payload (segment self.now).now }
         ensures place { BeginsAt (header_length (segment self.now).now) (segment self.now) result }
+        ensures bound { length result.now ≤ full_length self.now - header_length (segment self.now).now }
     {
         let start = header_len(self.bytes);
         &self.bytes[start..]

@@ -88,7 +88,8 @@ impl<'a> Udp<'a> {
 
     /// The length in bytes of the whole datagram's payload, also where less was captured.
     pub fn full_payload(&self) -> usize
-        ensures { result ≡ length_field (datagram self.now).now - 8 }
+        ensures value { result ≡ length_field (datagram self.now).now - 8 }
+        ensures bound { result ≤ 65535 }
     {
         length_of(self.bytes) - HEADER
     }
@@ -97,6 +98,7 @@ impl<'a> Udp<'a> {
     pub fn payload(&self) -> &'a [u8]
         ensures bytes { result.now ≡ payload (datagram self.now).now }
         ensures place { BeginsAt 8 (datagram self.now) result }
+        ensures bound { length result.now ≤ length_field (datagram self.now).now - 8 }
     {
         let end = length_of(self.bytes).min(self.bytes.len());
         &self.bytes[HEADER..end]
@@ -107,7 +109,8 @@ impl<'a> Udp<'a> {
 #[tactic(auto, unfolding(crate::specs::Udp::length_field))]
 fn length_of(bytes: &[u8]) -> usize
     requires { HEADER ≤ length bytes.now }
-    ensures { result ≡ length_field bytes.now }
+    ensures value { result ≡ length_field bytes.now }
+    ensures bound { result ≤ 65535 }
 {
     BigEndian::read_u16(&bytes[LENGTH..]) as usize
 }

@@ -14,6 +14,7 @@ sum_words-append (x ∷ y ∷ xs) ys even =
     let rest = sum_words-append xs ys (omega (arith, even)) in
     omega (arith, rest, sum_by-cons (λ w. w) (256 * x + y) (words (xs ++ ys)), sum_by-cons (λ w. w) (256 * x + y) (words xs))
 
+-- each piece of a pseudo header has an even length
 address_bytes-even : (address : Addr) → length (address_bytes address) % 2 ≡ 0
 address_bytes-even (V4 address) = refl
 address_bytes-even (V6 address) = refl
@@ -29,12 +30,13 @@ sum_words-protocol_and_length (V4 address) protocol len small = omega arith
 sum_words-protocol_and_length (V6 address) protocol len small = omega arith
 
 -- the sum over three pieces of even length and what follows them, that of the third known
-parts : (a b c rest : List ℕ) (n : ℕ) → length a % 2 ≡ 0 → length b % 2 ≡ 0 → length c % 2 ≡ 0 → sum (words c) ≡ n
+sum_words-pieces : (a b c rest : List ℕ) (n : ℕ) → length a % 2 ≡ 0 → length b % 2 ≡ 0 → length c % 2 ≡ 0 → sum (words c) ≡ n
     → sum (words ((a ++ (b ++ c)) ++ rest)) ≡ sum (words a) + (sum (words b) + n) + sum (words rest)
-parts a b c rest n even_a even_b even_c third =
+sum_words-pieces a b c rest n even_a even_b even_c third =
     let lengths : length (a ++ (b ++ c)) % 2 ≡ 0 = omega (arith, length-append a (b ++ c), length-append b c) in
     omega (arith, third, sum_words-append (a ++ (b ++ c)) rest lengths, sum_words-append a (b ++ c) even_a, sum_words-append b c even_b)
 
+-- the words of a pseudo header are those of the addresses, the protocol and the length, and no more
 pub sum_words-pseudo_header : (src dst : Addr) (protocol len : ℕ) (rest : List ℕ) → len < 65536
     → sum (words (pseudo_header src dst protocol len ++ rest))
     ≡ sum (words (address_bytes src)) + (sum (words (address_bytes dst)) + (protocol + len)) + sum (words rest)
@@ -45,4 +47,4 @@ sum_words-pseudo_header src dst protocol len rest small =
     let even_a : length a % 2 ≡ 0 = address_bytes-even src in
     let even_b : length b % 2 ≡ 0 = address_bytes-even dst in
     let even_c : length c % 2 ≡ 0 = protocol_and_length-even src protocol len in
-    parts a b c rest (protocol + len) even_a even_b even_c (sum_words-protocol_and_length src protocol len small)
+    sum_words-pieces a b c rest (protocol + len) even_a even_b even_c (sum_words-protocol_and_length src protocol len small)

@@ -1,4 +1,4 @@
--- Datagrams and segments whose first fault is known: tcpdump and tshark say of each that they accept whether its checksum is right.
+-- Datagrams and segments with their first fault. What tcpdump and tshark say of their checksums is the same.
 use Rattle.std.specs.Prelude.{◌≡◌, ℕ, List, [], ◌∷◌, true, false, None, Some, refl, take}
 use Rattle.zk_base.specs.Checksum.{folded}
 use Rattle.zk_base.specs.declared.network.Addr.{Addr}

@@ -5,12 +5,14 @@ use Rattle.zk_base.specs.Checksum.{words, folded}
 use Rattle.zk_base.specs.declared.network.Addr.{Addr}
 use Rattle.zk_base.specs.declared.network.Addr.TheVariants.{V4, V6}
 
+-- both addresses are of one version of IP
 abbrev pub IsOneFamily : Addr → Addr → Type 0
 IsOneFamily (V4 src) (V4 dst) = ⊤
 IsOneFamily (V6 src) (V6 dst) = ⊤
 IsOneFamily (V4 src) (V6 dst) = ⊥
 IsOneFamily (V6 src) (V4 dst) = ⊥
 
+-- an address in network order
 abbrev pub address_bytes : Addr → List ℕ
 address_bytes (V4 address) = to_be_bytes w32 address
 address_bytes (V6 address) = to_be_bytes w128 address

@@ -1,6 +1,6 @@
 ghost use Rattle.std.specs.Prelude.{◌≡◌, ◌^◌, ◌<◌, ◌≤◌, length, sum};
 ghost use Rattle.zk_base.specs.Checksum.{words};
-ghost use Rattle.zk_l4.specs.PseudoHeader.{address_bytes, has_right_checksum, protocol_and_length, pseudo_header};
+ghost use Rattle.zk_l4.specs.PseudoHeader.{address_bytes, has_right_checksum};
 
 use zk_base::{Addr, is_right, word_sum};
 

@@ -2,7 +2,8 @@
 use Rattle.std.specs.Prelude.{◌≡◌, ℕ, List, [], ◌∷◌, ◌++◌, pos, Ok, Err, refl}
 use Rattle.zk_pcap.specs.declared.records.Packet.{Packet}
 use Rattle.zk_pcap.specs.declared.captures.CaptureEnding.TheVariants.{Whole, Cut}
-use Rattle.zk_pcap.specs.declared.faults.CaptureFault.TheVariants.{Short}
+use Rattle.zk_pcap.specs.declared.faults.CaptureFault.TheVariants.{Short, Version, Link}
+use Rattle.zk_pcap.specs.Header.{header_of}
 use Rattle.zk_pcap.specs.Capture.{capture_of}
 use Rattle.zk_pcap.specs.NetworkTime.{now}
 
@@ -40,3 +41,27 @@ falling = refl
 -- network time stays at the greater moment
 pub not_falling : now time_falls ≡ record { 0 = pos 5000000 }
 not_falling = refl
+
+-- big-endian numbers and nanoseconds, which are floored
+big_nanoseconds : capture_of (161 ∷ 178 ∷ 60 ∷ 77 ∷ 0 ∷ 2 ∷ 0 ∷ 4 ∷ 0 ∷ 0 ∷ 0 ∷ 0 ∷ 0 ∷ 0 ∷ 0 ∷ 0 ∷ 0 ∷ 4 ∷ 0 ∷ 0 ∷ 0 ∷ 0 ∷ 0 ∷ 1 ∷ 0 ∷ 0 ∷ 0 ∷ 1 ∷ 59 ∷ 154 ∷ 201 ∷ 255 ∷ 0 ∷ 0 ∷ 0 ∷ 0 ∷ 0 ∷ 0 ∷ 0 ∷ 60 ∷ [])
+    ≡ Ok (record {
+      packets = record { moment = record { 0 = pos 1999999 }; orig_len = 60; bytes = []; place = 24 } ∷ [];
+      ending = Whole;
+    })
+big_nanoseconds = refl
+
+-- raw IP with bits above the low 16 of its field, and a fraction of one second and a half
+raw_ip : capture_of (212 ∷ 195 ∷ 178 ∷ 161 ∷ 2 ∷ 0 ∷ 4 ∷ 0 ∷ 0 ∷ 0 ∷ 0 ∷ 0 ∷ 0 ∷ 0 ∷ 0 ∷ 0 ∷ 0 ∷ 0 ∷ 4 ∷ 0 ∷ 101 ∷ 0 ∷ 0 ∷ 16 ∷ 1 ∷ 0 ∷ 0 ∷ 0 ∷ 96 ∷ 227 ∷ 22 ∷ 0 ∷ 0 ∷ 0 ∷ 0 ∷ 0 ∷ 60 ∷ 0 ∷ 0 ∷ 0 ∷ [])
+    ≡ Ok (record {
+      packets = record { moment = record { 0 = pos 2500000 }; orig_len = 60; bytes = []; place = 24 } ∷ [];
+      ending = Whole;
+    })
+raw_ip = refl
+
+-- another link type
+linux_cooked : header_of (212 ∷ 195 ∷ 178 ∷ 161 ∷ 2 ∷ 0 ∷ 4 ∷ 0 ∷ 0 ∷ 0 ∷ 0 ∷ 0 ∷ 0 ∷ 0 ∷ 0 ∷ 0 ∷ 0 ∷ 0 ∷ 4 ∷ 0 ∷ 113 ∷ 0 ∷ 0 ∷ 0 ∷ []) ≡ Err Link
+linux_cooked = refl
+
+-- the version is judged before the length
+old_and_short : header_of (212 ∷ 195 ∷ 178 ∷ 161 ∷ 2 ∷ 0 ∷ 3 ∷ 0 ∷ []) ≡ Err Version
+old_and_short = refl

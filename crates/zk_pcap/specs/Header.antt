@@ -1,12 +1,11 @@
 -- The header of a capture (draft-ietf-opsawg-pcap, section 4): in its 24 bytes stand the magic number,
 -- the two numbers of the version, the zone, the accuracy, the snaplen and the link type.
-use Rattle.std.specs.Prelude.{ℕ, ◌%◌, ◌^◌, Bool, true, false, not, ◌&&◌, ◌||◌, ◌==◌, nat_lt, if◌then◌else◌, List, length, take, drop, Option, Some, None, Result, Ok, Err}
+use Rattle.std.specs.Prelude.{◌≡◌, ◌≤◌, ◌⊎◌, ℕ, ◌%◌, ◌^◌, Bool, true, false, not, ◌&&◌, ◌||◌, ◌==◌, nat_lt, if◌then◌else◌, List, length, take, drop, Option, Some, None, Result, Ok, Err}
 use Rattle.byteorder.specs.Endian.{big_number, little_number}
 use Rattle.zk_pcap.specs.declared.headers.Header.{Header}
 use Rattle.zk_pcap.specs.declared.headers.Form.{Form}
 use Rattle.zk_pcap.specs.declared.faults.CaptureFault.{CaptureFault}
 use Rattle.zk_pcap.specs.declared.faults.CaptureFault.TheVariants.{Short, Magic, Version, Link}
-use Rattle.zk_pcap.specs.Stage.{is_in_stage}
 
 -- The bytes of a file that count.
 abbrev pub counted : List ℕ → List ℕ
@@ -48,21 +47,28 @@ header_by number form bytes =
     else (if not (is_version_2_4 number bytes) then Err Version
     else (if nat_lt (length bytes) 24 then Err (Short (length bytes))
     else (if not (is_link (link_of number bytes)) then Err Link
-    else (if not (is_in_stage form.big form.nano (link_of number bytes)) then Err Link
     else Ok (record {
       big = form.big;
       nano = form.nano;
       snaplen = number 4 (drop 16 bytes);
       link = link_of number bytes;
-    })))))
+    }))))
 
 abbrev pub header_after : Option Form → List ℕ → Result Header CaptureFault
 header_after None bytes = Err Magic
-header_after (Some form) bytes =
-    if not (is_in_stage form.big form.nano 1) then Err Magic
-    else header_by (number_of form.big) form bytes
+header_after (Some form) bytes = header_by (number_of form.big) form bytes
 
 -- the header of a file, or what is wrong with it first
 abbrev pub header_of : List ℕ → Result Header CaptureFault
 header_of bytes =
     if nat_lt (length bytes) 4 then Err (Short (length bytes)) else header_after (form_of bytes) bytes
+
+-- a file begins with this header
+pub record HasHeader (bytes : List ℕ) (header : Header) : Type 0 where
+  pub whole : 24 ≤ length bytes
+  pub magic : number_of header.big 4 bytes ≡ (if header.nano then 0xa1b23c4d else 0xa1b2c3d4)
+  pub major : number_of header.big 2 (drop 4 bytes) ≡ 2
+  pub minor : number_of header.big 2 (drop 6 bytes) ≡ 4
+  pub snaplen : number_of header.big 4 (drop 16 bytes) ≡ header.snaplen
+  pub link : number_of header.big 4 (drop 20 bytes) % 2 ^ 16 ≡ header.link
+  pub known : (header.link ≡ 1) ⊎ (header.link ≡ 101)

@@ -1,5 +1,4 @@
 pub mod CaptureFault
-pub mod Stage
 pub mod Header
 pub mod Record
 pub mod View

@@ -7,7 +7,8 @@ use Rattle.zk_pcap.specs.declared.records.Packet.{Packet}
 abbrev pub later : Moment → Moment → Moment
 later a b = if int_lt a.0 b.0 then b else a
 
--- the network time after these packets, and 0 before the first
+-- The network time after these packets, and 0 before the first. After all packets of a file it is the
+-- moment at which the file ends.
 abbrev pub now : List Packet → Moment
 now packets = fold (λ time packet. later time packet.moment) (record { 0 = pos 0 }) packets
 

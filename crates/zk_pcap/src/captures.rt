@@ -5,6 +5,7 @@ ghost use Rattle.zk_pcap.specs.Capture.{capture_of, UnlessNoMemory, StandBetween
 ghost use Rattle.zk_pcap.specs.NetworkTime.{HasNetworkTime};
 ghost use Rattle.zk_pcap.specs.declared.faults.CaptureFault.TheVariants.{NoMemory};
 
+use crate::headers::HEADER_LEN;
 use crate::records::RecordView;
 use crate::{CaptureFault, Header, Packet};
 use byteorder::{BigEndian, ByteOrder, LittleEndian};
@@ -29,9 +30,6 @@ pub enum CaptureEnding {
 
 /// How many bytes of a file count.
 const COUNTED: usize = 1 << 40;
-
-/// The bytes of a header, behind which the records stand.
-const HEADER: usize = 24;
 
 /// Reads the packets of a capture (draft-ietf-opsawg-pcap). Only the first 2^40 bytes of the file
 /// count. The capture is cut at the first record that isn't whole within them, or whose captured
@@ -70,8 +68,8 @@ fn records_of(
     file: &[u8],
     header: Header,
 ) -> Result<(Vec<Packet>, usize), CaptureFault>
-    requires { HEADER ≤ length file.now }
-    ensures stand { IfOk result (λ found. StandBetween (record_at header file.now) HEADER found.0.items found.1) }
+    requires { HEADER_LEN ≤ length file.now }
+    ensures stand { IfOk result (λ found. StandBetween (record_at header file.now) HEADER_LEN found.0.items found.1) }
     ensures no_more { IfOk result (λ found. record_at header file.now found.1 ≡ None) }
     ensures within { IfOk result (λ found. found.1 ≤ length file.now) }
     ensures err { IfErr result (λ fault. fault ≡ NoMemory) }
@@ -91,14 +89,14 @@ fn records<T: ByteOrder>(
     file: &[u8],
     nano: bool,
 ) -> Result<(Vec<Packet>, usize), CaptureFault>
-    requires { HEADER ≤ length file.now }
-    ensures stand { IfOk result (λ found. StandBetween (record_by T.number_of nano file.now) HEADER found.0.items found.1) }
+    requires { HEADER_LEN ≤ length file.now }
+    ensures stand { IfOk result (λ found. StandBetween (record_by T.number_of nano file.now) HEADER_LEN found.0.items found.1) }
     ensures no_more { IfOk result (λ found. record_by T.number_of nano file.now found.1 ≡ None) }
     ensures within { IfOk result (λ found. found.1 ≤ length file.now) }
     ensures err { IfErr result (λ fault. fault ≡ NoMemory) }
 {
     let mut packets = Vec::new(alloc);
-    let mut place = HEADER;
+    let mut place = HEADER_LEN;
     while let Some(record) = RecordView::read::<T>(file, place, nano) {
         packets.push(record.to_packet(alloc)?)?;
         place = record.end();

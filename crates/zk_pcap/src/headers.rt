@@ -1,6 +1,5 @@
-ghost use Rattle.std.specs.Prelude.{◌≡◌, ◌≤◌, length, OnOk};
-ghost use Rattle.zk_pcap.specs.Header.{counted, form_of, header_by, header_of, is_link};
-ghost use Rattle.zk_pcap.specs.Stage.{is_in_stage};
+ghost use Rattle.std.specs.Prelude.{◌≡◌, ◌≤◌, length, IfOk};
+ghost use Rattle.zk_pcap.specs.Header.{counted, form_of, header_by, header_of, is_link, HasHeader};
 ghost use Rattle.zk_pcap.specs.declared.faults.CaptureFault.TheVariants.{Short};
 
 use crate::CaptureFault;
@@ -26,10 +25,26 @@ struct Form {
     nano: bool,
 }
 
+/// How many bytes a header has.
+pub(crate) const HEADER_LEN: usize = 24;
+
+// Where the fields stand in a header.
+const MAJOR: usize = 4;
+
+const MINOR: usize = 6;
+
+const ZONE: usize = 8;
+
+const SNAPLEN: usize = 16;
+
+const LINK: usize = 20;
+
+// The magic numbers, by the fractions of a second.
 const MICROSECONDS: u32 = 0xa1b2_c3d4;
 
 const NANOSECONDS: u32 = 0xa1b2_3c4d;
 
+// The link types that are read.
 const ETHERNET: u16 = 1;
 
 const RAW_IP: u16 = 101;
@@ -41,19 +56,27 @@ impl Header {
     #[tactic(auto, using(crate::proofs::HeaderLemmas::header_of_counted))]
     pub fn read(bytes: &[u8]) -> Result<Header, CaptureFault>
         ensures exact { result ≡ header_of bytes.now }
-        ensures long { OnOk result (24 ≤ length bytes.now) }
+        // What is read is the header, and no header is refused.
+        ensures found { IfOk result (λ header. HasHeader bytes.now header) }
+        ensures only { (header : Header) → HasHeader bytes.now header → result ≡ Ok header }
         // Only the first 2 ^ 40 bytes of a file count.
         ensures counted { header_of bytes.now ≡ header_of (counted bytes.now) }
     {
-        if bytes.len() < 4 {
-            return Err(short(bytes));
-        }
-        match Form::read(bytes) {
-            None => Err(CaptureFault::Magic),
-            Some(form) if !is_in_stage(form.big, form.nano, ETHERNET) => Err(CaptureFault::Magic),
-            Some(form) if form.big => form.header::<BigEndian>(bytes),
-            Some(form) => form.header::<LittleEndian>(bytes),
-        }
+        judged(bytes)
+    }
+}
+
+/// The header at the front, or the first fault from the left.
+fn judged(bytes: &[u8]) -> Result<Header, CaptureFault>
+    ensures { result ≡ header_of bytes.now }
+{
+    if bytes.len() < MAJOR {
+        return Err(short(bytes));
+    }
+    match Form::read(bytes) {
+        None => Err(CaptureFault::Magic),
+        Some(form) if form.big => form.header::<BigEndian>(bytes),
+        Some(form) => form.header::<LittleEndian>(bytes),
     }
 }
 
@@ -92,29 +115,25 @@ impl Form {
 
     /// Reads the header of a file of this form, whose numbers stand in the order `T`.
     fn header<T: ByteOrder>(self, bytes: &[u8]) -> Result<Header, CaptureFault>
-        ensures exact { result ≡ header_by T.number_of self bytes.now }
-        ensures long { OnOk result (24 ≤ length bytes.now) }
+        ensures { result ≡ header_by T.number_of self bytes.now }
     {
-        if bytes.len() < 8 {
+        if bytes.len() < ZONE {
             return Err(short(bytes));
         }
-        if T::read_u16(&bytes[4..]) != 2 || T::read_u16(&bytes[6..]) != 4 {
+        if T::read_u16(&bytes[MAJOR..]) != 2 || T::read_u16(&bytes[MINOR..]) != 4 {
             return Err(CaptureFault::Version);
         }
-        if bytes.len() < 24 {
+        if bytes.len() < HEADER_LEN {
             return Err(short(bytes));
         }
-        let link = (T::read_u32(&bytes[20..]) & 0xffff) as u16;
+        let link = (T::read_u32(&bytes[LINK..]) & 0xffff) as u16;
         if !is_link(link) {
-            return Err(CaptureFault::Link);
-        }
-        if !is_in_stage(self.big, self.nano, link) {
             return Err(CaptureFault::Link);
         }
         Ok(Header {
             big: self.big,
             nano: self.nano,
-            snaplen: T::read_u32(&bytes[16..]),
+            snaplen: T::read_u32(&bytes[SNAPLEN..]),
             link,
         })
     }
@@ -132,10 +151,4 @@ fn is_link(link: u16) -> bool
     ensures { result ≡ is_link link }
 {
     matches!(link, ETHERNET | RAW_IP)
-}
-
-fn is_in_stage(big: bool, nano: bool, link: u16) -> bool
-    ensures { result ≡ is_in_stage big nano link }
-{
-    !big && !nano && link == ETHERNET
 }

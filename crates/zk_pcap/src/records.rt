@@ -32,7 +32,14 @@ pub struct RecordView<'a> {
 }
 
 /// How many bytes a record has before those that were captured.
-const HEADER: usize = 16;
+const RECORD_HEADER_LEN: usize = 16;
+
+// Where the fields stand in them, behind the seconds.
+const FRACTION: usize = 4;
+
+const CAPTURED: usize = 8;
+
+const ORIGINAL: usize = 12;
 
 /// The most bytes that a record may say were captured.
 const MOST_CAPTURED: usize = 262_144;
@@ -45,22 +52,23 @@ impl<'a> RecordView<'a> {
         ensures place { IfSome result (λ view. (packet_of view).place ≡ place) }
         ensures within { IfSome result (λ view. end_of (packet_of view) ≤ length file.now) }
     {
-        if file.len() - place < HEADER {
+        if file.len() - place < RECORD_HEADER_LEN {
             return None;
         }
-        let captured = number_at::<T>(file, place + 8) as usize;
-        if file.len() - place - HEADER < captured {
+        let data = place + RECORD_HEADER_LEN;
+        let captured = number_at::<T>(file, place + CAPTURED) as usize;
+        if file.len() - data < captured {
             return None;
         }
         if captured > MOST_CAPTURED {
             return None;
         }
         let seconds = number_at::<T>(file, place);
-        let fraction = number_at::<T>(file, place + 4);
+        let fraction = number_at::<T>(file, place + FRACTION);
         Some(RecordView {
             moment: moment_of(nano, seconds, fraction),
-            orig_len: number_at::<T>(file, place + 12),
-            bytes: &file[place + HEADER..place + HEADER + captured],
+            orig_len: number_at::<T>(file, place + ORIGINAL),
+            bytes: &file[data..data + captured],
             place: place as u64,
         })
     }
@@ -70,7 +78,7 @@ impl<'a> RecordView<'a> {
         requires { end_of (packet_of self.now) < 2 ^ 64 }
         ensures { result ≡ end_of (packet_of self.now) }
     {
-        self.place as usize + HEADER + self.bytes.len()
+        self.place as usize + RECORD_HEADER_LEN + self.bytes.len()
     }
 
     /// The packet with a copy of the bytes.

@@ -23,6 +23,20 @@ const TIME_FALLS: [u8; 56] = [
     0x00, 0x00, 0x00, 0x00, 0x00, 0x00, 0x00, 0x00,
 ];
 
+/// Big-endian numbers and nanoseconds: a record at 1.999999999 s.
+const BIG_NANOSECONDS: [u8; 40] = [
+    0xa1, 0xb2, 0x3c, 0x4d, 0x00, 0x02, 0x00, 0x04, 0x00, 0x00, 0x00, 0x00, 0x00, 0x00, 0x00, 0x00,
+    0x00, 0x04, 0x00, 0x00, 0x00, 0x00, 0x00, 0x01, 0x00, 0x00, 0x00, 0x01, 0x3b, 0x9a, 0xc9, 0xff,
+    0x00, 0x00, 0x00, 0x00, 0x00, 0x00, 0x00, 0x3c,
+];
+
+/// Raw IP, with bits above the low 16 of its field: a record at 1 s and 1.5 s more.
+const RAW_IP_PACKET: [u8; 40] = [
+    0xd4, 0xc3, 0xb2, 0xa1, 0x02, 0x00, 0x04, 0x00, 0x00, 0x00, 0x00, 0x00, 0x00, 0x00, 0x00, 0x00,
+    0x00, 0x00, 0x04, 0x00, 0x65, 0x00, 0x00, 0x10, 0x01, 0x00, 0x00, 0x00, 0x60, 0xe3, 0x16, 0x00,
+    0x00, 0x00, 0x00, 0x00, 0x3c, 0x00, 0x00, 0x00,
+];
+
 /// Two records of two bytes each.
 const TWO_RECORDS: [u8; 60] = [
     0xd4, 0xc3, 0xb2, 0xa1, 0x02, 0x00, 0x04, 0x00, 0x00, 0x00, 0x00, 0x00, 0x00, 0x00, 0x00, 0x00,
@@ -107,6 +121,37 @@ fn of_zeros(alloc: Global, captured: u32) -> Result<Vec<u8>, AllocError> {
     let bytes = vec![in alloc; 0; captured as usize]?;
     file.extend_from_slice(&bytes)?;
     Ok(file)
+}
+
+#[test]
+fn each_form_of_file_is_read(rt: HostRuntime) -> Result<(), Fail> {
+    let header = Header {
+        big: true,
+        nano: true,
+        snaplen: 262_144,
+        link: 1,
+    };
+    assert_eq!(rt; Header::read(&BIG_NANOSECONDS), Ok(header));
+    let raw_ip = Header {
+        big: false,
+        nano: false,
+        snaplen: 262_144,
+        link: 101,
+    };
+    assert_eq!(rt; Header::read(&RAW_IP_PACKET), Ok(raw_ip));
+    for (file, moment) in [(&BIG_NANOSECONDS, 1_999_999), (&RAW_IP_PACKET, 2_500_000)] {
+        let capture = packets(rt.alloc(), file)?;
+        let [packet] = capture.packets.as_slice() else {
+            return Err(Fail::from("one packet"));
+        };
+        assert_eq!(rt; packet.moment.0, moment);
+        assert_eq!(rt;
+            (packet.orig_len, packet.bytes.len(), packet.place),
+            (60, 0, 24)
+        );
+        assert_eq!(rt; capture.ending, CaptureEnding::Whole);
+    }
+    Ok(())
 }
 
 #[test]

@@ -1,0 +1,10 @@
+use Rattle.std.proofs.Common.{is_some, refl}
+use Rattle.zk_base.specs.Shelf.{after_say}
+use Rattle.zeekoff.specs.DirShelf.{untold}
+use Rattle.zeekoff.proofs.CountLemmas.{puts}
+use Rattle.zeekoff.proofs.dir_shelf.DirShelfShelf.say.Goals as goal
+
+pub returns : goal.returns
+returns g c =
+    let is_open = is_some c.args.self.now.input in
+    record { leaves = puts (after_say (untold is_open c.args.self.now.counts)) is_open c.args.self.now.counts c.args.bytes.now c.wrote.result c.wrote.new.counts (λ part. refl) c.wrote.ensures.counted }

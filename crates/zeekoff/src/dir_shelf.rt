@@ -1,0 +1,164 @@
+ghost use Rattle.std.specs.Prelude.{◌≡◌, ◌↔◌, ◌<◌, length, take, is_some, IfOk, IfErr, OnErr, IsOk, MatchResult, false};
+ghost use Rattle.std.specs.IoError.{error_kind};
+ghost use Rattle.std.specs.Str.{IsUtf8};
+ghost use Rattle.std.specs.Io.{ReadsAtMost};
+ghost use Rattle.std.specs.Io.KnownBytes.{Consumes, Keeps, IsAtEnd};
+ghost use Rattle.zeekoff.specs.Counts.{CountsWrite};
+
+use crate::counts::Counts;
+use std::fs::{File, Files};
+use std::io::{ErrorKind, Read, Write};
+use std::{io, str};
+use zk_base::{Got, Shelf, Started, Wrote};
+
+/// The outside as it is: inputs are files by path, outputs are files in the working folder, and
+/// what is said and complained goes to two writers, as standard output and standard error.
+///
+/// A file that doesn't exist is absent. Every other error is a fault, and so is a name that isn't
+/// UTF-8. It tells nothing of what files hold.
+#[derive(Drop)]
+pub struct DirShelf<F: Files, O, E> {
+    files: F,
+    out: O,
+    err: E,
+    input: Option<F::File>,
+    counts: Counts,
+}
+
+impl<F: Files, O: Write, E: Write> DirShelf<F, O, E> {
+    ghost use Rattle.zeekoff.specs.Counts.{none_counted};
+
+    /// A shelf with no open input, which has counted nothing.
+    pub fn new(files: F, out: O, err: E) -> DirShelf<F, O, E>
+        ensures closed { is_some result.input ≡ false }
+        ensures counts { result.counts ≡ none_counted }
+    {
+        DirShelf {
+            files,
+            out,
+            err,
+            input: None,
+            counts: Counts::default(),
+        }
+    }
+}
+
+impl<F: Files, O: Write, E: Write> Shelf for DirShelf<F, O, E> {
+    ghost use Rattle.zeekoff.specs.DirShelf.{untold};
+
+    ghost outside = { λ shelf. untold (is_some shelf.input) shelf.counts };
+
+    #[tactic(auto, using(crate::proofs::CountLemmas::has_risen))]
+    fn start(&mut self, name: &[u8]) -> Started {
+        self.input = None;
+        match open(&self.files, name) {
+            Ok(file) => {
+                self.input = Some(file);
+                Started::Open
+            }
+            Err(error) if error.kind() == ErrorKind::NotFound => {
+                self.counts.add_absence();
+                Started::Absent
+            }
+            Err(_) => {
+                self.counts.add_read_fault();
+                Started::Failed
+            }
+        }
+    }
+
+    #[tactic(auto, using(crate::proofs::CountLemmas::has_risen))]
+    fn read(&mut self, buf: &mut [u8]) -> Got {
+        let Some(file) = &mut self.input else {
+            unreachable!()
+        };
+        match read_some(file, buf) {
+            Ok(0) => Got::End,
+            Ok(n) => Got::Bytes(n),
+            Err(_) => {
+                self.counts.add_read_fault();
+                Got::Failed
+            }
+        }
+    }
+
+    #[tactic(auto, using(crate::proofs::CountLemmas::has_risen))]
+    fn create(&mut self, name: &[u8]) -> Wrote {
+        let created = create(&self.files, name);
+        wrote(created, &mut self.counts)
+    }
+
+    fn append(&mut self, name: &[u8], bytes: &[u8]) -> Wrote {
+        let appended = append(&self.files, name, bytes);
+        wrote(appended, &mut self.counts)
+    }
+
+    fn say(&mut self, bytes: &[u8]) -> Wrote {
+        let said = self.out.write_all(bytes);
+        wrote(said, &mut self.counts)
+    }
+
+    fn complain(&mut self, bytes: &[u8]) -> Wrote {
+        let complained = self.err.write_all(bytes);
+        wrote(complained, &mut self.counts)
+    }
+}
+
+/// What became of a write, which is counted if it failed.
+fn wrote(written: io::Result<()>, counts: &mut Counts) -> Wrote
+    ensures done { (result ≡ Wrote.Done) ↔ IsOk written }
+    ensures counted { CountsWrite counts.old result counts.new }
+{
+    match written {
+        Ok(()) => Wrote::Done,
+        Err(_) => {
+            counts.add_write_fault();
+            Wrote::Failed
+        }
+    }
+}
+
+/// The path that a name is. Only UTF-8 is one.
+fn path(name: &[u8]) -> io::Result<&str>
+    ensures { MatchResult result
+        (λ path. IsUtf8 name.now × (path.now ≡ name.now))
+        (λ error. ¬ (IsUtf8 name.now) × (error_kind error ≡ ErrorKind.InvalidInput)) }
+{
+    match str::from_utf8(name) {
+        Ok(path) => Ok(path),
+        Err(_) => Err(io::Error::from(ErrorKind::InvalidInput)),
+    }
+}
+
+fn open<F: Files>(files: &F, name: &[u8]) -> io::Result<F::File> {
+    File::open(files, path(name)?)
+}
+
+fn create<F: Files>(files: &F, name: &[u8]) -> io::Result<()> {
+    File::create(files, path(name)?)?;
+    Ok(())
+}
+
+/// Adds to the end of a file that is there. It is opened for this alone, so that no output is open
+/// while something is said, and all is with the system when this returns.
+fn append<F: Files>(files: &F, name: &[u8], bytes: &[u8]) -> io::Result<()> {
+    let mut file = File::options().append(true).open(files, path(name)?)?;
+    file.write_all(bytes)
+}
+
+/// Reads once, and again where a signal came between.
+fn read_some<R: Read>(reader: &mut R, buf: &mut [u8]) -> io::Result<usize>
+    ensures bound { ReadsAtMost result buf.new }
+    ensures ok { IfOk result (λ n. Consumes (R.remaining reader.old) (R.remaining reader.new) (take n buf.new)) }
+    ensures end { IfOk result (λ n. n ≡ 0 → 0 < length buf.old → IsAtEnd (R.remaining reader.new)) }
+    ensures err { OnErr result (Keeps (R.remaining reader.old) (R.remaining reader.new)) }
+{
+    for _ in 0..u64::MAX {
+        match reader.read(buf) {
+            Ok(n) => return Ok(n),
+            Err(error) if error.kind() == ErrorKind::Interrupted => {}
+            Err(error) => return Err(error),
+        }
+    }
+    Err(io::Error::from(ErrorKind::TimedOut))
+}

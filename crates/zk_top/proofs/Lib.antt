@@ -1,3 +1,4 @@
+mod CommandLaws
 mod CommandLemmas
 mod Doing
 mod EntryLemmas

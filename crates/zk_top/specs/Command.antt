@@ -1,5 +1,5 @@
 -- The command line: which words are a command, and which word is the first that isn't understood.
-use Rattle.std.specs.Prelude.{◌≡◌, ℕ, Bool, true, false, not, ◌&&◌, ◌==◌, List, [], ◌∷◌, ◌++◌, length, codes, Option, Some, None, Result, Ok, Err, IsTrue, if◌then◌else◌}
+use Rattle.std.specs.Prelude.{◌≡◌, ℕ, ◌+◌, ◌<◌, ◌≤◌, take, Bool, true, false, not, ◌&&◌, ◌==◌, List, [], ◌∷◌, ◌++◌, length, codes, Option, Some, None, Result, Ok, Err, IsTrue, if◌then◌else◌}
 use Rattle.std.specs.Str.{bytes_eq}
 use Rattle.zk_top.specs.declared.command.Command as code
 use Rattle.zk_top.specs.declared.command.Command.TheVariants as variants
@@ -51,6 +51,12 @@ command_or None words = Err (understood [] words)
 
 abbrev pub understand : List (List ℕ) → Result Command ℕ
 understand words = command_or (command_of words) words
+
+-- No word before this place is one with which the words begin no command; the word at this place is.
+pub record IsFirstNotUnderstood (words : List (List ℕ)) (place : ℕ) : Type 0 where
+  pub within : place ≤ length words
+  pub before : (n : ℕ) → n < place → IsTrue (begins (take (n + 1) words))
+  pub there : place < length words → begins (take (place + 1) words) ≡ false
 
 -- the command that the code has read
 abbrev pub command_seen : code.Command → Command

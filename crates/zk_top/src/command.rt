@@ -1,6 +1,6 @@
-ghost use Rattle.std.specs.Prelude.{◌≡◌, ◌&&◌, [], Ok, Err, codes, MatchResult};
+ghost use Rattle.std.specs.Prelude.{◌≡◌, ◌↔◌, ◌&&◌, ◌++◌, List, ℕ, [], Some, IsTrue, Ok, Err, codes, MatchResult};
 ghost use Rattle.std.specs.Str.{bytes_eq};
-ghost use Rattle.zk_top.specs.Command.{is_file_name, begins, understood, understand, command_seen};
+ghost use Rattle.zk_top.specs.Command.{Command as Words, IsCommand, IsFirstNotUnderstood, is_file_name, command_of, begins, understood, understand, command_seen};
 
 use zk_base::Word;
 
@@ -63,3 +63,16 @@ fn is_file_name(word: &Word) -> bool
         [first, ..] => *first != b'-',
     }
 }
+
+/// What a command line is, in the subject's own words. There is nothing to run.
+pub fn command_line()
+    // The command that is read is the one whose words they are, and there is no other.
+    ensures spelled { (words : List (List ℕ)) (command : Words) → (command_of words ≡ Some command) ↔ IsCommand words command }
+
+    // Words begin a command exactly where some words behind them make one.
+    ensures begun { (words : List (List ℕ)) → IsTrue (begins words)
+        ↔ ((more : List (List ℕ)) × (command : Words) × IsCommand (words ++ more) command) }
+
+    // The word that is named is the least one with which the words begin no command.
+    ensures first { (words : List (List ℕ)) → IsFirstNotUnderstood words (understood [] words) }
+{}

@@ -9,6 +9,7 @@ mod listing;
 mod reading;
 mod stop;
 
+pub use command::command_line;
 pub use entry::run;
 
 #[cfg(test)]

@@ -40,12 +40,36 @@ fn inputs(alloc: Global, records: &[u8]) -> Result<Vec<(Bytes, Bytes)>, Mem> {
 fn a_listing_says_its_lines_and_complains_of_its_ending(rt: HostRuntime) -> Result<(), Fail> {
     let rows: [(&[u8], &[u8], u8, &str, &str); 7] = [
         (b"list c.pcap", b"", 0, "", ""),
-        (b"list c.pcap", &BACKWARDS, 0, "5.000000\tpacket\t5.000000\t0\t0\n5.000000\tpacket\t3.000000\t0\t0\n", ""),
-        (b"list c.pcap", &CUT, 4, "1.000000\tpacket\t1.000000\t2\t2\n", "zeekoff: c.pcap cut at byte 42\n"),
+        (
+            b"list c.pcap",
+            &BACKWARDS,
+            0,
+            "5.000000\tpacket\t5.000000\t0\t0\n5.000000\tpacket\t3.000000\t0\t0\n",
+            "",
+        ),
+        (
+            b"list c.pcap",
+            &CUT,
+            4,
+            "1.000000\tpacket\t1.000000\t2\t2\n",
+            "zeekoff: c.pcap cut at byte 42\n",
+        ),
         (b"list x.pcap", b"", 9, "", "zeekoff: no file x.pcap\n"),
         (b"list", b"", 1, "", "zeekoff: word 1 is not understood\n"),
-        (b"list a b", b"", 1, "", "zeekoff: word 2 is not understood\n"),
-        (b"list -x", b"", 1, "", "zeekoff: word 1 is not understood\n"),
+        (
+            b"list a b",
+            b"",
+            1,
+            "",
+            "zeekoff: word 2 is not understood\n",
+        ),
+        (
+            b"list -x",
+            b"",
+            1,
+            "",
+            "zeekoff: word 1 is not understood\n",
+        ),
     ];
     for (line, records, status, said, complained) in rows {
         let alloc = rt.alloc();
@@ -82,7 +106,10 @@ fn a_listing_over_a_failing_shelf_stops_with_the_fault_of_the_failed_call(
         let ending = run(alloc, &list, &mut shelf);
         assert_eq!(rt; ending.status(), *status, "call {n} fails");
         assert!(rt; sure.said().starts_with(shelf.said()), "call {n} fails");
-        assert!(rt; *status == 0 || shelf.said().len() < sure.said().len(), "call {n} fails");
+        assert!(rt;
+            *status == 0 || shelf.said().len() < sure.said().len(),
+            "call {n} fails"
+        );
     }
     Ok(())
 }

@@ -62,3 +62,52 @@ fn words_of(alloc: Global, arguments: Args) -> Result<Vec<Word>, ArgumentFault>
         .collect(alloc)?;
     Ok(words)
 }
+
+#[cfg(test)]
+mod tests {
+    use super::*;
+    use std::env::FillError;
+    use std::test::Fail;
+
+    /// Arguments that stand in for those of the system.
+    #[derive(Drop)]
+    struct Given<'a>(&'a [&'a [u8]]);
+
+    impl Env for Given<'_> {
+        fn arg(&self, i: usize, buf: &mut [u8]) -> Result<usize, FillError> {
+            let Some(argument) = self.0.get(i) else {
+                return Err(FillError::NotPresent);
+            };
+            if buf.len() < argument.len() {
+                return Err(FillError::TooLong);
+            }
+            buf[..argument.len()].copy_from_slice(argument);
+            Ok(argument.len())
+        }
+
+        fn var(&self, _name: &str, _buf: &mut [u8]) -> Result<usize, FillError> {
+            Err(FillError::NotPresent)
+        }
+
+        fn var_at(&self, _i: usize, _buf: &mut [u8]) -> Result<usize, FillError> {
+            Err(FillError::NotPresent)
+        }
+    }
+
+    #[test]
+    fn the_name_is_dropped_and_words_are_texts(rt: HostRuntime) -> Result<(), Fail> {
+        let given = Given(&[b"zeekoff", b"list", "ü.pcap".as_bytes()]);
+        let all = words(&(given, rt.alloc()))?;
+        assert_eq!(rt; all.len(), 2);
+        assert_eq!(rt; all[0].as_slice(), b"list".as_slice());
+        assert_eq!(rt; all[1].as_slice(), "ü.pcap".as_bytes());
+
+        let nothing = words(&(Given(&[]), rt.alloc()))?;
+        assert!(rt; nothing.is_empty());
+
+        let broken = Given(&[b"zeekoff", b"list", b"\xff.pcap"]);
+        let fault = words(&(broken, rt.alloc())).err();
+        assert_eq!(rt; fault, Some(ArgumentFault::NotText));
+        Ok(())
+    }
+}

@@ -1,5 +1,5 @@
 -- The Internet checksum (RFC 1071).
-use Rattle.std.specs.Prelude.{◌≡◌, ℕ, zero, suc, ◌+◌, ◌*◌, ◌/◌, ◌%◌, ◌<◌, List, [], ◌∷◌, sum, fold, All}
+use Rattle.std.specs.Prelude.{ℕ, zero, suc, ◌+◌, ◌*◌, ◌/◌, ◌%◌, ◌<◌, Bool, ◌==◌, IsTrue, List, [], ◌∷◌, sum, fold, All}
 
 -- the 16-bit words of a run of bytes in network order; a zero byte follows a last odd one (RFC 1071, section 1)
 abbrev pub words : List ℕ → List ℕ
@@ -16,9 +16,13 @@ unfoldable pub folded : ℕ → ℕ
 folded zero = 0
 folded (suc n) = n % 0xffff + 1
 
--- the words, the checksum field among them, have the right checksum: their one's complement sum is all ones
+-- words of this sum, the checksum field among them, have the right checksum: their one's complement sum is all ones
+abbrev pub is_right_sum : ℕ → Bool
+is_right_sum total = folded total == 0xffff
+
+-- the words have the right checksum
 abbrev pub IsRight : List ℕ → Type 0
-IsRight ws = folded (sum ws) ≡ 0xffff
+IsRight ws = IsTrue (is_right_sum (sum ws))
 
 -- the one's complement sum of two words: the carry goes round to the low end (RFC 1071, section 1)
 abbrev pub end_around : ℕ → ℕ → ℕ

@@ -6,4 +6,5 @@ pub mod Files
 pub mod MemShelf
 pub mod Rows
 pub mod Shelf
+pub mod Slices
 pub mod SureShelf

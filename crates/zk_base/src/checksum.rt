@@ -1,5 +1,5 @@
 ghost use Rattle.std.specs.Prelude.{◌≡◌, ◌↔◌, ◌*◌, ◌<◌, ◌≤◌, ◌^◌, IsTrue, List, ℕ, length, sum};
-ghost use Rattle.zk_base.specs.Checksum.{AreWords, folded, ones_complement_sum, words};
+ghost use Rattle.zk_base.specs.Checksum.{AreWords, is_right_sum, ones_complement_sum, words};
 
 /// The exact sum of the 16-bit words of `bytes` in network order; a zero byte follows a last odd
 /// one (RFC 1071, section 1). The sums of pieces may be added where each but the last has an even
@@ -24,7 +24,7 @@ pub fn word_sum(bytes: &[u8]) -> u64
 /// Whether words with this sum, the checksum field among them, have a right checksum: their one's
 /// complement sum is all ones (RFC 1071, section 1).
 pub fn is_right(total: u64) -> bool
-    ensures value { IsTrue result ↔ (folded total ≡ 0xffff) }
+    ensures value { result ≡ is_right_sum total }
 
     // The same as adding any words of this sum one by one, each carry taken round to the low end.
     ensures carried { (ws : List ℕ) → AreWords ws → sum ws ≡ total →

@@ -1,7 +1,7 @@
 -- The pseudo header that the checksum of a transport protocol covers before the datagram itself.
-use Rattle.std.specs.Prelude.{ℕ, ◌==◌, List, [], ◌∷◌, ◌++◌, Bool, length, sum, ⊤}
+use Rattle.std.specs.Prelude.{ℕ, List, [], ◌∷◌, ◌++◌, Bool, length, sum, ⊤}
 use Rattle.std.specs.Int.{to_be_bytes, w16, w32, w128}
-use Rattle.zk_base.specs.Checksum.{words, folded}
+use Rattle.zk_base.specs.Checksum.{words, is_right_sum}
 use Rattle.zk_base.specs.declared.network.Addr.{Addr}
 use Rattle.zk_base.specs.declared.network.Addr.TheVariants.{V4, V6}
 
@@ -30,4 +30,4 @@ pseudo_header src dst protocol len = address_bytes src ++ (address_bytes dst ++ 
 -- the one's complement sum over the pseudo header and the datagram, its checksum field among them, is all ones (RFC 1071 1)
 unfoldable pub has_right_checksum : Addr → Addr → ℕ → List ℕ → Bool
 has_right_checksum src dst protocol datagram =
-    folded (sum (words (pseudo_header src dst protocol (length datagram) ++ datagram))) == 0xffff
+    is_right_sum (sum (words (pseudo_header src dst protocol (length datagram) ++ datagram)))

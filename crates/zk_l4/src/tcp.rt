@@ -37,8 +37,8 @@ pub struct Tcp<'a> {
 }
 
 impl<'a> Tcp<'a> {
+    ghost use Rattle.zk_base.specs.Slices.{BeginsAt};
     ghost use Rattle.zk_l4.specs.PseudoHeader.{IsOneFamily};
-    ghost use Rattle.zk_l4.specs.Slices.{BeginsAt};
     ghost use Rattle.zk_l4.specs.Tcp.{acknowledgment_number, control_bits, destination_port, payload, sequence_number, source_port, tcp_fault};
     ghost use Rattle.zk_l4.specs.Views.{full_length, segment};
 

@@ -30,8 +30,8 @@ pub struct Udp<'a> {
 }
 
 impl<'a> Udp<'a> {
+    ghost use Rattle.zk_base.specs.Slices.{BeginsAt};
     ghost use Rattle.zk_l4.specs.PseudoHeader.{IsOneFamily};
-    ghost use Rattle.zk_l4.specs.Slices.{BeginsAt};
     ghost use Rattle.zk_l4.specs.Udp.{destination_port, payload, source_port, udp_fault};
     ghost use Rattle.zk_l4.specs.Views.{datagram};
 

@@ -1,6 +1,5 @@
-use Rattle.std.proofs.Common.{◌≡◌, ◌==◌, ℕ, ◌+◌, ◌<◌, ◌++◌, length, sum, ap, ◌∙◌, arith}
-use Rattle.std.proofs.lemmas.Bool.Decides.{same_from_decides, Decides-eqb}
-use Rattle.zk_base.specs.Checksum.{words, folded}
+use Rattle.std.proofs.Common.{◌≡◌, ℕ, ◌+◌, ◌<◌, ◌++◌, length, sum, ap, ◌∙◌, arith}
+use Rattle.zk_base.specs.Checksum.{words, is_right_sum}
 use Rattle.zk_l4.specs.PseudoHeader.{has_right_checksum, pseudo_header}
 use Rattle.zk_l4.proofs.PseudoHeaderLemmas.{sum_words-pseudo_header}
 use Rattle.zk_l4.proofs.pseudo_header.is_checksum_right.Goals as goal
@@ -14,4 +13,4 @@ returns c =
     let total : ℕ = c.address_sum.result + c.address_sum-2.result + c.from.result + len + c.word_sum.result in
     let all : total ≡ sum (words (pseudo_header c.args.src c.args.dst c.args.protocol len ++ datagram)) =
     omega (arith, sum_words-pseudo_header c.args.src c.args.dst c.args.protocol len datagram small) in
-    same_from_decides _ _ c.is_right.ensures.value (Decides-eqb (folded total) 0xffff) ∙ ap (λ n. folded n == 0xffff) all
+    c.is_right.ensures.value ∙ ap is_right_sum all

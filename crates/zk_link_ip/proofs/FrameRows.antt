@@ -1,6 +1,6 @@
 -- Frames that show what the definitions of `Frame` say.
 use Rattle.std.proofs.Common.{◌≡◌, ℕ, List, [], ◌∷◌, ◌++◌, Some, None, refl}
-use Rattle.zk_link_ip.specs.Frame.{content_of, ip_part_of}
+use Rattle.zk_link_ip.specs.Frame.{content_of, content_place, ip_part_of}
 
 addresses : List ℕ
 addresses = 0 ∷ 0 ∷ 0 ∷ 0 ∷ 0 ∷ 2 ∷ 0 ∷ 0 ∷ 0 ∷ 0 ∷ 0 ∷ 1 ∷ []
@@ -9,10 +9,18 @@ plain : content_of 1 (addresses ++ 0x08 ∷ 0x00 ∷ 0x45 ∷ 0x06 ∷ []) ≡ S
 unfolding addresses
 plain = refl
 
+plain-place : content_place 1 (addresses ++ 0x08 ∷ 0x00 ∷ 0x45 ∷ 0x06 ∷ []) ≡ 14
+unfolding addresses
+plain-place = refl
+
 -- a service tag, a customer tag, and behind them the type
 two_tags : content_of 1 (addresses ++ 0x88 ∷ 0xa8 ∷ 0 ∷ 7 ∷ 0x81 ∷ 0x00 ∷ 0 ∷ 9 ∷ 0x86 ∷ 0xdd ∷ 0x60 ∷ []) ≡ Some (0x86dd, 0x60 ∷ [])
 unfolding addresses
 two_tags = refl
+
+two_tags-place : content_place 1 (addresses ++ 0x88 ∷ 0xa8 ∷ 0 ∷ 7 ∷ 0x81 ∷ 0x00 ∷ 0 ∷ 9 ∷ 0x86 ∷ 0xdd ∷ 0x60 ∷ []) ≡ 22
+unfolding addresses
+two_tags-place = refl
 
 three_tags : content_of 1 (addresses ++ 0x81 ∷ 0x00 ∷ 0 ∷ 7 ∷ 0x81 ∷ 0x00 ∷ 0 ∷ 9 ∷ 0x81 ∷ 0x00 ∷ 0 ∷ 5 ∷ 0x08 ∷ 0x00 ∷ 0x45 ∷ []) ≡ None
 unfolding addresses
@@ -29,6 +37,9 @@ cut_type = refl
 
 raw_four : content_of 101 (0x45 ∷ 0x00 ∷ []) ≡ Some (0x0800, 0x45 ∷ 0x00 ∷ [])
 raw_four = refl
+
+raw_four-place : content_place 101 (0x45 ∷ 0x00 ∷ []) ≡ 0
+raw_four-place = refl
 
 raw_six : content_of 101 (0x60 ∷ []) ≡ Some (0x86dd, 0x60 ∷ [])
 raw_six = refl

@@ -40,6 +40,10 @@ content_of link frame =
     else if link == 101 then raw_content frame
     else None
 
+-- how many bytes stand before the content: to the end of the type, and none in a raw frame
+abbrev pub content_place : ℕ → List ℕ → ℕ
+content_place link frame = if link == 1 then type_place frame + 2 else 0
+
 -- the IPv4 packet that a frame holds, and what follows it there
 abbrev pub ip_part_of : ℕ → List ℕ → Option (List ℕ)
 ip_part_of link frame =

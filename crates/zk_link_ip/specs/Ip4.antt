@@ -1,7 +1,7 @@
 -- An IPv4 packet (RFC 791, section 3.1), by the places of its header's fields.
-use Rattle.std.specs.Prelude.{◌≢◌, ◌≤◌, ℕ, ◌-◌, ◌*◌, ◌/◌, ◌%◌, ◌^◌, Bool, ◌==◌, ◌&&◌, ◌||◌, not, nat_lt, min, if◌then◌else◌, List, length, take, drop, sum, slice_index, Result, Ok, Err}
+use Rattle.std.specs.Prelude.{ℕ, ◌-◌, ◌*◌, ◌/◌, ◌%◌, ◌^◌, Bool, ◌==◌, ◌&&◌, ◌||◌, not, nat_lt, min, if◌then◌else◌, List, length, take, drop, sum, slice_index, Result, Ok, Err}
 use Rattle.byteorder.specs.Endian.{big_number}
-use Rattle.zk_base.specs.Checksum.{words, folded}
+use Rattle.zk_base.specs.Checksum.{words, is_right_sum}
 use Rattle.zk_base.specs.declared.network.Addr.{Addr}
 use Rattle.zk_base.specs.declared.network.Addr.TheVariants.{V4}
 use Rattle.zk_link_ip.specs.declared.ip4.IpFault.{IpFault}
@@ -62,7 +62,7 @@ payload bytes = take (full_len bytes) (drop (header_len bytes) bytes)
 
 -- the header's one's complement sum is all ones
 abbrev pub checksum_is_right : List ℕ → Bool
-checksum_is_right bytes = folded (sum (words (take (header_len bytes) bytes))) == 0xffff
+checksum_is_right bytes = is_right_sum (sum (words (take (header_len bytes) bytes)))
 
 -- the packet that begins the bytes, which stands for all of them; or the first fault that it has
 abbrev pub ip4_of : List ℕ → Bool → Result (List ℕ) IpFault
@@ -73,9 +73,3 @@ ip4_of bytes check =
     else if not (total_length bytes == 0) && nat_lt (total_length bytes) (header_len bytes) then Err Total
     else if check && not (checksum_is_right bytes) then Err Checksum
     else Ok bytes
-
--- what each packet that was read has: its header is there, and its total length doesn't end within it
-pub record HasHeader (bytes : List ℕ) : Type 0 where
-  pub least : 5 ≤ ihl bytes
-  pub within : header_len bytes ≤ length bytes
-  pub total : (total_length bytes ≢ 0) → header_len bytes ≤ total_length bytes

@@ -1,2 +1,3 @@
 pub mod Frame
 pub mod Ip4
+pub mod Views

@@ -1,5 +1,6 @@
-ghost use Rattle.std.specs.Prelude.{◌≡◌, ◌+◌, ◌<◌, ◌≤◌, ◌^◌, length, drop, MatchOption, Some, None};
-ghost use Rattle.zk_link_ip.specs.Frame.{content_of, ethernet_content, ip_part_of, is_tag, raw_content, type_at};
+ghost use Rattle.std.specs.Prelude.{◌≡◌, ◌+◌, ◌<◌, ◌≤◌, ◌^◌, length, drop, IfSome, MatchOption, Some, None};
+ghost use Rattle.zk_base.specs.Slices.{BeginsAt};
+ghost use Rattle.zk_link_ip.specs.Frame.{content_of, content_place, ethernet_content, ip_part_of, is_tag, raw_content, type_at, type_place};
 
 use byteorder::{BigEndian, ByteOrder};
 
@@ -32,8 +33,10 @@ const TYPE_LEN: usize = 2;
 /// `None` exactly where the frame ends before its type, a third tag follows, a raw frame is empty
 /// or has other first bits, or the link type is neither 1 (Ethernet) nor 101 (raw IP).
 pub fn content<'a>(link: u16, frame: &'a [u8]) -> Option<(u16, &'a [u8])>
-    ensures { MatchOption result (content_of link frame.now ≡ None)
+    ensures exact { MatchOption result (content_of link frame.now ≡ None)
         (λ found. content_of link frame.now ≡ Some (found.0, found.1.now)) }
+    ensures place { IfSome result
+        (λ found. BeginsAt (content_place link frame.now) frame.entry found.1) }
 {
     match link {
         ETHERNET => in_ethernet(frame),
@@ -44,8 +47,10 @@ pub fn content<'a>(link: u16, frame: &'a [u8]) -> Option<(u16, &'a [u8])>
 
 /// The IPv4 packet that a frame holds with what follows it there: the content of type 0x0800.
 pub fn ip_part<'a>(link: u16, frame: &'a [u8]) -> Option<&'a [u8]>
-    ensures { MatchOption result (ip_part_of link frame.now ≡ None)
+    ensures exact { MatchOption result (ip_part_of link frame.now ≡ None)
         (λ part. ip_part_of link frame.now ≡ Some part.now) }
+    ensures place { IfSome result
+        (λ part. BeginsAt (content_place link frame.now) frame.entry part) }
 {
     match content(link, frame) {
         Some((IPV4, part)) => Some(part),
@@ -54,8 +59,10 @@ pub fn ip_part<'a>(link: u16, frame: &'a [u8]) -> Option<&'a [u8]>
 }
 
 fn in_ethernet<'a>(frame: &'a [u8]) -> Option<(u16, &'a [u8])>
-    ensures { MatchOption result (ethernet_content frame.now ≡ None)
+    ensures exact { MatchOption result (ethernet_content frame.now ≡ None)
         (λ found. ethernet_content frame.now ≡ Some (found.0, found.1.now)) }
+    ensures place { IfSome result
+        (λ found. BeginsAt (type_place frame.now + 2) frame.entry found.1) }
 {
     for place in TYPE_PLACES {
         let (ether_type, content) = type_and_rest(frame, place)?;
@@ -69,9 +76,10 @@ fn in_ethernet<'a>(frame: &'a [u8]) -> Option<(u16, &'a [u8])>
 /// The type at a place and what stands behind it, `None` where the frame ends before that.
 fn type_and_rest<'a>(frame: &'a [u8], place: usize) -> Option<(u16, &'a [u8])>
     requires { place < 2 ^ 32 }
-    ensures { MatchOption result (length frame.now < place + 2)
+    ensures exact { MatchOption result (length frame.now < place + 2)
         (λ found. (place + 2 ≤ length frame.now) × (found.0 ≡ type_at frame.now place)
         × (found.1.now ≡ drop (place + 2) frame.now)) }
+    ensures place { IfSome result (λ found. BeginsAt (place + 2) frame.entry found.1) }
 {
     let end = place + TYPE_LEN;
     if frame.len() < end {
@@ -87,8 +95,9 @@ fn is_tag_type(ether_type: u16) -> bool
 }
 
 fn in_raw<'a>(frame: &'a [u8]) -> Option<(u16, &'a [u8])>
-    ensures { MatchOption result (raw_content frame.now ≡ None)
+    ensures exact { MatchOption result (raw_content frame.now ≡ None)
         (λ found. raw_content frame.now ≡ Some (found.0, found.1.now)) }
+    ensures place { IfSome result (λ found. BeginsAt 0 frame.entry found.1) }
 {
     let first = frame.first()?;
     match first >> 4 {

@@ -1,8 +1,7 @@
-ghost use Rattle.std.specs.Prelude.{◌≡◌, ◌≤◌, ◌<◌, ◌^◌, length, false, IfOk};
-ghost use Rattle.zk_link_ip.specs.Ip4.{destination, flags_and_offset, full_len, header_len, identification, ip4_of, more, offset, payload, protocol, source, total_length, was_cut};
+ghost use Rattle.std.specs.Prelude.{◌≡◌, ◌≢◌, ◌≤◌, ◌<◌, ◌^◌, length, false, IfOk, MatchResult, Ok, Err};
+ghost use Rattle.zk_link_ip.specs.Ip4.{header_len, ihl, total_length};
 
 use byteorder::{BigEndian, ByteOrder};
-use std::marker::Model;
 use thiserror::Error;
 use zk_base::{Addr, is_right, word_sum};
 
@@ -58,30 +57,27 @@ const LEAST_HEADER: usize = 20;
 /// The greatest total length, in bytes.
 const GREATEST_PACKET: usize = 65_535;
 
-/// An IPv4 packet at the front of bytes of a frame. Contracts see it as the list of these bytes,
-/// padding among them.
+/// An IPv4 packet at the front of bytes of a frame.
 #[derive(Debug, Drop)]
 pub struct Ip4<'a> {
     bytes: &'a [u8],
-}
-
-impl<'a> Model for Ip4<'a> {
-    ghost use Rattle.std.specs.Prelude.{List, ℕ};
-    ghost use Rattle.zk_link_ip.specs.Ip4.{HasHeader};
-
-    ghost Value = { List ℕ };
-
-    ghost view = { λ packet. packet.bytes.now };
-
-    ghost invariant = { λ packet. HasHeader packet.bytes.now };
+    ghost has_least_header: { 5 ≤ ihl bytes.now },
+    ghost has_header: { header_len bytes.now ≤ length bytes.now },
+    ghost ends_behind_header: { total_length bytes.now ≢ 0 →
+        header_len bytes.now ≤ total_length bytes.now },
 }
 
 impl<'a> Ip4<'a> {
+    ghost use Rattle.zk_base.specs.Slices.{BeginsAt};
+    ghost use Rattle.zk_link_ip.specs.Ip4.{destination, flags_and_offset, full_len, identification, ip4_of, more, offset, payload, protocol, source, was_cut};
+    ghost use Rattle.zk_link_ip.specs.Views.{packet};
+
     /// The packet at the front of `bytes`, its header judged once: afterwards no accessor can
     /// fail. `check` asks for the header's checksum.
     pub fn read(bytes: &'a [u8], check: bool) -> Result<Ip4<'a>, IpFault>
-        ensures exact { result ≡ ip4_of bytes.now check }
-        ensures whole { IfOk result (λ packet. packet ≡ bytes.now) }
+        ensures exact { MatchResult result (λ ip. ip4_of bytes.now check ≡ Ok (packet ip).now)
+            (λ fault. ip4_of bytes.now check ≡ Err fault) }
+        ensures whole { IfOk result (λ ip. packet ip ≡ bytes.entry) }
     {
         if bytes.len() < LEAST_HEADER {
             return Err(IpFault::Short);
@@ -107,42 +103,42 @@ impl<'a> Ip4<'a> {
 
     /// The source address.
     pub fn src(&self) -> Addr
-        ensures { result ≡ source self.now }
+        ensures { result ≡ source (packet self.now).now }
     {
         Addr::V4(BigEndian::read_u32(&self.bytes[SOURCE_ADDRESS..]))
     }
 
     /// The destination address.
     pub fn dst(&self) -> Addr
-        ensures { result ≡ destination self.now }
+        ensures { result ≡ destination (packet self.now).now }
     {
         Addr::V4(BigEndian::read_u32(&self.bytes[DESTINATION_ADDRESS..]))
     }
 
     /// The number of the protocol of the payload (IANA's list of protocol numbers).
     pub fn protocol(&self) -> u8
-        ensures { result ≡ protocol self.now }
+        ensures { result ≡ protocol (packet self.now).now }
     {
         self.bytes[PROTOCOL]
     }
 
     /// What the fragments of one datagram have in common.
     pub fn identification(&self) -> u16
-        ensures { result ≡ identification self.now }
+        ensures { result ≡ identification (packet self.now).now }
     {
         BigEndian::read_u16(&self.bytes[IDENTIFICATION..])
     }
 
     /// Whether more fragments of the datagram follow (the flag MF).
     pub fn more(&self) -> bool
-        ensures { result ≡ more self.now }
+        ensures { result ≡ more (packet self.now).now }
     {
         self.flags_and_offset() & MORE_FRAGMENTS != 0
     }
 
     /// Where the payload stands in the datagram, in units of 8 bytes.
     pub fn offset(&self) -> u16
-        ensures place { result ≡ offset self.now }
+        ensures place { result ≡ offset (packet self.now).now }
         ensures bound { result < 2 ^ 13 }
     {
         self.flags_and_offset() & FRAGMENT_OFFSET
@@ -150,9 +146,9 @@ impl<'a> Ip4<'a> {
 
     /// The length of the header in bytes.
     pub fn header_len(&self) -> usize
-        ensures value { result ≡ header_len self.now }
+        ensures value { result ≡ header_len (packet self.now).now }
         ensures least { 20 ≤ result }
-        ensures within { result ≤ length self.now }
+        ensures within { result ≤ length (packet self.now).now }
     {
         WORD * usize::from(self.bytes[VERSION_AND_IHL] & 0x0f)
     }
@@ -160,7 +156,7 @@ impl<'a> Ip4<'a> {
     /// The payload's length by the total length, in bytes. Where that is 0 the packet ends with
     /// the bytes, at the latest after 65,535.
     pub fn full_len(&self) -> usize
-        ensures value { result ≡ full_len self.now }
+        ensures value { result ≡ full_len (packet self.now).now }
         ensures bound { result ≤ 65535 }
     {
         let total_length = self.total_length();
@@ -174,7 +170,7 @@ impl<'a> Ip4<'a> {
 
     /// Whether the total length passes the bytes.
     pub fn was_cut(&self) -> bool
-        ensures { result ≡ was_cut self.now }
+        ensures { result ≡ was_cut (packet self.now).now }
     {
         self.bytes.len() < self.total_length()
     }
@@ -193,23 +189,25 @@ impl<'a> Ip4<'a> {
     /// }
     /// ```
     pub fn payload(&self) -> &'a [u8]
-        ensures value { result.now ≡ payload self.now }
-        ensures bound { length result.now ≤ full_len self.now }
-        ensures whole { was_cut self.now ≡ false → length result.now ≡ full_len self.now }
+        ensures value { result.now ≡ payload (packet self.now).now }
+        ensures place { BeginsAt (header_len (packet self.now).now) (packet self.now) result }
+        ensures bound { length result.now ≤ full_len (packet self.now).now }
+        ensures whole { was_cut (packet self.now).now ≡ false →
+            length result.now ≡ full_len (packet self.now).now }
     {
         let behind = &self.bytes[self.header_len()..];
         &behind[..self.full_len().min(behind.len())]
     }
 
     fn total_length(&self) -> usize
-        ensures value { result ≡ total_length self.now }
+        ensures value { result ≡ total_length (packet self.now).now }
         ensures bound { result ≤ 65535 }
     {
         usize::from(BigEndian::read_u16(&self.bytes[TOTAL_LENGTH..]))
     }
 
     fn flags_and_offset(&self) -> u16
-        ensures { result ≡ flags_and_offset self.now }
+        ensures { result ≡ flags_and_offset (packet self.now).now }
     {
         BigEndian::read_u16(&self.bytes[FLAGS_AND_FRAGMENT_OFFSET..])
     }

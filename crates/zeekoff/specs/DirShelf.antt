@@ -1,5 +1,8 @@
 -- What a shelf of real files shows of the outside.
-use Rattle.std.specs.Prelude.{Bool, None, if◌then◌else◌}
+use Rattle.std.specs.Prelude.{ℕ, List, ⊤, take, Bool, Option, Some, None, if◌then◌else◌}
+use Rattle.std.specs.Io.KnownBytes.{Consumes, Keeps, IsAtEnd}
+use Rattle.zk_base.specs.declared.shelf.Got.{Got}
+use Rattle.zk_base.specs.declared.shelf.Got.TheVariants as got
 use Rattle.zk_base.specs.Shelf.{Outside, Closed, Untold}
 use Rattle.zeekoff.specs.declared.counts.Counts.{Counts}
 
@@ -16,3 +19,15 @@ untold is_open counts = record {
   write_faults = counts.write_faults;
   absences = counts.absences;
 }
+
+-- what a read took of a file whose bytes are known: those that it gave, and nothing where it gave none
+abbrev pub TakesBytes : Option (List ℕ) → Got → List ℕ → Option (List ℕ) → Type 0
+TakesBytes old (got.Bytes n) buf new = Consumes old new (take n buf)
+TakesBytes old got.End buf new = IsAtEnd new
+TakesBytes old got.Failed buf new = Keeps old new
+
+-- the same of the open input
+abbrev pub Takes : {File : Type 0} → (File → Option (List ℕ)) → Option File → Got → List ℕ → Option File → Type 0
+Takes remaining None got buf new = ⊤
+Takes remaining (Some old) got buf None = ⊥
+Takes remaining (Some old) got buf (Some new) = TakesBytes (remaining old) got buf (remaining new)

@@ -1,4 +1,4 @@
-ghost use Rattle.std.specs.Prelude.{◌≡◌, IfOk};
+ghost use Rattle.std.specs.Prelude.{◌≡◌, IfOk, IfErr};
 ghost use Rattle.std.specs.Vec.Iter.{into_iter_items};
 ghost use Rattle.zeekoff.specs.Arguments.{exit_status, words_behind_name};
 
@@ -42,6 +42,10 @@ impl From<io::Error> for ArgumentFault {
 }
 
 impl From<AllocError> for ArgumentFault {
+    ghost use Rattle.zeekoff.specs.declared.arguments.ArgumentFault.TheVariants.{NoMemory};
+
+    ghost from_gives = { λ _ fault. fault ≡ NoMemory };
+
     fn from(_: AllocError) -> ArgumentFault {
         ArgumentFault::NoMemory
     }
@@ -54,7 +58,8 @@ pub fn words<R: Env + AllocGlobal>(rt: &R) -> Result<Vec<Word>, ArgumentFault> {
 
 /// The words of some arguments, of which the first is the program's name.
 fn words_of(alloc: Global, arguments: Args) -> Result<Vec<Word>, ArgumentFault>
-    ensures { IfOk result (λ words. words.items ≡ words_behind_name (into_iter_items arguments)) }
+    ensures words { IfOk result (λ words. words.items ≡ words_behind_name (into_iter_items arguments)) }
+    ensures memory { IfErr result (λ fault. fault ≡ ArgumentFault.NoMemory) }
 {
     let words = arguments
         .skip(1)

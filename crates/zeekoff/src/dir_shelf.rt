@@ -1,4 +1,4 @@
-ghost use Rattle.std.specs.Prelude.{◌≡◌, ◌≢◌, ◌↔◌, ◌<◌, length, take, is_some, IfOk, IfErr, OnErr, IsOk, MatchResult, false};
+ghost use Rattle.std.specs.Prelude.{◌≡◌, ◌≢◌, ◌↔◌, ◌<◌, length, take, is_some, IsTrue, IfOk, IfErr, OnErr, IsOk, MatchResult, false};
 ghost use Rattle.std.specs.IoError.{error_kind};
 ghost use Rattle.std.specs.Str.{IsUtf8};
 ghost use Rattle.std.specs.Io.{ReadsAtMost};
@@ -44,7 +44,9 @@ impl<F: Files, O: Write, E: Write> DirShelf<F, O, E> {
 }
 
 impl<F: Files, O: Write, E: Write> Shelf for DirShelf<F, O, E> {
-    ghost use Rattle.zeekoff.specs.DirShelf.{untold};
+    ghost use Rattle.std.specs.Io.KnownBytes.{Appends};
+    ghost use Rattle.zk_base.specs.Shelf.{is_open, Reads, Puts, after_say, after_complaint};
+    ghost use Rattle.zeekoff.specs.DirShelf.{untold, Takes};
 
     ghost outside = { λ shelf. untold (is_some shelf.input) shelf.counts };
 
@@ -68,7 +70,12 @@ impl<F: Files, O: Write, E: Write> Shelf for DirShelf<F, O, E> {
     }
 
     #[tactic(auto, using(crate::proofs::CountLemmas::has_risen))]
-    fn read(&mut self, buf: &mut [u8]) -> Got {
+    fn read(&mut self, buf: &mut [u8]) -> Got
+        requires room { 0 < length buf.old }
+        requires input { IsTrue (is_open (untold (is_some self.old.input) self.old.counts).reading) }
+        ensures leaves { Reads (untold (is_some self.old.input) self.old.counts) buf.old result buf.new (untold (is_some self.new.input) self.new.counts) }
+        ensures took { Takes F.File.remaining self.old.input result buf.new self.new.input }
+    {
         let Some(file) = &mut self.input else {
             unreachable!()
         };
@@ -93,12 +100,18 @@ impl<F: Files, O: Write, E: Write> Shelf for DirShelf<F, O, E> {
         wrote(appended, &mut self.counts)
     }
 
-    fn say(&mut self, bytes: &[u8]) -> Wrote {
+    fn say(&mut self, bytes: &[u8]) -> Wrote
+        ensures leaves { Puts (after_say (untold (is_some self.old.input) self.old.counts)) (untold (is_some self.old.input) self.old.counts) bytes.now result (untold (is_some self.new.input) self.new.counts) }
+        ensures written { result ≡ Wrote.Done → Appends (O.contents self.old.out) (O.contents self.new.out) bytes.now }
+    {
         let said = self.out.write_all(bytes);
         wrote(said, &mut self.counts)
     }
 
-    fn complain(&mut self, bytes: &[u8]) -> Wrote {
+    fn complain(&mut self, bytes: &[u8]) -> Wrote
+        ensures leaves { Puts (after_complaint (untold (is_some self.old.input) self.old.counts)) (untold (is_some self.old.input) self.old.counts) bytes.now result (untold (is_some self.new.input) self.new.counts) }
+        ensures written { result ≡ Wrote.Done → Appends (E.contents self.old.err) (E.contents self.new.err) bytes.now }
+    {
         let complained = self.err.write_all(bytes);
         wrote(complained, &mut self.counts)
     }

@@ -1,0 +1,79 @@
+-- Fragments that show what the definitions of `Histories` say.
+use Rattle.std.proofs.Common.{◌≡◌, ℕ, ◌+◌, pos, List, [], ◌∷◌, ◌++◌, Bool, true, false, refl}
+use Rattle.std.specs.Prelude.{codes}
+use Rattle.zk_base.specs.declared.network.Addr.TheVariants.{V4}
+use Rattle.zk_frag.specs.declared.key.Key.{Key}
+use Rattle.zk_frag.specs.declared.frags.Joined.TheVariants.{Held, Ignored, Whole}
+use Rattle.zk_frag.specs.Fragment.{Fragment}
+use Rattle.zk_frag.specs.Histories.{joined_of, datagram_of}
+
+one_key : Key
+one_key = record { source = V4 0x0a000001; destination = V4 0x0a000002; protocol = 17; identification = 7 }
+
+-- a fragment that comes some microseconds after the first
+fragment : ℕ → ℕ → Bool → List ℕ → Fragment
+fragment microseconds place more payload = record {
+  moment = record { 0 = pos microseconds };
+  key = one_key;
+  place = place;
+  more = more;
+  was_cut = false;
+  payload = payload;
+}
+
+last : Fragment
+last = fragment 0 16 false (codes "CCCCCCCC")
+
+middle : ℕ → Fragment
+middle microseconds = fragment microseconds 8 true (codes "bbbbbbbbXXXXXXXX")
+
+first : ℕ → Fragment
+first microseconds = fragment microseconds 0 true (codes "aaaaaaaaYYYYYYYY")
+
+last_held : joined_of [] last ≡ Held
+unfolding last fragment one_key
+last_held = refl
+
+middle_held : joined_of (last ∷ []) (middle 0) ≡ Held
+unfolding last middle fragment one_key
+middle_held = refl
+
+first_whole : joined_of (last ∷ middle 0 ∷ []) (first 0) ≡ Whole
+unfolding last middle first fragment one_key
+first_whole = refl
+
+first_copies : datagram_of (last ∷ middle 0 ∷ []) (first 0) ≡ codes "aaaaaaaabbbbbbbbCCCCCCCC"
+unfolding last middle first fragment one_key
+first_copies = refl
+
+-- 30 seconds after the group's first fragment
+in_time-middle_held : joined_of (last ∷ []) (middle 30000000) ≡ Held
+unfolding last middle fragment one_key
+in_time-middle_held = refl
+
+in_time-first_whole : joined_of (last ∷ middle 30000000 ∷ []) (first 30000000) ≡ Whole
+unfolding last middle first fragment one_key
+in_time-first_whole = refl
+
+-- 31 seconds after it
+late-middle_held : joined_of (last ∷ []) (middle 31000000) ≡ Held
+unfolding last middle fragment one_key
+late-middle_held = refl
+
+late-first_held : joined_of (last ∷ middle 31000000 ∷ []) (first 31000000) ≡ Held
+unfolding last middle first fragment one_key
+late-first_held = refl
+
+-- once it is whole, its group is gone
+whole_is_gone : joined_of (last ∷ middle 0 ∷ first 0 ∷ []) last ≡ Held
+unfolding last middle first fragment one_key
+whole_is_gone = refl
+
+-- the longest datagram, and one byte more
+longest_held : joined_of [] (fragment 0 65528 false (codes "1234567")) ≡ Held
+unfolding fragment one_key
+longest_held = refl
+
+too_long_ignored : joined_of [] (fragment 0 65528 false (codes "12345678")) ≡ Ignored
+unfolding fragment one_key
+too_long_ignored = refl

@@ -1,0 +1,4 @@
+pub mod Fragment
+pub mod Group
+pub mod Histories
+pub mod Standing

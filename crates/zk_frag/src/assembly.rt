@@ -1,0 +1,125 @@
+ghost use Rattle.std.specs.Prelude.{◌≡◌, ℕ, ◌+◌, ◌<◌, ◌≤◌, true, false, IsTrue, List, [], ◌∷◌, ◌++◌, length, slice_index, slice_index_or, OnOk, OnErr, vec_len};
+ghost use Rattle.std.specs.Option.{option_or};
+ghost use Rattle.zk_frag.specs.Fragment.{Fragment, byte_of};
+ghost use Rattle.zk_frag.specs.Group.{is_covered, datagram};
+ghost use Rattle.zk_frag.specs.Standing.{byte_held, Carries, Holds};
+
+use std::alloc::Global;
+use zk_base::Mem;
+
+/// The greatest length of a datagram, in bytes.
+pub const GREATEST_DATAGRAM: usize = 65_535;
+
+/// Makes a vector at least this long, by copies of a value. At `Mem` nothing is changed.
+fn lengthen<T: Copy + Drop>(vec: &mut Vec<T>, len: usize, value: T) -> Result<(), Mem>
+    ensures same { (i : ℕ) → slice_index_or vec.new.items i value ≡ slice_index_or vec.old.items i value }
+    ensures room { OnOk result (len ≤ vec_len vec.new) }
+    ensures least { vec_len vec.old ≤ vec_len vec.new }
+    ensures kept { len ≤ vec_len vec.old → vec_len vec.new ≡ vec_len vec.old }
+{
+    if vec.len() < len {
+        vec.resize(len, value)?;
+    }
+    Ok(())
+}
+
+/// Puts a payload where nothing is yet: the first copy of a byte stands.
+fn fill(bytes: &mut [u8], covered: &mut [bool], place: usize, payload: &[u8])
+    requires bytes { place + length payload.now ≤ length bytes.old }
+    requires covered { place + length payload.now ≤ length covered.old }
+    ensures first { (i : ℕ) → byte_held bytes.new covered.new i
+        ≡ option_or (byte_held bytes.old covered.old i) (byte_of place payload.now i) }
+    ensures kept { (i : ℕ) → slice_index_or covered.old i false ≡ true → slice_index_or covered.new i false ≡ true }
+{
+    for (k, byte) in payload.iter().enumerate() {
+        let at = place + k;
+        if !covered[at] {
+            covered[at] = true;
+            bytes[at] = *byte;
+        }
+    }
+}
+
+/// The first place from `from` on that is not covered.
+fn first_gap(covered: &[bool], from: usize) -> usize
+    ensures least { from ≤ result }
+    ensures before { (i : ℕ) → from ≤ i → i < result → slice_index_or covered.now i false ≡ true }
+    ensures gap { slice_index_or covered.now result false ≡ false }
+{
+    let mut place = from;
+    while place < covered.len() && covered[place] {
+        place += 1;
+    }
+    place
+}
+
+/// A datagram as far as its fragments have come.
+#[derive(Debug, Drop)]
+pub struct Assembly {
+    /// The bytes by their places. What stands at places that are not covered says nothing.
+    pub bytes: Vec<u8>,
+    /// The places that have their byte. It is no longer than `bytes`.
+    pub covered: Vec<bool>,
+    /// The first place that is not covered.
+    pub front: usize,
+    /// The datagram's length, where a fragment has named it.
+    pub end: Option<usize>,
+}
+
+impl Assembly {
+    /// No bytes. No memory is taken.
+    pub fn new(alloc: Global) -> Assembly
+        ensures { Holds result [] }
+    {
+        Assembly {
+            bytes: Vec::new(alloc),
+            covered: Vec::new(alloc),
+            front: 0,
+            end: None,
+        }
+    }
+
+    /// Adds a fragment's payload at a place. At `Mem` the assembly holds what it held.
+    pub fn add(&mut self, place: usize, more: bool, payload: &[u8]) -> Result<(), Mem>
+        requires { place + length payload.now ≤ 65535 }
+        ensures ok { OnOk result ((group : List Fragment) (fragment : Fragment) → Holds self.old group
+            → Carries fragment place more payload.now → Holds self.new (group ++ fragment ∷ [])) }
+        ensures err { OnErr result ((group : List Fragment) → Holds self.old group → Holds self.new group) }
+    {
+        let end = place + payload.len();
+        lengthen(&mut self.bytes, end, 0)?;
+        lengthen(&mut self.covered, end, false)?;
+        fill(&mut self.bytes, &mut self.covered, place, payload);
+        if !more && self.end.is_none() {
+            self.end = Some(end);
+        }
+        self.front = first_gap(&self.covered, self.front);
+        Ok(())
+    }
+
+    /// Whether the end is named and each place before it is covered.
+    pub fn is_whole(&self) -> bool
+        ensures { (group : List Fragment) → Holds self.now group → result ≡ is_covered group }
+    {
+        match self.end {
+            Some(end) => end <= self.front,
+            None => false,
+        }
+    }
+
+    /// The bytes from place 0 to the end.
+    pub fn into_datagram(self) -> Vec<u8>
+        ensures { (group : List Fragment) → Holds self group → IsTrue (is_covered group) → result.items ≡ datagram group }
+    {
+        let Assembly {
+            mut bytes,
+            covered: _,
+            front: _,
+            end,
+        } = self;
+        if let Some(end) = end {
+            bytes.truncate(end);
+        }
+        bytes
+    }
+}

@@ -1,0 +1,139 @@
+ghost use Rattle.std.specs.Prelude.{◌≡◌, ◌+◌, ◌≤◌, false, not, List, [], ◌∷◌, ◌++◌, length, IsSome, IfOk, OnErr};
+ghost use Rattle.std.specs.Option.{option_map_or};
+ghost use Rattle.zk_frag.specs.Fragment.{Fragment, fragment_of};
+ghost use Rattle.zk_frag.specs.Group.{is_later};
+ghost use Rattle.zk_frag.specs.Histories.{joined_of, datagram_of};
+ghost use Rattle.zk_frag.specs.Standing.{group_at, Carries, Keeps, StandsFor, Stays, Takes};
+
+use crate::assembly::{Assembly, GREATEST_DATAGRAM};
+use crate::group::Group;
+use crate::key::Key;
+use std::alloc::Global;
+use std::collections::BTreeMap;
+use zk_base::{Mem, Moment};
+use zk_link_ip::Ip4;
+
+/// What a fragment did.
+#[derive(Clone, Copy, Debug, PartialEq, Eq)]
+pub enum Joined {
+    /// It is kept, and its datagram is not yet whole.
+    Held,
+    /// It is cut, or passes the longest datagram, and counts for nothing.
+    Ignored,
+    /// Its datagram is whole.
+    Whole,
+}
+
+/// The fragments of the datagrams of a capture that are not yet whole.
+#[derive(Debug, Drop)]
+pub struct Frags {
+    alloc: Global,
+    groups: BTreeMap<Key, Group>,
+    whole: Vec<u8>,
+}
+
+impl Frags {
+    /// No fragments. No memory is taken.
+    pub fn new(alloc: Global) -> Frags
+        ensures { StandsFor result [] }
+    {
+        Frags {
+            alloc,
+            groups: BTreeMap::new(alloc),
+            whole: Vec::new(alloc),
+        }
+    }
+
+    /// Takes a fragment: a packet with MF or with an offset other than 0.
+    pub fn take(&mut self, t: Moment, ip: &Ip4<'_>) -> Result<Joined, Mem>
+        ensures answer { IfOk result (λ joined. (given : List Fragment) → StandsFor self.old given
+            → joined ≡ joined_of given (fragment_of t ip.now)) }
+        ensures taken { IfOk result (λ joined. (given : List Fragment) → StandsFor self.old given
+            → StandsFor self.new (given ++ fragment_of t ip.now ∷ [])) }
+        ensures memory { OnErr result ((given : List Fragment) → StandsFor self.old given → StandsFor self.new given) }
+    {
+        let place = 8 * usize::from(ip.offset());
+        let payload = ip.payload();
+        if ip.was_cut() || place + payload.len() > GREATEST_DATAGRAM {
+            return Ok(Joined::Ignored);
+        }
+        let key = Key::of(ip);
+        if self.is_open(&key, t) {
+            self.go_on(&key, place, ip.more(), payload)
+        } else {
+            self.begin(key, t, place, ip.more(), payload)
+        }
+    }
+
+    /// The bytes of the datagram that the last fragment made whole.
+    pub fn whole(&self) -> &[u8]
+        ensures { (given : List Fragment) (last : Fragment) → StandsFor self.now (given ++ last ∷ [])
+            → joined_of given last ≡ Joined.Whole → result.now ≡ datagram_of given last }
+    {
+        &self.whole
+    }
+
+    /// Whether a group of the key is open that is not over by now.
+    fn is_open(&self, key: &Key, now: Moment) -> bool
+        ensures { result ≡ option_map_or (λ group. not (is_later group.since now)) (group_at self.now key.now) false }
+    {
+        match self.groups.get(key) {
+            Some(group) => !group.is_over(now),
+            None => false,
+        }
+    }
+
+    /// Adds a fragment to the open group of its key. At `Mem` the group is the same.
+    fn go_on(
+        &mut self,
+        key: &Key,
+        place: usize,
+        more: bool,
+        payload: &[u8],
+    ) -> Result<Joined, Mem>
+        requires open { IsSome (group_at self.old key.now) }
+        requires bound { place + length payload.now ≤ 65535 }
+        ensures ok { IfOk result (λ joined. (group : List Fragment) (fragment : Fragment)
+            → Keeps (group_at self.old key.now) group → Carries fragment place more payload.now
+            → Takes self.old self.new key.now joined (group ++ fragment ∷ [])) }
+        ensures err { OnErr result (Stays self.old self.new key.now) }
+    {
+        let Some(group) = self.groups.get_mut(key) else {
+            unreachable!()
+        };
+        group.assembly.add(place, more, payload)?;
+        if !group.assembly.is_whole() {
+            return Ok(Joined::Held);
+        }
+        if let Some(group) = self.groups.remove(key) {
+            self.whole = group.assembly.into_datagram();
+        }
+        Ok(Joined::Whole)
+    }
+
+    /// Begins a group with a fragment, in place of the open group of its key if there is one. At
+    /// `Mem` nothing is changed.
+    fn begin(
+        &mut self,
+        key: Key,
+        since: Moment,
+        place: usize,
+        more: bool,
+        payload: &[u8],
+    ) -> Result<Joined, Mem>
+        requires bound { place + length payload.now ≤ 65535 }
+        ensures ok { IfOk result (λ joined. (fragment : Fragment) → fragment.moment ≡ since
+            → Carries fragment place more payload.now → Takes self.old self.new key joined (fragment ∷ [])) }
+        ensures err { OnErr result (Stays self.old self.new key) }
+    {
+        let mut assembly = Assembly::new(self.alloc);
+        assembly.add(place, more, payload)?;
+        if assembly.is_whole() {
+            self.groups.remove(&key);
+            self.whole = assembly.into_datagram();
+            return Ok(Joined::Whole);
+        }
+        self.groups.insert(key, Group { since, assembly })?;
+        Ok(Joined::Held)
+    }
+}

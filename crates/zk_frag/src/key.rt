@@ -1,0 +1,27 @@
+ghost use Rattle.std.specs.Prelude.{◌≡◌};
+ghost use Rattle.zk_frag.specs.Fragment.{key_of};
+
+use zk_base::Addr;
+use zk_link_ip::Ip4;
+
+/// What the fragments of one datagram have in common (RFC 791, section 3.2).
+#[derive(Clone, Copy, Debug, PartialEq, Eq, PartialOrd, Ord)]
+pub struct Key {
+    pub source: Addr,
+    pub destination: Addr,
+    pub protocol: u8,
+    pub identification: u16,
+}
+
+impl Key {
+    pub fn of(ip: &Ip4<'_>) -> Key
+        ensures { result ≡ key_of ip.now }
+    {
+        Key {
+            source: ip.src(),
+            destination: ip.dst(),
+            protocol: ip.protocol(),
+            identification: ip.identification(),
+        }
+    }
+}

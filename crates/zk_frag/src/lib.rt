@@ -1,0 +1,9 @@
+//! The fragments of IPv4 datagrams, put together (RFC 791, section 3.2).
+#![tactic(auto)]
+
+mod assembly;
+mod frags;
+mod group;
+mod key;
+
+pub use frags::{Frags, Joined};

@@ -1,4 +1,4 @@
-ghost use Rattle.std.specs.Prelude.{◌≡◌, ℕ, ◌+◌, ◌<◌, ◌≤◌, true, false, IsTrue, List, [], ◌∷◌, ◌++◌, length, slice_index, slice_index_or, OnOk, OnErr, vec_len};
+ghost use Rattle.std.specs.Prelude.{◌≡◌, ℕ, ◌+◌, ◌<◌, ◌≤◌, true, false, not, max, if◌then◌else◌, IsTrue, List, [], ◌∷◌, ◌++◌, length, slice_index, slice_index_or, OnOk, OnErr, vec_len, Some, None};
 ghost use Rattle.std.specs.Option.{option_or};
 ghost use Rattle.zk_frag.specs.Fragment.{Fragment, byte_of};
 ghost use Rattle.zk_frag.specs.Group.{is_covered, datagram};
@@ -13,9 +13,8 @@ pub const GREATEST_DATAGRAM: usize = 65_535;
 /// Makes a vector at least this long, by copies of a value. At `Mem` nothing is changed.
 fn lengthen<T: Copy + Drop>(vec: &mut Vec<T>, len: usize, value: T) -> Result<(), Mem>
     ensures same { (i : ℕ) → slice_index_or vec.new.items i value ≡ slice_index_or vec.old.items i value }
-    ensures room { OnOk result (len ≤ vec_len vec.new) }
-    ensures least { vec_len vec.old ≤ vec_len vec.new }
-    ensures kept { len ≤ vec_len vec.old → vec_len vec.new ≡ vec_len vec.old }
+    ensures ok { OnOk result (vec_len vec.new ≡ max (vec_len vec.old) len) }
+    ensures err { OnErr result (vec.new.items ≡ vec.old.items) }
 {
     if vec.len() < len {
         vec.resize(len, value)?;
@@ -51,6 +50,13 @@ fn first_gap(covered: &[bool], from: usize) -> usize
         place += 1;
     }
     place
+}
+
+/// The end that is named: by a fragment that ends here where none before it did.
+fn end_after(named: Option<usize>, more: bool, here: usize) -> Option<usize>
+    ensures { result ≡ option_or named (if not more then Some here else None) }
+{
+    if more { named } else { named.or(Some(here)) }
 }
 
 /// A datagram as far as its fragments have come.
@@ -90,9 +96,7 @@ impl Assembly {
         lengthen(&mut self.bytes, end, 0)?;
         lengthen(&mut self.covered, end, false)?;
         fill(&mut self.bytes, &mut self.covered, place, payload);
-        if !more && self.end.is_none() {
-            self.end = Some(end);
-        }
+        self.end = end_after(self.end, more, end);
         self.front = first_gap(&self.covered, self.front);
         Ok(())
     }

@@ -1,0 +1,8 @@
+use Rattle.std.proofs.Common.{◌≡◌, Some, None, ap, sym, ◌∙◌}
+use Rattle.zk_frag.specs.Group.{covered_to}
+use Rattle.zk_frag.proofs.GroupLemmas.{covered_by_front}
+use Rattle.zk_frag.proofs.assembly.Assembly.is_whole.Goals as goal
+
+pub returns-in-Some : goal.returns-in-Some
+returns-in-Some c = λ group holds.
+    sym (ap (covered_to group) (holds.end ∙ c.in-Some.is) ∙ covered_by_front c.args.self.now group holds c.in-Some.end)

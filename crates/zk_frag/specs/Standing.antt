@@ -37,11 +37,12 @@ abbrev pub Keeps : Option Group → List Fragment → Type 0
 Keeps None fragments = fragments ≡ []
 Keeps (Some group) fragments = IsGroup group fragments
 
-abbrev pub key_cmp : Key → Key → Ordering
+-- the order of the keys in a table
+unfoldable pub key_cmp : Key → Key → Ordering
 key_cmp = (key_ord.ghosts).cmp
 
 -- what a table has at a key
-abbrev pub group_at : Frags → Key → Option Group
+unfoldable pub group_at : Frags → Key → Option Group
 group_at frags key = tree.get key_cmp frags.groups key
 
 -- a key's group has become these fragments with one that was taken, and the groups of other keys stay

@@ -33,6 +33,7 @@ pub struct Frags {
 }
 
 impl Frags {
+    #[tactic(auto, unfolding(crate::specs::Standing::group_at))]
     /// No fragments. No memory is taken.
     pub fn new(alloc: Global) -> Frags
         ensures { StandsFor result [] }
@@ -73,6 +74,7 @@ impl Frags {
         &self.whole
     }
 
+    #[tactic(auto, unfolding(crate::specs::Standing::group_at, crate::specs::Standing::key_cmp))]
     /// Whether a group of the key is open that is not over by now.
     fn is_open(&self, key: &Key, now: Moment) -> bool
         ensures { result ≡ option_map_or (λ group. not (is_later group.since now)) (group_at self.now key.now) false }

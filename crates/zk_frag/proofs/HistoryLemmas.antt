@@ -1,8 +1,8 @@
 -- One more fragment after those that a value stands for.
-use Rattle.std.proofs.Common.{◌≡◌, Bool, true, false, cond, not, ◌&&◌, List, [], ◌∷◌, ◌++◌, Option, None, Some, IsSome, filter, fold, refl, sym, ap, subst, ◌∙◌}
+use Rattle.std.proofs.Common.{◌≡◌, Bool, true, false, cond, not, ◌&&◌, ◌||◌, ltb, ◌≤◌, List, [], ◌∷◌, ◌++◌, Option, None, Some, IsSome, filter, fold, refl, sym, ap, subst, ◌∙◌}
 use Rattle.std.specs.Option.{option_map_or}
 use Rattle.std.specs.Ordering.{is_eq}
-use Rattle.std.proofs.lemmas.Bool.{cases_Bool, false≢true, true≢false}
+use Rattle.std.proofs.lemmas.Bool.{cases_Bool, false≢true, true≢false, ltb-false}
 use Rattle.std.proofs.lemmas.List.Elements.{filter-append}
 use Rattle.std.proofs.lemmas.List.Sums.{fold-append}
 use Rattle.std.proofs.Math.Logic.{⊎_elim}
@@ -12,7 +12,7 @@ use Rattle.zk_frag.specs.declared.frags.Joined.{Joined}
 use Rattle.zk_frag.specs.declared.frags.Joined.TheVariants.{Held, Ignored, Whole}
 use Rattle.zk_frag.specs.declared.group.Group.{Group}
 use Rattle.zk_frag.specs.declared.key.Key.{Key}
-use Rattle.zk_frag.specs.Fragment.{Fragment, same_key, is_ignored}
+use Rattle.zk_frag.specs.Fragment.{Fragment, end, same_key, is_ignored}
 use Rattle.zk_frag.specs.Group.{first_moment, is_later, comes_late, joined_by, is_covered, datagram}
 use Rattle.zk_frag.specs.Histories.{fragments_of, left_of, open_group, group_of, joined_of, datagram_of}
 use Rattle.zk_frag.specs.Standing.{key_cmp, group_at, Keeps, IsGroup, Takes, Stays, StandsFor}
@@ -140,3 +140,38 @@ stands_on old new key given stays stands = record {
         (cases_Bool (same_key key other));
     whole = λ earlier last is made. stays.whole ∙ stands.whole earlier last is made;
   }
+
+-- a fragment that counts ends within the longest datagram
+pub within_from_counted : (fragment : Fragment) → is_ignored fragment ≡ false → end fragment ≤ 65535
+within_from_counted fragment counted = by_cases fragment.was_cut counted
+  where
+    by_cases : (cut : Bool) → (cut || ltb 65535 (end fragment)) ≡ false → end fragment ≤ 65535
+    by_cases true is = absurd (true≢false is)
+    by_cases false is = ltb-false 65535 (end fragment) is
+
+-- the fragment goes on with the open group of its key
+pub takes_open : (old new : Frags) (given : List Fragment) (last : Fragment) (key : Key) (joined : Joined) → key ≡ last.key
+    → true ≡ option_map_or (λ (g : Group). not (is_later g.since last.moment)) (group_at old key) false → StandsFor old given
+    → ((group : List Fragment) → Keeps (group_at old key) group → Takes old new key joined (group ++ last ∷ []))
+    → Takes old new last.key joined (group_of given last)
+takes_open old new given last key joined same is_open stands takes =
+    subst (Takes old new last.key joined)
+        (sym (joined_by_open (group_at old last.key) (open_group last.key given) last true (stands.groups last.key)
+            (subst (λ k. true ≡ option_map_or (λ (g : Group). not (is_later g.since last.moment)) (group_at old k) false) same is_open)))
+        (subst (λ k. (group : List Fragment) → Keeps (group_at old k) group → Takes old new k joined (group ++ last ∷ [])) same takes
+            (open_group last.key given) (stands.groups last.key))
+
+-- the fragment begins a group
+pub takes_begun : (old new : Frags) (given : List Fragment) (last : Fragment) (key : Key) (joined : Joined) → key ≡ last.key
+    → false ≡ option_map_or (λ (g : Group). not (is_later g.since last.moment)) (group_at old key) false → StandsFor old given
+    → Takes old new key joined (last ∷ []) → Takes old new last.key joined (group_of given last)
+takes_begun old new given last key joined same is_open stands takes =
+    subst (Takes old new last.key joined)
+        (sym (joined_by_open (group_at old last.key) (open_group last.key given) last false (stands.groups last.key)
+            (subst (λ k. false ≡ option_map_or (λ (g : Group). not (is_later g.since last.moment)) (group_at old k) false) same is_open)))
+        (subst (λ k. Takes old new k joined (last ∷ [])) same takes)
+
+-- a group that is open is there
+pub there_from_open : (held : Option Group) (moment : Moment) → true ≡ option_map_or (λ (g : Group). not (is_later g.since moment)) held false → IsSome held
+there_from_open None moment is = absurd (true≢false is)
+there_from_open (Some held) moment is = refl

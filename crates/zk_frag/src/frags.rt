@@ -1,9 +1,11 @@
-ghost use Rattle.std.specs.Prelude.{◌≡◌, ◌+◌, ◌≤◌, false, not, List, [], ◌∷◌, ◌++◌, length, IsSome, IfOk, OnErr};
+ghost use Rattle.std.specs.Prelude.{◌≡◌, ◌+◌, ◌*◌, ◌≤◌, true, false, not, List, [], ◌∷◌, ◌++◌, length, IsSome, IfOk, OnErr};
 ghost use Rattle.std.specs.Option.{option_map_or};
-ghost use Rattle.zk_frag.specs.Fragment.{Fragment, fragment_of};
+ghost use Rattle.zk_base.specs.declared.time.Moment.{Moment};
+ghost use Rattle.zk_link_ip.specs.Ip4.{offset, payload};
+ghost use Rattle.zk_frag.specs.Fragment.{Fragment, fragment_of, is_ignored};
 ghost use Rattle.zk_frag.specs.Group.{is_later};
 ghost use Rattle.zk_frag.specs.Histories.{joined_of, datagram_of};
-ghost use Rattle.zk_frag.specs.Standing.{group_at, Carries, Keeps, StandsFor, Stays, Takes};
+ghost use Rattle.zk_frag.specs.Standing.{group_at, Keeps, StandsFor, Stays, Takes};
 
 use crate::assembly::{Assembly, GREATEST_DATAGRAM};
 use crate::group::Group;
@@ -22,6 +24,20 @@ pub enum Joined {
     Ignored,
     /// Its datagram is whole.
     Whole,
+}
+
+/// Where a fragment's payload stands in the datagram, in bytes.
+fn place_of(ip: &Ip4<'_>) -> usize
+    ensures { result ≡ 8 * offset ip.now }
+{
+    8 * usize::from(ip.offset())
+}
+
+/// Whether a fragment is cut, or passes the longest datagram.
+fn counts_for_nothing(ip: &Ip4<'_>) -> bool
+    ensures { (t : Moment) → result ≡ is_ignored (fragment_of t ip.now) }
+{
+    ip.was_cut() || place_of(ip) + ip.payload().len() > GREATEST_DATAGRAM
 }
 
 /// The fragments of the datagrams of a capture that are not yet whole.
@@ -51,18 +67,17 @@ impl Frags {
             → joined ≡ joined_of given (fragment_of t ip.now)) }
         ensures taken { IfOk result (λ joined. (given : List Fragment) → StandsFor self.old given
             → StandsFor self.new (given ++ fragment_of t ip.now ∷ [])) }
+        ensures ignored { is_ignored (fragment_of t ip.now) ≡ true → result ≡ Ok Joined.Ignored }
         ensures memory { OnErr result ((given : List Fragment) → StandsFor self.old given → StandsFor self.new given) }
     {
-        let place = 8 * usize::from(ip.offset());
-        let payload = ip.payload();
-        if ip.was_cut() || place + payload.len() > GREATEST_DATAGRAM {
+        if counts_for_nothing(ip) {
             return Ok(Joined::Ignored);
         }
         let key = Key::of(ip);
         if self.is_open(&key, t) {
-            self.go_on(&key, place, ip.more(), payload)
+            self.go_on(&key, ip)
         } else {
-            self.begin(key, t, place, ip.more(), payload)
+            self.begin(key, t, ip)
         }
     }
 
@@ -86,24 +101,17 @@ impl Frags {
     }
 
     /// Adds a fragment to the open group of its key. At `Mem` the group is the same.
-    fn go_on(
-        &mut self,
-        key: &Key,
-        place: usize,
-        more: bool,
-        payload: &[u8],
-    ) -> Result<Joined, Mem>
+    fn go_on(&mut self, key: &Key, ip: &Ip4<'_>) -> Result<Joined, Mem>
         requires open { IsSome (group_at self.old key.now) }
-        requires bound { place + length payload.now ≤ 65535 }
-        ensures ok { IfOk result (λ joined. (group : List Fragment) (fragment : Fragment)
-            → Keeps (group_at self.old key.now) group → Carries fragment place more payload.now
-            → Takes self.old self.new key.now joined (group ++ fragment ∷ [])) }
+        requires bound { 8 * offset ip.now + length (payload ip.now) ≤ 65535 }
+        ensures ok { IfOk result (λ joined. (t : Moment) (group : List Fragment) → Keeps (group_at self.old key.now) group
+            → Takes self.old self.new key.now joined (group ++ fragment_of t ip.now ∷ [])) }
         ensures err { OnErr result (Stays self.old self.new key.now) }
     {
         let Some(group) = self.groups.get_mut(key) else {
             unreachable!()
         };
-        group.assembly.add(place, more, payload)?;
+        group.assembly.add(place_of(ip), ip.more(), ip.payload())?;
         if !group.assembly.is_whole() {
             return Ok(Joined::Held);
         }
@@ -115,21 +123,13 @@ impl Frags {
 
     /// Begins a group with a fragment, in place of the open group of its key if there is one. At
     /// `Mem` nothing is changed.
-    fn begin(
-        &mut self,
-        key: Key,
-        since: Moment,
-        place: usize,
-        more: bool,
-        payload: &[u8],
-    ) -> Result<Joined, Mem>
-        requires bound { place + length payload.now ≤ 65535 }
-        ensures ok { IfOk result (λ joined. (fragment : Fragment) → fragment.moment ≡ since
-            → Carries fragment place more payload.now → Takes self.old self.new key joined (fragment ∷ [])) }
+    fn begin(&mut self, key: Key, since: Moment, ip: &Ip4<'_>) -> Result<Joined, Mem>
+        requires bound { 8 * offset ip.now + length (payload ip.now) ≤ 65535 }
+        ensures ok { IfOk result (λ joined. Takes self.old self.new key joined (fragment_of since ip.now ∷ [])) }
         ensures err { OnErr result (Stays self.old self.new key) }
     {
         let mut assembly = Assembly::new(self.alloc);
-        assembly.add(place, more, payload)?;
+        assembly.add(place_of(ip), ip.more(), ip.payload())?;
         if assembly.is_whole() {
             self.groups.remove(&key);
             self.whole = assembly.into_datagram();

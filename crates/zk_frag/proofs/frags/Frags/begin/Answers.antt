@@ -1,14 +1,17 @@
 use Rattle.std.proofs.Common.{◌≡◌, Bool, true, false, not, List, [], ◌∷◌, ◌++◌, Option, Some, None, sym, ap, subst, ◌∙◌, refl}
 use Rattle.std.proofs.lemmas.Result.{err_from_is_err_and}
 use Rattle.zk_frag.specs.declared.group.Group.{Group}
-use Rattle.zk_frag.specs.Fragment.{Fragment}
-use Rattle.zk_frag.specs.Standing.{key_cmp, group_at, Holds, IsGroup, Keeps}
+use Rattle.zk_frag.specs.Fragment.{Fragment, fragment_of}
+use Rattle.zk_frag.specs.Standing.{key_cmp, group_at, Carries, Holds, IsGroup, Keeps}
 use Rattle.zk_frag.proofs.TableLemmas.{takes_held, takes_whole, stays_same}
 use Rattle.zk_frag.proofs.frags.Frags.begin.Goals as goal
 
 pub returns-then-is_whole-clause-ok : goal.returns-then-is_whole-clause-ok
 unfolding group_at key_cmp
-returns-then-is_whole-clause-ok c = λ fragment moment carries.
+returns-then-is_whole-clause-ok c =
+    let fragment = fragment_of c.args.since c.args.ip.now in
+    let carries : Carries fragment c.place_of.result c.more.result c.payload.result.now =
+        record { place_is = sym c.place_of.ensures; more_is = sym c.more.ensures; payload_is = sym c.payload.ensures.value } in
     let old = c.args.self.now in
     let holds : Holds c.add.new.self (fragment ∷ []) = c.in_ok-add.ensures.ok [] fragment c.new-assembly.ensures carries in
     let covered = sym (c.is_whole.ensures (fragment ∷ []) holds) ∙ c.if-is_whole.true in
@@ -24,11 +27,14 @@ returns-in_err-insert-clause-err c =
 
 pub returns-clause-ok : goal.returns-clause-ok
 unfolding group_at key_cmp
-returns-clause-ok c = λ fragment moment carries.
+returns-clause-ok c =
+    let fragment = fragment_of c.args.since c.args.ip.now in
+    let carries : Carries fragment c.place_of.result c.more.result c.payload.result.now =
+        record { place_is = sym c.place_of.ensures; more_is = sym c.more.ensures; payload_is = sym c.payload.ensures.value } in
     let old = c.args.self.now in
     let holds : Holds c.add.new.self (fragment ∷ []) = c.in_ok-add.ensures.ok [] fragment c.new-assembly.ensures carries in
     let is : Group = record { since = c.args.since; assembly = c.add.new.self } in
     takes_held old (record old { groups = c.insert.new.self }) c.args.key is (fragment ∷ [])
         c.in_ok-insert.ensures.updates
         (sym (c.is_whole.ensures (fragment ∷ []) holds) ∙ c.if-is_whole.false)
-        (record { since = ap Some moment; holds = holds })
+        (record { since = refl; holds = holds })

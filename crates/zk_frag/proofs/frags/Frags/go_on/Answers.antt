@@ -1,11 +1,11 @@
 use Rattle.std.proofs.Common.{◌≡◌, Bool, true, false, not, List, [], ◌∷◌, ◌++◌, Option, Some, None, IsSome, sym, ap, subst, ◌∙◌, refl}
 use Rattle.std.specs.Option.{option_copied_mut}
-use Rattle.std.proofs.lemmas.Bool.{false≢true, not-true, not-false}
+use Rattle.std.proofs.lemmas.Bool.{false≢true}
 use Rattle.std.proofs.lemmas.Option.{same_Some}
 use Rattle.std.proofs.lemmas.Result.{err_from_is_err_and}
 use Rattle.zk_frag.specs.declared.group.Group.{Group}
-use Rattle.zk_frag.specs.Fragment.{Fragment}
-use Rattle.zk_frag.specs.Standing.{key_cmp, group_at, Holds, IsGroup, Keeps}
+use Rattle.zk_frag.specs.Fragment.{Fragment, fragment_of}
+use Rattle.zk_frag.specs.Standing.{key_cmp, group_at, Carries, Holds, IsGroup, Keeps}
 use Rattle.zk_frag.proofs.TableLemmas.{first_moment-append, takes_held, takes_whole, stays_changed}
 use Rattle.zk_frag.proofs.frags.Frags.go_on.Goals as goal
 
@@ -30,7 +30,10 @@ returns-in_err-add-clause-err c =
 
 pub returns-then-not-is_whole-clause-ok : goal.returns-then-not-is_whole-clause-ok
 unfolding group_at key_cmp
-returns-then-not-is_whole-clause-ok c = λ group fragment keeps carries.
+returns-then-not-is_whole-clause-ok c = λ t group keeps.
+    let fragment = fragment_of t c.args.ip.now in
+    let carries : Carries fragment c.place_of.result c.more.result c.payload.result.now =
+        record { place_is = sym c.place_of.ensures; more_is = sym c.more.ensures; payload_is = sym c.payload.ensures.value } in
     let old = c.args.self.now in
     let was = c.in-Some.group.now in
     let is : Group = record was { assembly = c.add.new.self } in
@@ -39,19 +42,22 @@ returns-then-not-is_whole-clause-ok c = λ group fragment keeps carries.
     let holds : Holds c.add.new.self (group ++ fragment ∷ []) = c.in_ok-add.ensures.ok group fragment kept.holds carries in
     takes_held old (record old { groups = c.get_mut.follows.lender is }) c.args.key.now is (group ++ fragment ∷ [])
         ((c.get_mut.follows.holds is).3 c.requires.«open»)
-        (sym (c.is_whole.ensures (group ++ fragment ∷ []) holds) ∙ not-true c.is_whole.result c.if-not-is_whole.true)
+        (sym (c.is_whole.ensures (group ++ fragment ∷ []) holds) ∙ c.if-not-is_whole.true)
         (record { since = first_moment-append group fragment was.since kept.since; holds = holds })
 
 pub returns-in-Some-remove-clause-ok : goal.returns-in-Some-remove-clause-ok
 unfolding group_at key_cmp
-returns-in-Some-remove-clause-ok c = λ group fragment keeps carries.
+returns-in-Some-remove-clause-ok c = λ t group keeps.
+    let fragment = fragment_of t c.args.ip.now in
+    let carries : Carries fragment c.place_of.result c.more.result c.payload.result.now =
+        record { place_is = sym c.place_of.ensures; more_is = sym c.more.ensures; payload_is = sym c.payload.ensures.value } in
     let old = c.args.self.now in
     let was = c.in-Some.group.now in
     let is : Group = record was { assembly = c.add.new.self } in
     let held : group_at old c.args.key.now ≡ Some was = sym c.get_mut.ensures.value ∙ ap option_copied_mut c.in-Some.is in
     let kept : IsGroup was group = subst (λ o. Keeps o group) held keeps in
     let holds : Holds c.add.new.self (group ++ fragment ∷ []) = c.in_ok-add.ensures.ok group fragment kept.holds carries in
-    let covered = sym (c.is_whole.ensures (group ++ fragment ∷ []) holds) ∙ not-false c.is_whole.result c.if-not-is_whole.false in
+    let covered = sym (c.is_whole.ensures (group ++ fragment ∷ []) holds) ∙ c.if-not-is_whole.false in
     let written = (c.get_mut.follows.holds is).3 c.requires.«open» in
     let removed : is ≡ c.in-Some-remove.group = same_Some is c.in-Some-remove.group (sym written.1 ∙ sym c.remove.ensures.value ∙ c.in-Some-remove.is) in
     takes_whole old (record old { groups = c.remove.new.self; whole = c.into_datagram.result }) c.args.key.now (group ++ fragment ∷ [])

@@ -79,6 +79,10 @@ covered_from_whole : (b : Bool) → cond b Whole Held ≡ Whole → b ≡ true
 covered_from_whole true is = refl
 covered_from_whole false is = cc
 
+-- what a fragment does that does not count
+pub answer_ignored : (given : List Fragment) (last : Fragment) → is_ignored last ≡ true → Ignored ≡ joined_of given last
+answer_ignored given last ignored = sym (ap (λ b. cond b Ignored (cond (is_covered (group_of given last)) Whole Held)) ignored)
+
 -- what a fragment that counts does
 pub answer_taken : (old new : Frags) (given : List Fragment) (last : Fragment) (joined : Joined) → is_ignored last ≡ false
     → Takes old new last.key joined (group_of given last) → joined ≡ joined_of given last

@@ -49,8 +49,8 @@ pub struct Frags {
 }
 
 impl Frags {
-    #[tactic(auto, unfolding(crate::specs::Standing::group_at))]
     /// No fragments. No memory is taken.
+    #[tactic(auto, unfolding(crate::specs::Standing::group_at))]
     pub fn new(alloc: Global) -> Frags
         ensures { StandsFor result [] }
     {
@@ -61,7 +61,17 @@ impl Frags {
         }
     }
 
-    /// Takes a fragment: a packet with MF or with an offset other than 0.
+    /// Takes a fragment, a packet with MF or with an offset other than 0, that comes at a time not
+    /// before those of earlier ones. What it did depends on all fragments so far.
+    ///
+    /// Fragments of one source, destination, protocol and identification form a group. Their bytes
+    /// go to their places, and of two copies the first stands. The first fragment without MF names
+    /// the datagram's end. Once every place before it has its byte, the datagram is whole and the
+    /// group is gone. A fragment that comes more than 30 seconds after its group's first drops that
+    /// group and begins a new one (RFC 791, section 3.2; that the first copy stands and how long a
+    /// group lasts are this project's own rules).
+    ///
+    /// `Mem` leaves the value as it was.
     pub fn take(&mut self, t: Moment, ip: &Ip4<'_>) -> Result<Joined, Mem>
         ensures answer { IfOk result (λ joined. (given : List Fragment) → StandsFor self.old given
             → joined ≡ joined_of given (fragment_of t ip.now)) }
@@ -81,7 +91,7 @@ impl Frags {
         }
     }
 
-    /// The bytes of the datagram that the last fragment made whole.
+    /// The bytes of the datagram, after a fragment that made it whole and before the next one.
     pub fn whole(&self) -> &[u8]
         ensures { (given : List Fragment) (last : Fragment) → StandsFor self.now (given ++ last ∷ [])
             → joined_of given last ≡ Joined.Whole → result.now ≡ datagram_of given last }
@@ -89,8 +99,8 @@ impl Frags {
         &self.whole
     }
 
-    #[tactic(auto, unfolding(crate::specs::Standing::group_at, crate::specs::Standing::key_cmp))]
     /// Whether a group of the key is open that is not over by now.
+    #[tactic(auto, unfolding(crate::specs::Standing::group_at, crate::specs::Standing::key_cmp))]
     fn is_open(&self, key: &Key, now: Moment) -> bool
         ensures { result ≡ option_map_or (λ group. not (is_later group.since now)) (group_at self.now key.now) false }
     {

@@ -1,4 +1,4 @@
-//! The fragments of IPv4 datagrams, put together (RFC 791, section 3.2).
+//! IPv4 datagrams, put together from their fragments (RFC 791, section 3.2).
 #![tactic(auto)]
 
 mod assembly;
@@ -7,3 +7,6 @@ mod group;
 mod key;
 
 pub use frags::{Frags, Joined};
+
+#[cfg(test)]
+mod tests;

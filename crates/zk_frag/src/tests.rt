@@ -1,0 +1,140 @@
+use super::*;
+use std::alloc::{AllocError, Global};
+use std::test::Fail;
+use zk_base::{Mem, Moment};
+use zk_link_ip::Ip4;
+
+const SECOND: i64 = 1_000_000;
+
+/// The fields of a fragment from 10.0.0.1 to 10.0.0.2 that the tests vary.
+#[derive(Clone, Copy)]
+struct Fields<'a> {
+    identification: u8,
+    /// In units of 8 bytes.
+    offset: u16,
+    more: bool,
+    /// What the total length counts beyond the payload that is there.
+    cut: u8,
+    payload: &'a [u8],
+}
+
+fn packet(alloc: Global, fields: Fields<'_>) -> Result<Vec<u8>, AllocError> {
+    let flags = if fields.more { 0x2000 } else { 0 };
+    let [high, low] = (flags | fields.offset & 0x1fff).to_be_bytes();
+    let total = (20 + (fields.payload.len() & 0x3f)) as u8 + (fields.cut & 0x0f);
+    let header = [
+        0x45,
+        0x00,
+        0x00,
+        total,
+        0x00,
+        fields.identification,
+        high,
+        low,
+        0x40,
+        0x11,
+        0x00,
+        0x00,
+        0x0a,
+        0x00,
+        0x00,
+        0x01,
+        0x0a,
+        0x00,
+        0x00,
+        0x02,
+    ];
+    let mut bytes = Vec::from_slice(alloc, &header)?;
+    bytes.extend_from_slice(fields.payload)?;
+    Ok(bytes)
+}
+
+/// What a fragment did, or None where its packet is none.
+fn taken(
+    alloc: Global,
+    frags: &mut Frags,
+    t: i64,
+    fields: Fields<'_>,
+) -> Result<Option<Joined>, Mem> {
+    let bytes = packet(alloc, fields)?;
+    let Ok(ip) = Ip4::read(&bytes, false) else {
+        return Ok(None);
+    };
+    Ok(Some(frags.take(Moment(t), &ip)?))
+}
+
+/// A fragment of the datagram 7.
+fn part(offset: u16, more: bool, payload: &[u8]) -> Fields<'_> {
+    Fields {
+        identification: 7,
+        offset,
+        more,
+        cut: 0,
+        payload,
+    }
+}
+
+#[test]
+fn first_copies_stand_for_30_seconds(rt: HostRuntime) -> Result<(), Fail> {
+    let rows = [
+        (0, Joined::Whole),
+        (30 * SECOND, Joined::Whole),
+        (31 * SECOND, Joined::Held),
+    ];
+    for (later, want) in &rows {
+        let mut frags = Frags::new(rt.alloc());
+        let last = taken(rt.alloc(), &mut frags, 0, part(2, false, b"CCCCCCCC"))?;
+        assert!(rt; last == Some(Joined::Held));
+        let middle = taken(rt.alloc(), &mut frags, *later, part(1, true, b"bbbbbbbbXXXXXXXX"))?;
+        assert!(rt; middle == Some(Joined::Held));
+        let first = taken(rt.alloc(), &mut frags, *later, part(0, true, b"aaaaaaaaYYYYYYYY"))?;
+        assert!(rt; first == Some(*want));
+        if *want == Joined::Whole {
+            assert_eq!(rt; frags.whole(), b"aaaaaaaabbbbbbbbCCCCCCCC".as_slice());
+        }
+    }
+    Ok(())
+}
+
+#[test]
+fn pieces_in_any_order_make_the_datagram(rt: HostRuntime) -> Result<(), Fail> {
+    let text = b"aaaaaaaabbbbbbbbccccccccddddddddeeeeeeeeffffffffgggggggghhhhh".as_slice();
+    let pieces = [
+        part(5, true, b"ffffffff"),
+        part(2, true, b"cccccccc"),
+        part(7, false, b"hhhhh"),
+        part(0, true, b"aaaaaaaa"),
+        part(3, true, b"ddddddddeeeeeeee"),
+        part(1, true, b"bbbbbbbb"),
+    ];
+    let mut frags = Frags::new(rt.alloc());
+    for piece in &pieces {
+        let joined = taken(rt.alloc(), &mut frags, SECOND, *piece)?;
+        assert!(rt; joined == Some(Joined::Held));
+    }
+    let joined = taken(rt.alloc(), &mut frags, SECOND, part(6, true, b"gggggggg"))?;
+    assert!(rt; joined == Some(Joined::Whole));
+    assert_eq!(rt; frags.whole(), text);
+    // the group is gone: another copy of its last fragment begins a new one
+    let joined = taken(rt.alloc(), &mut frags, SECOND, part(7, false, b"hhhhh"))?;
+    assert!(rt; joined == Some(Joined::Held));
+    Ok(())
+}
+
+#[test]
+fn cut_and_too_long_fragments_count_for_nothing(rt: HostRuntime) -> Result<(), Fail> {
+    let whole = part(0, true, b"aaaaaaaa");
+    let rows = [
+        (Fields { cut: 1, ..whole }, Joined::Ignored),
+        (part(8191, false, b"12345678"), Joined::Ignored),
+        (part(8191, false, b"1234567"), Joined::Held),
+        (part(1, false, b"b"), Joined::Held),
+        (Fields { identification: 8, ..whole }, Joined::Held),
+    ];
+    let mut frags = Frags::new(rt.alloc());
+    for (fields, want) in &rows {
+        let joined = taken(rt.alloc(), &mut frags, 0, *fields)?;
+        assert!(rt; joined == Some(*want));
+    }
+    Ok(())
+}

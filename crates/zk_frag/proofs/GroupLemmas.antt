@@ -10,7 +10,8 @@ use Rattle.std.proofs.lemmas.Simd.{map-map}
 use Rattle.zk_frag.specs.declared.assembly.Assembly.{Assembly}
 use Rattle.zk_frag.specs.Fragment.{Fragment, byte_of, end}
 use Rattle.zk_frag.specs.Group.{byte_at, end_of, bytes_below, covered_to, is_covered, datagram}
-use Rattle.zk_frag.specs.Standing.{byte_held, Holds, Carries}
+use Rattle.zk_frag.specs.Buffer.{byte_held}
+use Rattle.zk_frag.specs.Standing.{Holds, Carries}
 use Rattle.zk_frag.proofs.PlaceLemmas.{option_or_assoc}
 
 -- the byte that a fragment has at a place

@@ -9,7 +9,7 @@ use Rattle.std.proofs.lemmas.Bool.Decides.{nat_tests}
 use Rattle.std.proofs.lemmas.Grind.{common_steps}
 use Rattle.std.proofs.lemmas.Option.{gets, slice_get-get_or, slice_get_past}
 use Rattle.zk_frag.specs.Fragment.{byte_of}
-use Rattle.zk_frag.specs.Standing.{byte_held}
+use Rattle.zk_frag.specs.Buffer.{byte_held}
 
 -- a byte at one place and none elsewhere
 abbrev pub one_byte : ℕ → ℕ → ℕ → Option ℕ

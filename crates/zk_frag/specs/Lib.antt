@@ -1,3 +1,4 @@
+pub mod Buffer
 pub mod Fragment
 pub mod Group
 pub mod Histories

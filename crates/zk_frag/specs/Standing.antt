@@ -10,14 +10,10 @@ use Rattle.zk_frag.specs.declared.frags.Joined.TheVariants.{Held, Whole}
 use Rattle.zk_frag.specs.declared.group.Group.{Group}
 use Rattle.zk_frag.specs.declared.key.Key.{Key}
 use Rattle.zk_frag.specs.contracts.key.KeyOrd.TheImpl as key_ord
+use Rattle.zk_frag.specs.Buffer.{byte_held}
 use Rattle.zk_frag.specs.Fragment.{Fragment}
 use Rattle.zk_frag.specs.Group.{byte_at, end_of, first_moment, is_covered, datagram}
 use Rattle.zk_frag.specs.Histories.{left_of, open_group, joined_of, datagram_of}
-
--- the byte of a buffer at a place that is marked as covered
-abbrev pub byte_held : List ℕ → List Bool → ℕ → Option ℕ
-byte_held bytes covered place =
-    if slice_index_or covered place false then Some (slice_index bytes place) else None
 
 -- an assembly has the first copies of a group's bytes, the end that the group names, and the first place that is not covered
 pub record Holds (assembly : Assembly) (group : List Fragment) : Type 0 where

@@ -1,8 +1,8 @@
 ghost use Rattle.std.specs.Prelude.{◌≡◌, ℕ, ◌+◌, ◌<◌, ◌≤◌, true, false, not, max, if◌then◌else◌, IsTrue, List, [], ◌∷◌, ◌++◌, length, slice_index, slice_index_or, OnOk, OnErr, vec_len, Some, None};
 ghost use Rattle.std.specs.Option.{option_or};
+ghost use Rattle.zk_frag.specs.Buffer.{byte_held};
 ghost use Rattle.zk_frag.specs.Fragment.{Fragment, byte_of};
 ghost use Rattle.zk_frag.specs.Group.{is_covered, datagram};
-ghost use Rattle.zk_frag.specs.Standing.{byte_held, Carries, Holds};
 
 use std::alloc::Global;
 use zk_base::Mem;
@@ -70,9 +70,12 @@ pub struct Assembly {
     pub front: usize,
     /// The datagram's length, where a fragment has named it.
     pub end: Option<usize>,
+    ghost within: { vec_len bytes ≤ 65535 },
 }
 
 impl Assembly {
+    ghost use Rattle.zk_frag.specs.Standing.{Carries, Holds};
+
     /// No bytes. No memory is taken.
     pub fn new(alloc: Global) -> Assembly
         ensures { Holds result [] }
@@ -113,7 +116,8 @@ impl Assembly {
 
     /// The bytes from place 0 to the end.
     pub fn into_datagram(self) -> Vec<u8>
-        ensures { (group : List Fragment) → Holds self group → IsTrue (is_covered group) → result.items ≡ datagram group }
+        ensures value { (group : List Fragment) → Holds self group → IsTrue (is_covered group) → result.items ≡ datagram group }
+        ensures bound { vec_len result ≤ 65535 }
     {
         let Assembly {
             mut bytes,

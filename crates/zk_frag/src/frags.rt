@@ -1,11 +1,10 @@
-ghost use Rattle.std.specs.Prelude.{◌≡◌, ◌+◌, ◌*◌, ◌≤◌, true, false, not, List, [], ◌∷◌, ◌++◌, length, IsSome, IfOk, OnErr};
+ghost use Rattle.std.specs.Prelude.{◌≡◌, ◌+◌, ◌*◌, ◌≤◌, true, false, not, List, [], ◌∷◌, ◌++◌, length, vec_len, IsSome, IfOk, OnErr};
 ghost use Rattle.std.specs.Option.{option_map_or};
 ghost use Rattle.zk_base.specs.declared.time.Moment.{Moment};
 ghost use Rattle.zk_link_ip.specs.Ip4.{offset, payload};
 ghost use Rattle.zk_frag.specs.Fragment.{Fragment, fragment_of, is_ignored};
 ghost use Rattle.zk_frag.specs.Group.{is_later};
 ghost use Rattle.zk_frag.specs.Histories.{joined_of, datagram_of};
-ghost use Rattle.zk_frag.specs.Standing.{group_at, Keeps, StandsFor, Stays, Takes};
 
 use crate::assembly::{Assembly, GREATEST_DATAGRAM};
 use crate::group::Group;
@@ -46,9 +45,12 @@ pub struct Frags {
     alloc: Global,
     groups: BTreeMap<Key, Group>,
     whole: Vec<u8>,
+    ghost short: { vec_len whole ≤ 65535 },
 }
 
 impl Frags {
+    ghost use Rattle.zk_frag.specs.Standing.{group_at, Keeps, StandsFor, Stays, Takes};
+
     /// No fragments. No memory is taken.
     #[tactic(auto, unfolding(crate::specs::Standing::group_at))]
     pub fn new(alloc: Global) -> Frags
@@ -93,8 +95,9 @@ impl Frags {
 
     /// The bytes of the datagram, after a fragment that made it whole and before the next one.
     pub fn whole(&self) -> &[u8]
-        ensures { (given : List Fragment) (last : Fragment) → StandsFor self.now (given ++ last ∷ [])
+        ensures value { (given : List Fragment) (last : Fragment) → StandsFor self.now (given ++ last ∷ [])
             → joined_of given last ≡ Joined.Whole → result.now ≡ datagram_of given last }
+        ensures bound { length result.now ≤ 65535 }
     {
         &self.whole
     }

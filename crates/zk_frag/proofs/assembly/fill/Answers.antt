@@ -2,7 +2,7 @@ use Rattle.std.proofs.Common.{◌≡◌, ℕ, ◌+◌, ◌<◌, ◌≤◌, true,
 use Rattle.std.proofs.lemmas.Grind.{common_steps}
 use Rattle.std.specs.Option.{option_or}
 use Rattle.zk_frag.specs.Fragment.{byte_of}
-use Rattle.zk_frag.specs.Standing.{byte_held}
+use Rattle.zk_frag.specs.Buffer.{byte_held}
 use Rattle.zk_frag.proofs.PlaceLemmas.{one_byte, option_or_assoc, held_put, held_keep, byte_of_more}
 use Rattle.zk_frag.proofs.assembly.fill.Goals as goal
 use Rattle.zk_frag.proofs.assembly.fill.Goals.{then-not-covered-at, else-not-covered-at}

@@ -1,7 +1,7 @@
 use Rattle.std.proofs.Common.{◌≡◌, ℕ, true, false, get_or, take}
 use Rattle.std.specs.Option.{option_or}
 use Rattle.zk_frag.specs.Fragment.{byte_of}
-use Rattle.zk_frag.specs.Standing.{byte_held}
+use Rattle.zk_frag.specs.Buffer.{byte_held}
 use Rattle.zk_frag.proofs.assembly.fill.Given as goal
 
 -- the payload's first k bytes stand where nothing was

@@ -4,7 +4,7 @@ use Rattle.std.specs.Vec.{with_items}
 use Rattle.std.proofs.lemmas.List.{with_items_is}
 use Rattle.std.proofs.lemmas.Result.{err_from_is_err_and}
 use Rattle.zk_frag.specs.Fragment.{byte_of}
-use Rattle.zk_frag.specs.Standing.{byte_held}
+use Rattle.zk_frag.specs.Buffer.{byte_held}
 use Rattle.zk_frag.proofs.GroupLemmas.{held_longer, holds_added, holds_longer}
 use Rattle.zk_frag.proofs.assembly.Assembly.add.Goals as goal
 
@@ -12,7 +12,7 @@ pub returns-in_err-lengthen-2-clause-err : goal.returns-in_err-lengthen-2-clause
 returns-in_err-lengthen-2-clause-err c =
     let p = err_from_is_err_and c.from_residual-in_err-lengthen-2.result c.from_residual-in_err-lengthen-2.ensures.1 in
     let old = c.args.self.now in
-    rw p.1 (holds_longer old (record old { bytes = c.lengthen.new.vec; covered = c.lengthen-2.new.vec })
+    rw p.1 (holds_longer old _
         (λ i. held_longer old.bytes.items c.lengthen.new.vec.items old.covered.items c.lengthen-2.new.vec.items i (c.lengthen.ensures.same i) (c.lengthen-2.ensures.same i))
         c.lengthen-2.ensures.same refl refl
         (λ room. omega (arith, room, ap (λ (xs : List Bool). length xs) c.in_err-lengthen-2.ensures.err, c.in_ok-lengthen.ensures.ok)))
@@ -25,7 +25,7 @@ returns-clause-ok c =
     let bytes_are : bytes.items ≡ c.fill.new.bytes = with_items_is c.lengthen.new.vec c.fill.new.bytes (omega arith) in
     let covered_are : covered.items ≡ c.fill.new.covered = with_items_is c.lengthen-2.new.vec c.fill.new.covered (omega arith) in
     let checked : c.deref.result.now ≡ c.fill.new.covered = c.deref.ensures.value ∙ covered_are in
-    holds_added old (record { bytes = bytes; covered = covered; front = c.first_gap-self.result; end = c.end_after-self.result })
+    holds_added old _
         c.args.place c.args.more c.args.payload.now
         (record {
           first = λ i.

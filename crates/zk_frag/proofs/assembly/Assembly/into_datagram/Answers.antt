@@ -5,8 +5,8 @@ use Rattle.zk_frag.proofs.GroupLemmas.{covered_by_front, datagram_held}
 use Rattle.zk_frag.proofs.assembly.Assembly.into_datagram.Goals as goal
 use Rattle.zk_frag.proofs.assembly.Assembly.into_datagram.Goals.{in-Some, in_default}
 
-pub returns : goal.returns
-returns c = λ group holds covered. elim c.match-end.branch [
+pub returns-clause-value : goal.returns-clause-value
+returns-clause-value c = λ group holds covered. elim c.match-end.branch [
     in-Some w ↦
       let n = w.in-Some.end in
       let reached = leb-true n c.args.self.front

@@ -15,15 +15,15 @@ returns-then-is_whole-clause-ok c =
     let old = c.args.self.now in
     let holds : Holds c.add.new.self (fragment ∷ []) = c.in_ok-add.ensures.ok [] fragment c.new-assembly.ensures carries in
     let covered = sym (c.is_whole.ensures (fragment ∷ []) holds) ∙ c.if-is_whole.true in
-    takes_whole old (record old { groups = c.remove.new.self; whole = c.into_datagram.result }) c.args.key (fragment ∷ [])
-        c.remove.ensures.updates.1 c.remove.ensures.updates.2 covered (c.into_datagram.ensures (fragment ∷ []) holds covered)
+    takes_whole old _ c.args.key (fragment ∷ [])
+        c.remove.ensures.updates.1 c.remove.ensures.updates.2 covered (c.into_datagram.ensures.value (fragment ∷ []) holds covered)
 
 pub returns-in_err-insert-clause-err : goal.returns-in_err-insert-clause-err
 unfolding group_at key_cmp
 returns-in_err-insert-clause-err c =
     let p = err_from_is_err_and c.from_residual-in_err-insert.result c.from_residual-in_err-insert.ensures.1 in
     let old = c.args.self.now in
-    rw p.1 (stays_same old (record old { groups = c.insert.new.self }) c.args.key c.in_err-insert.ensures.err refl)
+    rw p.1 (stays_same old _ c.args.key c.in_err-insert.ensures.err refl)
 
 pub returns-clause-ok : goal.returns-clause-ok
 unfolding group_at key_cmp
@@ -34,7 +34,7 @@ returns-clause-ok c =
     let old = c.args.self.now in
     let holds : Holds c.add.new.self (fragment ∷ []) = c.in_ok-add.ensures.ok [] fragment c.new-assembly.ensures carries in
     let is : Group = record { since = c.args.since; assembly = c.add.new.self } in
-    takes_held old (record old { groups = c.insert.new.self }) c.args.key is (fragment ∷ [])
+    takes_held old _ c.args.key is (fragment ∷ [])
         c.in_ok-insert.ensures.updates
         (sym (c.is_whole.ensures (fragment ∷ []) holds) ∙ c.if-is_whole.false)
         (record { since = refl; holds = holds })

@@ -23,7 +23,7 @@ returns-in_err-add-clause-err c =
     let was = c.in-Some.group.now in
     let is : Group = record was { assembly = c.add.new.self } in
     let held : group_at old c.args.key.now ≡ Some was = sym c.get_mut.ensures.value ∙ ap option_copied_mut c.in-Some.is in
-    rw p.1 (stays_changed old (record old { groups = c.get_mut.follows.lender is }) c.args.key.now was is held
+    rw p.1 (stays_changed old _ c.args.key.now was is held
         ((c.get_mut.follows.holds is).3 c.requires.«open»)
         (λ fragments is_group. record { since = is_group.since; holds = c.in_err-add.ensures.err fragments is_group.holds })
         refl)
@@ -40,7 +40,7 @@ returns-then-not-is_whole-clause-ok c = λ t group keeps.
     let held : group_at old c.args.key.now ≡ Some was = sym c.get_mut.ensures.value ∙ ap option_copied_mut c.in-Some.is in
     let kept : IsGroup was group = subst (λ o. Keeps o group) held keeps in
     let holds : Holds c.add.new.self (group ++ fragment ∷ []) = c.in_ok-add.ensures.ok group fragment kept.holds carries in
-    takes_held old (record old { groups = c.get_mut.follows.lender is }) c.args.key.now is (group ++ fragment ∷ [])
+    takes_held old _ c.args.key.now is (group ++ fragment ∷ [])
         ((c.get_mut.follows.holds is).3 c.requires.«open»)
         (sym (c.is_whole.ensures (group ++ fragment ∷ []) holds) ∙ c.if-not-is_whole.true)
         (record { since = first_moment-append group fragment was.since kept.since; holds = holds })
@@ -60,8 +60,8 @@ returns-in-Some-remove-clause-ok c = λ t group keeps.
     let covered = sym (c.is_whole.ensures (group ++ fragment ∷ []) holds) ∙ c.if-not-is_whole.false in
     let written = (c.get_mut.follows.holds is).3 c.requires.«open» in
     let removed : is ≡ c.in-Some-remove.group = same_Some is c.in-Some-remove.group (sym written.1 ∙ sym c.remove.ensures.value ∙ c.in-Some-remove.is) in
-    takes_whole old (record old { groups = c.remove.new.self; whole = c.into_datagram.result }) c.args.key.now (group ++ fragment ∷ [])
+    takes_whole old _ c.args.key.now (group ++ fragment ∷ [])
         c.remove.ensures.updates.1
         (λ other apart. c.remove.ensures.updates.2 other apart ∙ written.2 other apart)
         covered
-        (c.into_datagram.ensures (group ++ fragment ∷ []) (subst (λ (g : Group). Holds g.assembly (group ++ fragment ∷ [])) removed holds) covered)
+        (c.into_datagram.ensures.value (group ++ fragment ∷ []) (subst (λ (g : Group). Holds g.assembly (group ++ fragment ∷ [])) removed holds) covered)

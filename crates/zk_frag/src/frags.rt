@@ -2,6 +2,7 @@ ghost use Rattle.std.specs.Prelude.{◌≡◌, ◌+◌, ◌*◌, ◌≤◌, true
 ghost use Rattle.std.specs.Option.{option_map_or};
 ghost use Rattle.zk_base.specs.declared.time.Moment.{Moment};
 ghost use Rattle.zk_link_ip.specs.Ip4.{offset, payload};
+ghost use Rattle.zk_link_ip.specs.Views.{packet};
 ghost use Rattle.zk_frag.specs.Fragment.{Fragment, fragment_of, is_ignored};
 ghost use Rattle.zk_frag.specs.Group.{is_later};
 ghost use Rattle.zk_frag.specs.Histories.{joined_of, datagram_of};
@@ -27,14 +28,14 @@ pub enum Joined {
 
 /// Where a fragment's payload stands in the datagram, in bytes.
 fn place_of(ip: &Ip4<'_>) -> usize
-    ensures { result ≡ 8 * offset ip.now }
+    ensures { result ≡ 8 * offset (packet ip.now).now }
 {
     8 * usize::from(ip.offset())
 }
 
 /// Whether a fragment is cut, or passes the longest datagram.
 fn counts_for_nothing(ip: &Ip4<'_>) -> bool
-    ensures { (t : Moment) → result ≡ is_ignored (fragment_of t ip.now) }
+    ensures { (t : Moment) → result ≡ is_ignored (fragment_of t (packet ip.now).now) }
 {
     ip.was_cut() || place_of(ip) + ip.payload().len() > GREATEST_DATAGRAM
 }
@@ -76,10 +77,10 @@ impl Frags {
     /// `Mem` leaves the value as it was.
     pub fn take(&mut self, t: Moment, ip: &Ip4<'_>) -> Result<Joined, Mem>
         ensures answer { IfOk result (λ joined. (given : List Fragment) → StandsFor self.old given
-            → joined ≡ joined_of given (fragment_of t ip.now)) }
+            → joined ≡ joined_of given (fragment_of t (packet ip.now).now)) }
         ensures taken { IfOk result (λ joined. (given : List Fragment) → StandsFor self.old given
-            → StandsFor self.new (given ++ fragment_of t ip.now ∷ [])) }
-        ensures ignored { is_ignored (fragment_of t ip.now) ≡ true → result ≡ Ok Joined.Ignored }
+            → StandsFor self.new (given ++ fragment_of t (packet ip.now).now ∷ [])) }
+        ensures ignored { is_ignored (fragment_of t (packet ip.now).now) ≡ true → result ≡ Ok Joined.Ignored }
         ensures memory { OnErr result ((given : List Fragment) → StandsFor self.old given → StandsFor self.new given) }
     {
         if counts_for_nothing(ip) {
@@ -116,9 +117,9 @@ impl Frags {
     /// Adds a fragment to the open group of its key. At `Mem` the group is the same.
     fn go_on(&mut self, key: &Key, ip: &Ip4<'_>) -> Result<Joined, Mem>
         requires open { IsSome (group_at self.old key.now) }
-        requires bound { 8 * offset ip.now + length (payload ip.now) ≤ 65535 }
+        requires bound { 8 * offset (packet ip.now).now + length (payload (packet ip.now).now) ≤ 65535 }
         ensures ok { IfOk result (λ joined. (t : Moment) (group : List Fragment) → Keeps (group_at self.old key.now) group
-            → Takes self.old self.new key.now joined (group ++ fragment_of t ip.now ∷ [])) }
+            → Takes self.old self.new key.now joined (group ++ fragment_of t (packet ip.now).now ∷ [])) }
         ensures err { OnErr result (Stays self.old self.new key.now) }
     {
         let Some(group) = self.groups.get_mut(key) else {
@@ -137,8 +138,8 @@ impl Frags {
     /// Begins a group with a fragment, in place of the open group of its key if there is one. At
     /// `Mem` nothing is changed.
     fn begin(&mut self, key: Key, since: Moment, ip: &Ip4<'_>) -> Result<Joined, Mem>
-        requires bound { 8 * offset ip.now + length (payload ip.now) ≤ 65535 }
-        ensures ok { IfOk result (λ joined. Takes self.old self.new key joined (fragment_of since ip.now ∷ [])) }
+        requires bound { 8 * offset (packet ip.now).now + length (payload (packet ip.now).now) ≤ 65535 }
+        ensures ok { IfOk result (λ joined. Takes self.old self.new key joined (fragment_of since (packet ip.now).now ∷ [])) }
         ensures err { OnErr result (Stays self.old self.new key) }
     {
         let mut assembly = Assembly::new(self.alloc);

@@ -1,4 +1,5 @@
 ghost use Rattle.std.specs.Prelude.{◌≡◌};
+ghost use Rattle.zk_link_ip.specs.Views.{packet};
 ghost use Rattle.zk_frag.specs.Fragment.{key_of};
 
 use zk_base::Addr;
@@ -15,7 +16,7 @@ pub struct Key {
 
 impl Key {
     pub fn of(ip: &Ip4<'_>) -> Key
-        ensures { result ≡ key_of ip.now }
+        ensures { result ≡ key_of (packet ip.now).now }
     {
         Key {
             source: ip.src(),

@@ -1,5 +1,6 @@
 use Rattle.std.proofs.Common.{◌≡◌, Bool, true, false, not, List, [], ◌∷◌, ◌++◌, Option, Some, None, sym, ap, subst, ◌∙◌, refl}
 use Rattle.std.proofs.lemmas.Result.{err_from_is_err_and}
+use Rattle.zk_link_ip.specs.Views.{packet}
 use Rattle.zk_frag.specs.declared.group.Group.{Group}
 use Rattle.zk_frag.specs.Fragment.{Fragment, fragment_of}
 use Rattle.zk_frag.specs.Standing.{key_cmp, group_at, Carries, Holds, IsGroup, Keeps}
@@ -9,7 +10,7 @@ use Rattle.zk_frag.proofs.frags.Frags.begin.Goals as goal
 pub returns-then-is_whole-clause-ok : goal.returns-then-is_whole-clause-ok
 unfolding group_at key_cmp
 returns-then-is_whole-clause-ok c =
-    let fragment = fragment_of c.args.since c.args.ip.now in
+    let fragment = fragment_of c.args.since (packet c.args.ip.now).now in
     let carries : Carries fragment c.place_of.result c.more.result c.payload.result.now =
         record { place_is = sym c.place_of.ensures; more_is = sym c.more.ensures; payload_is = sym c.payload.ensures.value } in
     let old = c.args.self.now in
@@ -28,7 +29,7 @@ returns-in_err-insert-clause-err c =
 pub returns-clause-ok : goal.returns-clause-ok
 unfolding group_at key_cmp
 returns-clause-ok c =
-    let fragment = fragment_of c.args.since c.args.ip.now in
+    let fragment = fragment_of c.args.since (packet c.args.ip.now).now in
     let carries : Carries fragment c.place_of.result c.more.result c.payload.result.now =
         record { place_is = sym c.place_of.ensures; more_is = sym c.more.ensures; payload_is = sym c.payload.ensures.value } in
     let old = c.args.self.now in

@@ -3,6 +3,7 @@ use Rattle.std.specs.Option.{option_copied_mut}
 use Rattle.std.proofs.lemmas.Bool.{false≢true}
 use Rattle.std.proofs.lemmas.Option.{same_Some}
 use Rattle.std.proofs.lemmas.Result.{err_from_is_err_and}
+use Rattle.zk_link_ip.specs.Views.{packet}
 use Rattle.zk_frag.specs.declared.group.Group.{Group}
 use Rattle.zk_frag.specs.Fragment.{Fragment, fragment_of}
 use Rattle.zk_frag.specs.Standing.{key_cmp, group_at, Carries, Holds, IsGroup, Keeps}
@@ -31,7 +32,7 @@ returns-in_err-add-clause-err c =
 pub returns-then-not-is_whole-clause-ok : goal.returns-then-not-is_whole-clause-ok
 unfolding group_at key_cmp
 returns-then-not-is_whole-clause-ok c = λ t group keeps.
-    let fragment = fragment_of t c.args.ip.now in
+    let fragment = fragment_of t (packet c.args.ip.now).now in
     let carries : Carries fragment c.place_of.result c.more.result c.payload.result.now =
         record { place_is = sym c.place_of.ensures; more_is = sym c.more.ensures; payload_is = sym c.payload.ensures.value } in
     let old = c.args.self.now in
@@ -48,7 +49,7 @@ returns-then-not-is_whole-clause-ok c = λ t group keeps.
 pub returns-in-Some-remove-clause-ok : goal.returns-in-Some-remove-clause-ok
 unfolding group_at key_cmp
 returns-in-Some-remove-clause-ok c = λ t group keeps.
-    let fragment = fragment_of t c.args.ip.now in
+    let fragment = fragment_of t (packet c.args.ip.now).now in
     let carries : Carries fragment c.place_of.result c.more.result c.payload.result.now =
         record { place_is = sym c.place_of.ensures; more_is = sym c.more.ensures; payload_is = sym c.payload.ensures.value } in
     let old = c.args.self.now in

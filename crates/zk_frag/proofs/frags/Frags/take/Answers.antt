@@ -1,6 +1,7 @@
 use Rattle.std.proofs.Common.{◌≡◌, true, false, List, [], ◌∷◌, ◌++◌, sym, ap, ◌∙◌}
 use Rattle.std.proofs.lemmas.Bool.{true≢false}
 use Rattle.std.proofs.lemmas.Result.{IfOk-weaker, on_err_weaker}
+use Rattle.zk_link_ip.specs.Views.{packet}
 use Rattle.zk_frag.specs.declared.frags.Joined.{Joined}
 use Rattle.zk_frag.specs.Fragment.{Fragment, fragment_of, is_ignored}
 use Rattle.zk_frag.specs.Histories.{joined_of, open_group}
@@ -12,22 +13,22 @@ pub go_on-requires-clause-open : goal.go_on-requires-clause-open
 go_on-requires-clause-open c = there_from_open (group_at c.args.self.now c.of-key.result) c.args.t c.if-is_open.ensures
 
 pub go_on-requires-clause-bound : goal.go_on-requires-clause-bound
-go_on-requires-clause-bound c = within_from_counted (fragment_of c.args.t c.args.ip.now) (sym (c.if-counts_for_nothing.ensures c.args.t))
+go_on-requires-clause-bound c = within_from_counted (fragment_of c.args.t (packet c.args.ip.now).now) (sym (c.if-counts_for_nothing.ensures c.args.t))
 
 pub begin-requires : goal.begin-requires
-begin-requires c = record { bound = within_from_counted (fragment_of c.args.t c.args.ip.now) (sym (c.if-counts_for_nothing.ensures c.args.t)) }
+begin-requires c = record { bound = within_from_counted (fragment_of c.args.t (packet c.args.ip.now).now) (sym (c.if-counts_for_nothing.ensures c.args.t)) }
 
 pub returns-then-counts_for_nothing-clause-answer : goal.returns-then-counts_for_nothing-clause-answer
 returns-then-counts_for_nothing-clause-answer c = λ given stands.
-    answer_ignored given (fragment_of c.args.t c.args.ip.now) (sym (c.if-counts_for_nothing.ensures c.args.t))
+    answer_ignored given (fragment_of c.args.t (packet c.args.ip.now).now) (sym (c.if-counts_for_nothing.ensures c.args.t))
 
 pub returns-then-counts_for_nothing-clause-taken : goal.returns-then-counts_for_nothing-clause-taken
 returns-then-counts_for_nothing-clause-taken c = λ given stands.
-    stands_ignored c.args.self.now given (fragment_of c.args.t c.args.ip.now) (sym (c.if-counts_for_nothing.ensures c.args.t)) stands
+    stands_ignored c.args.self.now given (fragment_of c.args.t (packet c.args.ip.now).now) (sym (c.if-counts_for_nothing.ensures c.args.t)) stands
 
 pub returns-then-is_open-clause-answer : goal.returns-then-is_open-clause-answer
 returns-then-is_open-clause-answer c =
-    let fragment = fragment_of c.args.t c.args.ip.now in
+    let fragment = fragment_of c.args.t (packet c.args.ip.now).now in
     IfOk-weaker c.go_on.result _ _
         (λ joined takes given stands. answer_taken c.args.self.now c.go_on.new.self given fragment joined (sym (c.if-counts_for_nothing.ensures c.args.t))
             (takes_open c.args.self.now c.go_on.new.self given fragment c.of-key.result joined c.of-key.ensures c.if-is_open.ensures stands (takes c.args.t)))
@@ -38,7 +39,7 @@ returns-then-is_open-clause-ignored c = λ ignored. absurd (true≢false (sym ig
 
 pub returns-then-is_open-clause-taken : goal.returns-then-is_open-clause-taken
 returns-then-is_open-clause-taken c =
-    let fragment = fragment_of c.args.t c.args.ip.now in
+    let fragment = fragment_of c.args.t (packet c.args.ip.now).now in
     IfOk-weaker c.go_on.result _ _
         (λ joined takes given stands. stands_taken c.args.self.now c.go_on.new.self given fragment joined (sym (c.if-counts_for_nothing.ensures c.args.t))
             (takes_open c.args.self.now c.go_on.new.self given fragment c.of-key.result joined c.of-key.ensures c.if-is_open.ensures stands (takes c.args.t))
@@ -51,7 +52,7 @@ returns-then-is_open-clause-memory c =
 
 pub returns-else-is_open-clause-answer : goal.returns-else-is_open-clause-answer
 returns-else-is_open-clause-answer c =
-    let fragment = fragment_of c.args.t c.args.ip.now in
+    let fragment = fragment_of c.args.t (packet c.args.ip.now).now in
     IfOk-weaker c.begin.result _ _
         (λ joined takes given stands. answer_taken c.args.self.now c.begin.new.self given fragment joined (sym (c.if-counts_for_nothing.ensures c.args.t))
             (takes_begun c.args.self.now c.begin.new.self given fragment c.of-key.result joined c.of-key.ensures c.if-is_open.ensures stands takes))
@@ -62,7 +63,7 @@ returns-else-is_open-clause-ignored c = λ ignored. absurd (true≢false (sym ig
 
 pub returns-else-is_open-clause-taken : goal.returns-else-is_open-clause-taken
 returns-else-is_open-clause-taken c =
-    let fragment = fragment_of c.args.t c.args.ip.now in
+    let fragment = fragment_of c.args.t (packet c.args.ip.now).now in
     IfOk-weaker c.begin.result _ _
         (λ joined takes given stands. stands_taken c.args.self.now c.begin.new.self given fragment joined (sym (c.if-counts_for_nothing.ensures c.args.t))
             (takes_begun c.args.self.now c.begin.new.self given fragment c.of-key.result joined c.of-key.ensures c.if-is_open.ensures stands takes)

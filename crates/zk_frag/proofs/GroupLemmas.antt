@@ -1,15 +1,15 @@
 -- A group with one more fragment, and the group that an assembly holds.
-use Rattle.std.proofs.Common.{◌≡◌, ℕ, ◌+◌, ◌-◌, ◌<◌, ◌≤◌, zero, suc, Bool, true, false, cond, not, ◌&&◌, List, [], ◌∷◌, ◌++◌, map, length, get_or, take, leb, Option, None, Some, is_some, unwrap_or, find, refl, sym, ap, subst, ◌∙◌, arith, rules, ⊎_elim, length-take-le, get_or-take}
+use Rattle.std.proofs.Common.{◌≡◌, ℕ, ◌+◌, ◌-◌, ◌<◌, ◌≤◌, zero, suc, Bool, true, false, cond, not, ◌&&◌, List, [], ◌∷◌, ◌++◌, map, length, get_or, take, leb, Option, None, Some, is_some, unwrap_or, find, refl, sym, ap, ◌∙◌, arith, ⊎_elim, length-take-le, get_or-take}
 use Rattle.std.specs.List.{list_all, range_with_len}
 use Rattle.std.specs.Option.{option_or, option_map, option_and_then}
-use Rattle.std.proofs.lemmas.Bool.{cases_lt, cases_eq, le-leb, lt-leb, leb-true, true≢false}
+use Rattle.std.proofs.lemmas.Bool.{cases_lt, cases_eq, le-leb, lt-leb, true≢false}
 use Rattle.std.proofs.lemmas.Grind.{common_steps}
 use Rattle.std.proofs.lemmas.List.Folds.{find-append, list_all-map}
 use Rattle.std.proofs.lemmas.List.FromFn.{fill_by_all}
 use Rattle.std.proofs.lemmas.Simd.{map-map}
 use Rattle.zk_frag.specs.declared.assembly.Assembly.{Assembly}
 use Rattle.zk_frag.specs.Fragment.{Fragment, byte_of, end}
-use Rattle.zk_frag.specs.Group.{byte_at, end_of, bytes_below, covered_to, is_covered, datagram}
+use Rattle.zk_frag.specs.Group.{byte_at, end_of, bytes_below, covered_to, datagram}
 use Rattle.zk_frag.specs.Buffer.{byte_held}
 use Rattle.zk_frag.specs.Standing.{Holds, Carries}
 use Rattle.zk_frag.proofs.PlaceLemmas.{option_or_assoc}
@@ -65,8 +65,8 @@ all_below test front before gap (suc n) from within =
     ⊎_elim
     (λ at. ap (λ b. b && list_all test (range_with_len (from + 1) n)) (ap test at ∙ gap) ∙ sym (lt-leb (from + suc n) front (omega (arith, at))))
     (λ ne. ap (λ b. b && list_all test (range_with_len (from + 1) n)) (before from (omega (arith, ne)))
-        ∙ all_below test front before gap n (from + 1) (omega (arith, ne))
-        ∙ ap (λ m. leb m front) (let same : from + 1 + n ≡ from + suc n = omega arith in same))
+    ∙ all_below test front before gap n (from + 1) (omega (arith, ne))
+    ∙ ap (λ m. leb m front) (let same : from + 1 + n ≡ from + suc n = omega arith in same))
     (cases_eq from front)
 
 is_some-held : (bytes : List ℕ) (covered : List Bool) (i : ℕ) → is_some (byte_held bytes covered i) ≡ get_or covered i false
@@ -82,9 +82,9 @@ pub covered_by_front : (assembly : Assembly) (group : List Fragment) → Holds a
 covered_by_front assembly group holds n =
     list_all-map is_some (byte_at group) (range_with_len 0 n)
     ∙ all_below (λ i. is_some (byte_at group i)) assembly.front
-        (λ i lt. ap is_some (holds.bytes i) ∙ is_some-held assembly.bytes.items assembly.covered.items i ∙ holds.before i lt)
-        (ap is_some (holds.bytes assembly.front) ∙ is_some-held assembly.bytes.items assembly.covered.items assembly.front ∙ holds.gap)
-        n 0 (omega arith)
+    (λ i lt. ap is_some (holds.bytes i) ∙ is_some-held assembly.bytes.items assembly.covered.items i ∙ holds.before i lt)
+    (ap is_some (holds.bytes assembly.front) ∙ is_some-held assembly.bytes.items assembly.covered.items assembly.front ∙ holds.gap)
+    n 0 (omega arith)
     ∙ ap (λ m. leb m assembly.front) (let same : 0 + n ≡ n = omega arith in same)
 
 -- a covered place stands within the list
@@ -97,7 +97,7 @@ front_within : (assembly : Assembly) (group : List Fragment) → Holds assembly 
 front_within assembly group holds =
     ⊎_elim
     (λ some. let last = covered_within assembly.covered.items (assembly.front - 1) (holds.before (assembly.front - 1) (omega (arith, some))) in
-        omega (arith, last, holds.room, some))
+    omega (arith, last, holds.room, some))
     (λ none. omega (arith, none))
     (cases_lt 0 assembly.front)
 
@@ -106,8 +106,8 @@ pub datagram_held : (assembly : Assembly) (group : List Fragment) → Holds asse
     → take n assembly.bytes.items ≡ datagram group
 datagram_held assembly group holds n named reached =
     fill_by_all (λ i. unwrap_or (byte_at group i) 0) (take n assembly.bytes.items) n 0
-        (length-take-le n assembly.bytes.items (omega (arith, reached, front_within assembly group holds)))
-        (λ i lt. get_or-take n assembly.bytes.items i 0 lt ∙ sym (byte_is i (omega (arith, lt, reached))))
+    (length-take-le n assembly.bytes.items (omega (arith, reached, front_within assembly group holds)))
+    (λ i lt. get_or-take n assembly.bytes.items i 0 lt ∙ sym (byte_is i (omega (arith, lt, reached))))
     ∙ sym (map-map (λ (o : Option ℕ). unwrap_or o 0) (byte_at group) (range_with_len 0 n))
     ∙ ap (λ m. map (λ (o : Option ℕ). unwrap_or o 0) (bytes_below group m)) (sym (ap (λ e. unwrap_or e 0) (holds.end ∙ named)))
   where
@@ -135,20 +135,20 @@ pub record Adds (old new : Assembly) (place : ℕ) (more : Bool) (payload : List
 pub holds_added : (old new : Assembly) (place : ℕ) (more : Bool) (payload : List ℕ) → Adds old new place more payload
     → (group : List Fragment) (fragment : Fragment) → Holds old group → Carries fragment place more payload → Holds new (group ++ fragment ∷ [])
 holds_added old new place more payload adds group fragment holds carries = record {
-    bytes = λ i. byte_at-append group fragment i
-        ∙ ap (λ o. option_or o (byte_of fragment.place fragment.payload i)) (holds.bytes i)
-        ∙ ap (λ p. option_or (byte_held old.bytes.items old.covered.items i) (byte_of p fragment.payload i)) carries.place_is
-        ∙ ap (λ xs. option_or (byte_held old.bytes.items old.covered.items i) (byte_of place xs i)) carries.payload_is
-        ∙ sym (adds.first i);
-    end = end_of-append group fragment
-        ∙ ap (λ o. option_or o (cond (not fragment.more) (Some (end fragment)) None)) holds.end
-        ∙ ap (λ b. option_or old.end (cond (not b) (Some (end fragment)) None)) carries.more_is
-        ∙ ap (λ n. option_or old.end (cond (not more) (Some n) None)) end_is
-        ∙ sym adds.end_is;
-    before = λ i lt. ⊎_elim (λ early. adds.kept i (holds.before i early)) (λ later. adds.before i later lt) (cases_lt i old.front);
-    gap = adds.gap;
-    room = adds.room holds.room;
-  }
+  bytes = λ i. byte_at-append group fragment i
+      ∙ ap (λ o. option_or o (byte_of fragment.place fragment.payload i)) (holds.bytes i)
+      ∙ ap (λ p. option_or (byte_held old.bytes.items old.covered.items i) (byte_of p fragment.payload i)) carries.place_is
+      ∙ ap (λ xs. option_or (byte_held old.bytes.items old.covered.items i) (byte_of place xs i)) carries.payload_is
+      ∙ sym (adds.first i);
+  end = end_of-append group fragment
+      ∙ ap (λ o. option_or o (cond (not fragment.more) (Some (end fragment)) None)) holds.end
+      ∙ ap (λ b. option_or old.end (cond (not b) (Some (end fragment)) None)) carries.more_is
+      ∙ ap (λ n. option_or old.end (cond (not more) (Some n) None)) end_is
+      ∙ sym adds.end_is;
+  before = λ i lt. ⊎_elim (λ early. adds.kept i (holds.before i early)) (λ later. adds.before i later lt) (cases_lt i old.front);
+  gap = adds.gap;
+  room = adds.room holds.room;
+}
   where
     end_is : fragment.place + length fragment.payload ≡ place + length payload
     end_is = ap (λ p. p + length fragment.payload) carries.place_is ∙ ap (λ (xs : List ℕ). place + length xs) carries.payload_is
@@ -159,9 +159,9 @@ pub holds_longer : (old new : Assembly) → ((i : ℕ) → byte_held new.bytes.i
     → new.front ≡ old.front → new.end ≡ old.end → (length old.covered.items ≤ length old.bytes.items → length new.covered.items ≤ length new.bytes.items)
     → (group : List Fragment) → Holds old group → Holds new group
 holds_longer old new same_bytes same_marks same_front same_end room group holds = record {
-    bytes = λ i. holds.bytes i ∙ sym (same_bytes i);
-    end = holds.end ∙ sym same_end;
-    before = λ i lt. same_marks i ∙ holds.before i (omega (arith, lt, same_front));
-    gap = same_marks new.front ∙ ap (λ n. get_or old.covered.items n false) same_front ∙ holds.gap;
-    room = room holds.room;
-  }
+  bytes = λ i. holds.bytes i ∙ sym (same_bytes i);
+  end = holds.end ∙ sym same_end;
+  before = λ i lt. same_marks i ∙ holds.before i (omega (arith, lt, same_front));
+  gap = same_marks new.front ∙ ap (λ n. get_or old.covered.items n false) same_front ∙ holds.gap;
+  room = room holds.room;
+}

@@ -1,8 +1,7 @@
 -- One more fragment after those that a value stands for.
-use Rattle.std.proofs.Common.{◌≡◌, Bool, true, false, cond, not, ◌&&◌, ◌||◌, ltb, ◌≤◌, List, [], ◌∷◌, ◌++◌, Option, None, Some, IsSome, filter, fold, refl, sym, ap, subst, ◌∙◌}
+use Rattle.std.proofs.Common.{◌≡◌, Bool, true, false, cond, not, ◌&&◌, ◌||◌, ltb, ◌≤◌, List, [], ◌∷◌, ◌++◌, Option, None, Some, IsSome, fold, refl, sym, ap, subst, ◌∙◌}
 use Rattle.std.specs.Option.{option_map_or}
-use Rattle.std.specs.Ordering.{is_eq}
-use Rattle.std.proofs.lemmas.Bool.{cases_Bool, false≢true, true≢false, ltb-false}
+use Rattle.std.proofs.lemmas.Bool.{cases_Bool, true≢false, ltb-false}
 use Rattle.std.proofs.lemmas.List.Elements.{filter-append}
 use Rattle.std.proofs.lemmas.List.Sums.{fold-append}
 use Rattle.std.proofs.Math.Logic.{⊎_elim}
@@ -13,9 +12,9 @@ use Rattle.zk_frag.specs.declared.frags.Joined.TheVariants.{Held, Ignored, Whole
 use Rattle.zk_frag.specs.declared.group.Group.{Group}
 use Rattle.zk_frag.specs.declared.key.Key.{Key}
 use Rattle.zk_frag.specs.Fragment.{Fragment, end, same_key, is_ignored}
-use Rattle.zk_frag.specs.Group.{first_moment, is_later, comes_late, joined_by, is_covered, datagram}
+use Rattle.zk_frag.specs.Group.{first_moment, is_later, comes_late, joined_by, is_covered}
 use Rattle.zk_frag.specs.Histories.{fragments_of, left_of, open_group, group_of, joined_of, datagram_of}
-use Rattle.zk_frag.specs.Standing.{key_cmp, group_at, Keeps, IsGroup, Takes, Stays, StandsFor}
+use Rattle.zk_frag.specs.Standing.{group_at, Keeps, Takes, Stays, StandsFor}
 use Rattle.zk_frag.proofs.KeyLemmas.{is_eq-key_cmp, same_key_is}
 
 -- the fragment counts for the key
@@ -92,13 +91,13 @@ answer_taken old new given last joined counted takes = takes.answer ∙ sym (joi
 pub stands_taken : (old new : Frags) (given : List Fragment) (last : Fragment) (joined : Joined) → is_ignored last ≡ false
     → Takes old new last.key joined (group_of given last) → StandsFor old given → StandsFor new (given ++ last ∷ [])
 stands_taken old new given last joined counted takes stands = record {
-    groups = λ key. ⊎_elim (same key) (apart key) (cases_Bool (same_key last.key key));
-    whole = λ earlier latest is made.
-        let parts = same_last given earlier last latest is in
-        let made_here = subst (λ l. joined_of given l ≡ Whole) (sym parts.1) (subst (λ g. joined_of g latest ≡ Whole) (sym parts.0) made) in
-        takes.whole (covered_from_whole (is_covered (group_of given last)) (sym (joined_of_counted given last counted) ∙ made_here))
-        ∙ ap (λ g. datagram_of g last) parts.0 ∙ ap (datagram_of earlier) parts.1;
-  }
+  groups = λ key. ⊎_elim (same key) (apart key) (cases_Bool (same_key last.key key));
+  whole = λ earlier latest is made.
+      let parts = same_last given earlier last latest is in
+      let made_here = subst (λ l. joined_of given l ≡ Whole) (sym parts.1) (subst (λ g. joined_of g latest ≡ Whole) (sym parts.0) made) in
+      takes.whole (covered_from_whole (is_covered (group_of given last)) (sym (joined_of_counted given last counted) ∙ made_here))
+      ∙ ap (λ g. datagram_of g last) parts.0 ∙ ap (datagram_of earlier) parts.1;
+}
   where
     counted_at : (key : Key) (b : Bool) → same_key last.key key ≡ b → counts key last ≡ b
     counted_at key b is = ap (λ i. same_key last.key key && not i) counted ∙ ap (λ s. s && true) is ∙ and_true b
@@ -106,12 +105,15 @@ stands_taken old new given last joined counted takes stands = record {
         and_true : (c : Bool) → (c && true) ≡ c
         and_true true = refl
         and_true false = refl
+
     here : same_key last.key last.key ≡ true → Keeps (group_at new last.key) (open_group last.key (given ++ last ∷ []))
     here itself = subst (Keeps (group_at new last.key)) (sym (open_group-append last.key given last true (counted_at last.key true itself))) takes.here
+
     same : (key : Key) → same_key last.key key ≡ true → Keeps (group_at new key) (open_group key (given ++ last ∷ []))
     same key is =
         let one = same_key_is last.key key is in
         subst (λ k. Keeps (group_at new k) (open_group k (given ++ last ∷ []))) one (here (subst (λ k. same_key last.key k ≡ true) (sym one) is))
+
     apart : (key : Key) → same_key last.key key ≡ false → Keeps (group_at new key) (open_group key (given ++ last ∷ []))
     apart key is =
         subst (λ held. Keeps held (open_group key (given ++ last ∷ []))) (sym (takes.others key (is_eq-key_cmp last.key key ∙ is)))
@@ -121,12 +123,12 @@ stands_taken old new given last joined counted takes stands = record {
 pub stands_ignored : (frags : Frags) (given : List Fragment) (last : Fragment) → is_ignored last ≡ true
     → StandsFor frags given → StandsFor frags (given ++ last ∷ [])
 stands_ignored frags given last ignored stands = record {
-    groups = λ key. subst (Keeps (group_at frags key)) (sym (open_group-append key given last false (not_counted key))) (stands.groups key);
-    whole = λ earlier latest is made.
-        let parts = same_last given earlier last latest is in
-        let ignored_here : is_ignored latest ≡ true = subst (λ l. is_ignored l ≡ true) parts.1 ignored in
-        absurd (let two : Ignored ≡ Whole = sym (ap (λ b. cond b Ignored (cond (is_covered (group_of earlier latest)) Whole Held)) ignored_here) ∙ made in cc);
-  }
+  groups = λ key. subst (Keeps (group_at frags key)) (sym (open_group-append key given last false (not_counted key))) (stands.groups key);
+  whole = λ earlier latest is made.
+      let parts = same_last given earlier last latest is in
+      let ignored_here : is_ignored latest ≡ true = subst (λ l. is_ignored l ≡ true) parts.1 ignored in
+      absurd (let two : Ignored ≡ Whole = sym (ap (λ b. cond b Ignored (cond (is_covered (group_of earlier latest)) Whole Held)) ignored_here) ∙ made in cc);
+}
   where
     not_counted : (key : Key) → counts key last ≡ false
     not_counted key = ap (λ i. same_key last.key key && not i) ignored ∙ and_false (same_key last.key key)
@@ -138,12 +140,12 @@ stands_ignored frags given last ignored stands = record {
 -- the value whose groups stay
 pub stands_on : (old new : Frags) (key : Key) (given : List Fragment) → Stays old new key → StandsFor old given → StandsFor new given
 stands_on old new key given stays stands = record {
-    groups = λ other. ⊎_elim
-        (λ is. subst (λ k. Keeps (group_at new k) (open_group k given)) (same_key_is key other is) (stays.here (open_group key given) (stands.groups key)))
-        (λ is. subst (λ held. Keeps held (open_group other given)) (sym (stays.others other (is_eq-key_cmp key other ∙ is))) (stands.groups other))
-        (cases_Bool (same_key key other));
-    whole = λ earlier last is made. stays.whole ∙ stands.whole earlier last is made;
-  }
+  groups = λ other. ⊎_elim
+      (λ is. subst (λ k. Keeps (group_at new k) (open_group k given)) (same_key_is key other is) (stays.here (open_group key given) (stands.groups key)))
+      (λ is. subst (λ held. Keeps held (open_group other given)) (sym (stays.others other (is_eq-key_cmp key other ∙ is))) (stands.groups other))
+      (cases_Bool (same_key key other));
+  whole = λ earlier last is made. stays.whole ∙ stands.whole earlier last is made;
+}
 
 -- a fragment that counts ends within the longest datagram
 pub within_from_counted : (fragment : Fragment) → is_ignored fragment ≡ false → end fragment ≤ 65535
@@ -160,10 +162,10 @@ pub takes_open : (old new : Frags) (given : List Fragment) (last : Fragment) (ke
     → Takes old new last.key joined (group_of given last)
 takes_open old new given last key joined same is_open stands takes =
     subst (Takes old new last.key joined)
-        (sym (joined_by_open (group_at old last.key) (open_group last.key given) last true (stands.groups last.key)
-            (subst (λ k. true ≡ option_map_or (λ (g : Group). not (is_later g.since last.moment)) (group_at old k) false) same is_open)))
-        (subst (λ k. (group : List Fragment) → Keeps (group_at old k) group → Takes old new k joined (group ++ last ∷ [])) same takes
-            (open_group last.key given) (stands.groups last.key))
+    (sym (joined_by_open (group_at old last.key) (open_group last.key given) last true (stands.groups last.key)
+    (subst (λ k. true ≡ option_map_or (λ (g : Group). not (is_later g.since last.moment)) (group_at old k) false) same is_open)))
+    (subst (λ k. (group : List Fragment) → Keeps (group_at old k) group → Takes old new k joined (group ++ last ∷ [])) same takes
+    (open_group last.key given) (stands.groups last.key))
 
 -- the fragment begins a group
 pub takes_begun : (old new : Frags) (given : List Fragment) (last : Fragment) (key : Key) (joined : Joined) → key ≡ last.key
@@ -171,9 +173,9 @@ pub takes_begun : (old new : Frags) (given : List Fragment) (last : Fragment) (k
     → Takes old new key joined (last ∷ []) → Takes old new last.key joined (group_of given last)
 takes_begun old new given last key joined same is_open stands takes =
     subst (Takes old new last.key joined)
-        (sym (joined_by_open (group_at old last.key) (open_group last.key given) last false (stands.groups last.key)
-            (subst (λ k. false ≡ option_map_or (λ (g : Group). not (is_later g.since last.moment)) (group_at old k) false) same is_open)))
-        (subst (λ k. Takes old new k joined (last ∷ [])) same takes)
+    (sym (joined_by_open (group_at old last.key) (open_group last.key given) last false (stands.groups last.key)
+    (subst (λ k. false ≡ option_map_or (λ (g : Group). not (is_later g.since last.moment)) (group_at old k) false) same is_open)))
+    (subst (λ k. Takes old new k joined (last ∷ [])) same takes)
 
 -- a group that is open is there
 pub there_from_open : (held : Option Group) (moment : Moment) → true ≡ option_map_or (λ (g : Group). not (is_later g.since moment)) held false → IsSome held

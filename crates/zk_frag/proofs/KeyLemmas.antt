@@ -1,5 +1,5 @@
 -- The order of keys, and the test that finds the fragments of a key.
-use Rattle.std.proofs.Common.{◌≡◌, ℕ, Bool, true, false, ◌&&◌, eqb, refl, sym, ap, ◌∙◌}
+use Rattle.std.proofs.Common.{◌≡◌, Bool, true, ◌&&◌, eqb, refl, sym, ap, ◌∙◌}
 use Rattle.std.specs.declared.cmp.Ordering.{Ordering}
 use Rattle.std.specs.declared.cmp.Ordering.TheVariants.{Less, Equal, Greater}
 use Rattle.std.specs.Cmp.{unsigned_ties}
@@ -28,7 +28,7 @@ pub is_eq-key_cmp : (a b : Key) → is_eq (key_cmp a b) ≡ same_key a b
 unfolding key_cmp
 is_eq-key_cmp a b =
     both _ _ _ _ (address_ties a.source b.source) (both _ _ _ _ (address_ties a.destination b.destination)
-        (both _ _ _ _ (sym (unsigned_ties a.protocol b.protocol)) (sym (unsigned_ties a.identification b.identification))))
+    (both _ _ _ _ (sym (unsigned_ties a.protocol b.protocol)) (sym (unsigned_ties a.identification b.identification))))
 
 same_address_is : (a b : Addr) → same_address a b ≡ true → a ≡ b
 same_address_is (V4 a) (V4 b) same = ap V4 (eqb-true a b same)

@@ -1,13 +1,12 @@
 -- Bytes at their places: a buffer with one more byte, and a payload with one more.
-use Rattle.std.proofs.Common.{◌≡◌, ℕ, ◌+◌, ◌-◌, ◌<◌, ◌≤◌, Bool, true, false, cond, List, [], ◌∷◌, ◌++◌, length, get_or, take, eqb, leb, Option, None, Some, refl, sym, ap, ◌∙◌, arith, rules, ⊎_elim, length-append, length-take-le}
+use Rattle.std.proofs.Common.{◌≡◌, ℕ, ◌+◌, ◌-◌, ◌<◌, ◌≤◌, Bool, true, false, cond, List, [], ◌∷◌, ◌++◌, length, get_or, take, eqb, Option, None, Some, refl, sym, ap, ◌∙◌, arith, ⊎_elim, length-append, length-take-le}
 use Rattle.std.proofs.lemmas.List.{take_more}
 use Rattle.std.specs.List.{slice_get}
 use Rattle.std.specs.Option.{option_or}
 use Rattle.std.proofs.Math.ListN.{set}
-use Rattle.std.proofs.lemmas.Bool.{cases_order, cases_eq, cases_lt, eq-eqb, ne_eqb, le-leb, lt-leb}
-use Rattle.std.proofs.lemmas.Bool.Decides.{nat_tests}
+use Rattle.std.proofs.lemmas.Bool.{cases_eq, cases_lt, eq-eqb, ne_eqb, le-leb, lt-leb}
 use Rattle.std.proofs.lemmas.Grind.{common_steps}
-use Rattle.std.proofs.lemmas.Option.{gets, slice_get-get_or, slice_get_past}
+use Rattle.std.proofs.lemmas.Option.{slice_get-get_or, slice_get_past}
 use Rattle.zk_frag.specs.Fragment.{byte_of}
 use Rattle.zk_frag.specs.Buffer.{byte_held}
 
@@ -34,13 +33,13 @@ slice_get-push : (xs : List ℕ) (y j : ℕ) → slice_get (xs ++ y ∷ []) j �
 slice_get-push xs y j =
     ⊎_elim
     (λ e. slice_get-get_or (xs ++ y ∷ []) j y (omega (arith, length-append {A = ℕ}, e)) ∙ ap Some (grind (arith, common_steps, e))
-        ∙ sym (ap (λ o. option_or o (one_byte (length xs) y j)) (slice_get_past xs j (omega (arith, e))) ∙ one_byte-here (length xs) y j e))
+    ∙ sym (ap (λ o. option_or o (one_byte (length xs) y j)) (slice_get_past xs j (omega (arith, e))) ∙ one_byte-here (length xs) y j e))
     (λ ne. ⊎_elim
-        (λ lt. slice_get-get_or (xs ++ y ∷ []) j 0 (omega (arith, length-append {A = ℕ}, lt)) ∙ ap Some (grind (arith, common_steps, lt))
-            ∙ sym (ap (λ o. option_or o (one_byte (length xs) y j)) (slice_get-get_or xs j 0 lt)))
-        (λ ge. slice_get_past (xs ++ y ∷ []) j (omega (arith, length-append {A = ℕ}, ge, ne))
-            ∙ sym (ap (λ o. option_or o (one_byte (length xs) y j)) (slice_get_past xs j ge) ∙ one_byte-other (length xs) y j ne))
-        (cases_lt j (length xs)))
+    (λ lt. slice_get-get_or (xs ++ y ∷ []) j 0 (omega (arith, length-append {A = ℕ}, lt)) ∙ ap Some (grind (arith, common_steps, lt))
+    ∙ sym (ap (λ o. option_or o (one_byte (length xs) y j)) (slice_get-get_or xs j 0 lt)))
+    (λ ge. slice_get_past (xs ++ y ∷ []) j (omega (arith, length-append {A = ℕ}, ge, ne))
+    ∙ sym (ap (λ o. option_or o (one_byte (length xs) y j)) (slice_get_past xs j ge) ∙ one_byte-other (length xs) y j ne))
+    (cases_lt j (length xs)))
     (cases_eq j (length xs))
 
 -- a byte written where there was none
@@ -74,13 +73,13 @@ pub byte_of_more : (from : ℕ) (payload : List ℕ) (k i : ℕ) → k < length 
 byte_of_more from payload k i within =
     ⊎_elim
     (λ before. byte_of-before from (take (k + 1) payload) i before
-        ∙ sym (ap (λ o. option_or o (one_byte (from + k) (get_or payload k 0) i)) (byte_of-before from (take k payload) i before)
-            ∙ one_byte-other (from + k) (get_or payload k 0) i (λ e. omega (arith, e, before))))
+    ∙ sym (ap (λ o. option_or o (one_byte (from + k) (get_or payload k 0) i)) (byte_of-before from (take k payload) i before)
+    ∙ one_byte-other (from + k) (get_or payload k 0) i (λ e. omega (arith, e, before))))
     (λ behind. byte_of-behind from (take (k + 1) payload) i behind
-        ∙ ap (λ xs. slice_get xs (i - from)) (take_more payload k 0 within)
-        ∙ slice_get-push (take k payload) (get_or payload k 0) (i - from)
-        ∙ ap (λ o. option_or o (one_byte (length (take k payload)) (get_or payload k 0) (i - from))) (sym (byte_of-behind from (take k payload) i behind))
-        ∙ ap (option_or (byte_of from (take k payload) i)) (one_byte-moved from k (get_or payload k 0) i behind (length-take-le k payload (omega (arith, within)))))
+    ∙ ap (λ xs. slice_get xs (i - from)) (take_more payload k 0 within)
+    ∙ slice_get-push (take k payload) (get_or payload k 0) (i - from)
+    ∙ ap (λ o. option_or o (one_byte (length (take k payload)) (get_or payload k 0) (i - from))) (sym (byte_of-behind from (take k payload) i behind))
+    ∙ ap (option_or (byte_of from (take k payload) i)) (one_byte-moved from k (get_or payload k 0) i behind (length-take-le k payload (omega (arith, within)))))
     (cases_lt i from)
   where
     one_byte-moved : (from k byte i : ℕ) {n : ℕ} → from ≤ i → n ≡ k → one_byte n byte (i - from) ≡ one_byte (from + k) byte i

@@ -1,5 +1,5 @@
 -- Fragments that show what the definitions of `Histories` say.
-use Rattle.std.proofs.Common.{◌≡◌, ℕ, ◌+◌, pos, List, [], ◌∷◌, ◌++◌, Bool, true, false, refl}
+use Rattle.std.proofs.Common.{◌≡◌, ℕ, pos, List, [], ◌∷◌, Bool, true, false, refl}
 use Rattle.std.specs.Prelude.{codes}
 use Rattle.zk_base.specs.declared.network.Addr.TheVariants.{V4}
 use Rattle.zk_frag.specs.declared.key.Key.{Key}

@@ -1,5 +1,5 @@
 -- A table of groups after its group of one key changed.
-use Rattle.std.proofs.Common.{◌≡◌, Bool, true, false, cond, List, [], ◌∷◌, ◌++◌, Option, None, Some, refl, sym, ap, subst, ◌∙◌}
+use Rattle.std.proofs.Common.{◌≡◌, true, false, cond, List, [], ◌∷◌, ◌++◌, Option, None, Some, sym, ap, subst, ◌∙◌}
 use Rattle.std.specs.BTreeMap as tree
 use Rattle.std.specs.Map.{lookup}
 use Rattle.std.specs.Ordering.{is_eq}
@@ -28,39 +28,39 @@ pub takes_held : (old new : Frags) (key : Key) (group : Group) (fragments : List
     → is_covered fragments ≡ false → IsGroup group fragments → Takes old new key Held fragments
 unfolding group_at
 takes_held old new key group fragments changes not_yet is_group = record {
-    answer = sym (ap (λ b. cond b Whole Held) not_yet);
-    here = subst (λ held. Keeps held (left_of fragments)) (sym changes.1)
-        (subst (IsGroup group) (sym (ap (λ b. cond b [] fragments) not_yet)) is_group);
-    others = changes.2;
-    whole = λ covered. absurd (true≢false (sym covered ∙ not_yet));
-  }
+  answer = sym (ap (λ b. cond b Whole Held) not_yet);
+  here = subst (λ held. Keeps held (left_of fragments)) (sym changes.1)
+      (subst (IsGroup group) (sym (ap (λ b. cond b [] fragments) not_yet)) is_group);
+  others = changes.2;
+  whole = λ covered. absurd (true≢false (sym covered ∙ not_yet));
+}
 
 pub takes_whole : (old new : Frags) (key : Key) (fragments : List Fragment) → group_at new key ≡ None
     → ((other : Key) → is_eq (key_cmp key other) ≡ false → group_at new other ≡ group_at old other)
     → is_covered fragments ≡ true → new.whole.items ≡ datagram fragments → Takes old new key Whole fragments
 takes_whole old new key fragments gone others covered whole = record {
-    answer = sym (ap (λ b. cond b Whole Held) covered);
-    here = subst (λ held. Keeps held (left_of fragments)) (sym gone) (ap (λ b. cond b [] fragments) covered);
-    others = others;
-    whole = λ _. whole;
-  }
+  answer = sym (ap (λ b. cond b Whole Held) covered);
+  here = subst (λ held. Keeps held (left_of fragments)) (sym gone) (ap (λ b. cond b [] fragments) covered);
+  others = others;
+  whole = λ _. whole;
+}
 
 pub stays_changed : (old new : Frags) (key : Key) (was is : Group) → group_at old key ≡ Some was → Changes old new key (Some is)
     → ((fragments : List Fragment) → IsGroup was fragments → IsGroup is fragments) → new.whole.items ≡ old.whole.items → Stays old new key
 unfolding group_at
 stays_changed old new key was is held changes keeps whole = record {
-    here = λ fragments kept. subst (λ held. Keeps held fragments) (sym changes.1) (keeps fragments (subst (λ held. Keeps held fragments) held kept));
-    others = changes.2;
-    whole = whole;
-  }
+  here = λ fragments kept. subst (λ held. Keeps held fragments) (sym changes.1) (keeps fragments (subst (λ held. Keeps held fragments) held kept));
+  others = changes.2;
+  whole = whole;
+}
 
 pub stays_same : (old new : Frags) (key : Key) → new.groups.entries ≡ old.groups.entries → new.whole.items ≡ old.whole.items → Stays old new key
 unfolding group_at
 stays_same old new key same whole = record {
-    here = λ fragments kept. subst (λ held. Keeps held fragments) (sym (at key)) kept;
-    others = λ other _. at other;
-    whole = whole;
-  }
+  here = λ fragments kept. subst (λ held. Keeps held fragments) (sym (at key)) kept;
+  others = λ other _. at other;
+  whole = whole;
+}
   where
     at : (q : Key) → tree.get key_cmp new.groups q ≡ tree.get key_cmp old.groups q
     at q = ap (lookup (tree.is_at (key_cmp q))) same

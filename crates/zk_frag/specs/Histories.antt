@@ -1,5 +1,5 @@
 -- What fragments make, by the list of all that were given so far.
-use Rattle.std.specs.Prelude.{ℕ, Bool, not, ◌&&◌, List, [], filter, fold, if◌then◌else◌}
+use Rattle.std.specs.Prelude.{ℕ, not, ◌&&◌, List, [], filter, fold, if◌then◌else◌}
 use Rattle.zk_frag.specs.declared.key.Key.{Key}
 use Rattle.zk_frag.specs.declared.frags.Joined.{Joined}
 use Rattle.zk_frag.specs.declared.frags.Joined.TheVariants.{Held, Ignored, Whole}

@@ -85,9 +85,19 @@ fn first_copies_stand_for_30_seconds(rt: HostRuntime) -> Result<(), Fail> {
         let mut frags = Frags::new(rt.alloc());
         let last = taken(rt.alloc(), &mut frags, 0, part(2, false, b"CCCCCCCC"))?;
         assert!(rt; last == Some(Joined::Held));
-        let middle = taken(rt.alloc(), &mut frags, *later, part(1, true, b"bbbbbbbbXXXXXXXX"))?;
+        let middle = taken(
+            rt.alloc(),
+            &mut frags,
+            *later,
+            part(1, true, b"bbbbbbbbXXXXXXXX"),
+        )?;
         assert!(rt; middle == Some(Joined::Held));
-        let first = taken(rt.alloc(), &mut frags, *later, part(0, true, b"aaaaaaaaYYYYYYYY"))?;
+        let first = taken(
+            rt.alloc(),
+            &mut frags,
+            *later,
+            part(0, true, b"aaaaaaaaYYYYYYYY"),
+        )?;
         assert!(rt; first == Some(*want));
         if *want == Joined::Whole {
             assert_eq!(rt; frags.whole(), b"aaaaaaaabbbbbbbbCCCCCCCC".as_slice());
@@ -129,7 +139,13 @@ fn cut_and_too_long_fragments_count_for_nothing(rt: HostRuntime) -> Result<(), F
         (part(8191, false, b"12345678"), Joined::Ignored),
         (part(8191, false, b"1234567"), Joined::Held),
         (part(1, false, b"b"), Joined::Held),
-        (Fields { identification: 8, ..whole }, Joined::Held),
+        (
+            Fields {
+                identification: 8,
+                ..whole
+            },
+            Joined::Held,
+        ),
     ];
     let mut frags = Frags::new(rt.alloc());
     for (fields, want) in &rows {

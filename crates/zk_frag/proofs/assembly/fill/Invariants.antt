@@ -9,5 +9,5 @@ abbrev pub invariant-loop-k : goal.invariant-loop-k
 invariant-loop-k l = record {
   first : (i : ℕ) → byte_held l.bytes l.covered i
       ≡ option_or (byte_held l.initial.bytes l.initial.covered i) (byte_of l.place (take l.k l.payload) i);
-  kept : (i : ℕ) → get_or l.initial.covered i false ≡ true → get_or l.covered i false ≡ true
+  kept : (i : ℕ) → get_or l.initial.covered i false ≡ true → get_or l.covered i false ≡ true;
 }

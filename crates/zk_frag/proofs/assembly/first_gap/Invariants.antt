@@ -5,7 +5,7 @@ use Rattle.zk_frag.proofs.assembly.first_gap.Given as goal
 abbrev pub invariant-loop-place : goal.invariant-loop-place
 invariant-loop-place l = record {
   least : l.from ≤ l.place;
-  before : (i : ℕ) → l.from ≤ i → i < l.place → get_or l.covered i false ≡ true
+  before : (i : ℕ) → l.from ≤ i → i < l.place → get_or l.covered i false ≡ true;
 }
 
 abbrev pub decreases-loop-place : goal.decreases-loop-place

@@ -1,4 +1,4 @@
-use Rattle.std.proofs.Common.{◌≡◌, Some, None, ap, sym, ◌∙◌}
+use Rattle.std.proofs.Common.{ap, sym, ◌∙◌}
 use Rattle.zk_frag.specs.Group.{covered_to}
 use Rattle.zk_frag.proofs.GroupLemmas.{covered_by_front}
 use Rattle.zk_frag.proofs.assembly.Assembly.is_whole.Goals as goal

@@ -1,11 +1,9 @@
-use Rattle.std.proofs.Common.{◌≡◌, true, false, List, [], ◌∷◌, ◌++◌, sym, ap, ◌∙◌}
+use Rattle.std.proofs.Common.{sym, ◌∙◌}
 use Rattle.std.proofs.lemmas.Bool.{true≢false}
 use Rattle.std.proofs.lemmas.Result.{IfOk-weaker, on_err_weaker}
 use Rattle.zk_link_ip.specs.Views.{packet}
-use Rattle.zk_frag.specs.declared.frags.Joined.{Joined}
-use Rattle.zk_frag.specs.Fragment.{Fragment, fragment_of, is_ignored}
-use Rattle.zk_frag.specs.Histories.{joined_of, open_group}
-use Rattle.zk_frag.specs.Standing.{StandsFor, Takes, group_at}
+use Rattle.zk_frag.specs.Fragment.{fragment_of}
+use Rattle.zk_frag.specs.Standing.{group_at}
 use Rattle.zk_frag.proofs.HistoryLemmas.{within_from_counted, takes_open, takes_begun, there_from_open, answer_ignored, answer_taken, stands_taken, stands_ignored, stands_on}
 use Rattle.zk_frag.proofs.frags.Frags.take.Goals as goal
 
@@ -30,9 +28,9 @@ pub returns-then-is_open-clause-answer : goal.returns-then-is_open-clause-answer
 returns-then-is_open-clause-answer c =
     let fragment = fragment_of c.args.t (packet c.args.ip.now).now in
     IfOk-weaker c.go_on.result _ _
-        (λ joined takes given stands. answer_taken c.args.self.now c.go_on.new.self given fragment joined (sym (c.if-counts_for_nothing.ensures c.args.t))
-            (takes_open c.args.self.now c.go_on.new.self given fragment c.of-key.result joined c.of-key.ensures c.if-is_open.ensures stands (takes c.args.t)))
-        c.go_on.ensures.ok
+    (λ joined takes given stands. answer_taken c.args.self.now c.go_on.new.self given fragment joined (sym (c.if-counts_for_nothing.ensures c.args.t))
+    (takes_open c.args.self.now c.go_on.new.self given fragment c.of-key.result joined c.of-key.ensures c.if-is_open.ensures stands (takes c.args.t)))
+    c.go_on.ensures.ok
 
 pub returns-then-is_open-clause-ignored : goal.returns-then-is_open-clause-ignored
 returns-then-is_open-clause-ignored c = λ ignored. absurd (true≢false (sym ignored ∙ sym (c.if-counts_for_nothing.ensures c.args.t)))
@@ -41,10 +39,10 @@ pub returns-then-is_open-clause-taken : goal.returns-then-is_open-clause-taken
 returns-then-is_open-clause-taken c =
     let fragment = fragment_of c.args.t (packet c.args.ip.now).now in
     IfOk-weaker c.go_on.result _ _
-        (λ joined takes given stands. stands_taken c.args.self.now c.go_on.new.self given fragment joined (sym (c.if-counts_for_nothing.ensures c.args.t))
-            (takes_open c.args.self.now c.go_on.new.self given fragment c.of-key.result joined c.of-key.ensures c.if-is_open.ensures stands (takes c.args.t))
-            stands)
-        c.go_on.ensures.ok
+    (λ joined takes given stands. stands_taken c.args.self.now c.go_on.new.self given fragment joined (sym (c.if-counts_for_nothing.ensures c.args.t))
+    (takes_open c.args.self.now c.go_on.new.self given fragment c.of-key.result joined c.of-key.ensures c.if-is_open.ensures stands (takes c.args.t))
+    stands)
+    c.go_on.ensures.ok
 
 pub returns-then-is_open-clause-memory : goal.returns-then-is_open-clause-memory
 returns-then-is_open-clause-memory c =
@@ -54,9 +52,9 @@ pub returns-else-is_open-clause-answer : goal.returns-else-is_open-clause-answer
 returns-else-is_open-clause-answer c =
     let fragment = fragment_of c.args.t (packet c.args.ip.now).now in
     IfOk-weaker c.begin.result _ _
-        (λ joined takes given stands. answer_taken c.args.self.now c.begin.new.self given fragment joined (sym (c.if-counts_for_nothing.ensures c.args.t))
-            (takes_begun c.args.self.now c.begin.new.self given fragment c.of-key.result joined c.of-key.ensures c.if-is_open.ensures stands takes))
-        c.begin.ensures.ok
+    (λ joined takes given stands. answer_taken c.args.self.now c.begin.new.self given fragment joined (sym (c.if-counts_for_nothing.ensures c.args.t))
+    (takes_begun c.args.self.now c.begin.new.self given fragment c.of-key.result joined c.of-key.ensures c.if-is_open.ensures stands takes))
+    c.begin.ensures.ok
 
 pub returns-else-is_open-clause-ignored : goal.returns-else-is_open-clause-ignored
 returns-else-is_open-clause-ignored c = λ ignored. absurd (true≢false (sym ignored ∙ sym (c.if-counts_for_nothing.ensures c.args.t)))
@@ -65,10 +63,10 @@ pub returns-else-is_open-clause-taken : goal.returns-else-is_open-clause-taken
 returns-else-is_open-clause-taken c =
     let fragment = fragment_of c.args.t (packet c.args.ip.now).now in
     IfOk-weaker c.begin.result _ _
-        (λ joined takes given stands. stands_taken c.args.self.now c.begin.new.self given fragment joined (sym (c.if-counts_for_nothing.ensures c.args.t))
-            (takes_begun c.args.self.now c.begin.new.self given fragment c.of-key.result joined c.of-key.ensures c.if-is_open.ensures stands takes)
-            stands)
-        c.begin.ensures.ok
+    (λ joined takes given stands. stands_taken c.args.self.now c.begin.new.self given fragment joined (sym (c.if-counts_for_nothing.ensures c.args.t))
+    (takes_begun c.args.self.now c.begin.new.self given fragment c.of-key.result joined c.of-key.ensures c.if-is_open.ensures stands takes)
+    stands)
+    c.begin.ensures.ok
 
 pub returns-else-is_open-clause-memory : goal.returns-else-is_open-clause-memory
 returns-else-is_open-clause-memory c =

@@ -72,6 +72,7 @@ joined_by_open (Some held) group fragment is_open keeps is =
 
 joined_of_counted : (given : List Fragment) (last : Fragment) → is_ignored last ≡ false
     → joined_of given last ≡ cond (is_covered (group_of given last)) Whole Held
+unfolding joined_of
 joined_of_counted given last counted = ap (λ b. cond b Ignored (cond (is_covered (group_of given last)) Whole Held)) counted
 
 covered_from_whole : (b : Bool) → cond b Whole Held ≡ Whole → b ≡ true
@@ -80,6 +81,7 @@ covered_from_whole false is = cc
 
 -- what a fragment does that does not count
 pub answer_ignored : (given : List Fragment) (last : Fragment) → is_ignored last ≡ true → Ignored ≡ joined_of given last
+unfolding joined_of
 answer_ignored given last ignored = sym (ap (λ b. cond b Ignored (cond (is_covered (group_of given last)) Whole Held)) ignored)
 
 -- what a fragment that counts does
@@ -90,6 +92,7 @@ answer_taken old new given last joined counted takes = takes.answer ∙ sym (joi
 -- the value that took a fragment that counts
 pub stands_taken : (old new : Frags) (given : List Fragment) (last : Fragment) (joined : Joined) → is_ignored last ≡ false
     → Takes old new last.key joined (group_of given last) → StandsFor old given → StandsFor new (given ++ last ∷ [])
+unfolding datagram_of
 stands_taken old new given last joined counted takes stands = record {
   groups = λ key. ⊎_elim (same key) (apart key) (cases_Bool (same_key last.key key));
   whole = λ earlier latest is made.
@@ -122,6 +125,7 @@ stands_taken old new given last joined counted takes stands = record {
 -- the value that took a fragment that does not count
 pub stands_ignored : (frags : Frags) (given : List Fragment) (last : Fragment) → is_ignored last ≡ true
     → StandsFor frags given → StandsFor frags (given ++ last ∷ [])
+unfolding joined_of
 stands_ignored frags given last ignored stands = record {
   groups = λ key. subst (Keeps (group_at frags key)) (sym (open_group-append key given last false (not_counted key))) (stands.groups key);
   whole = λ earlier latest is made.

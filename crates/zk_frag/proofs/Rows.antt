@@ -31,49 +31,49 @@ first : ℕ → Fragment
 first microseconds = fragment microseconds 0 true (codes "aaaaaaaaYYYYYYYY")
 
 last_held : joined_of [] last ≡ Held
-unfolding last fragment one_key
+unfolding last fragment one_key joined_of
 last_held = refl
 
 middle_held : joined_of (last ∷ []) (middle 0) ≡ Held
-unfolding last middle fragment one_key
+unfolding last middle fragment one_key joined_of
 middle_held = refl
 
 first_whole : joined_of (last ∷ middle 0 ∷ []) (first 0) ≡ Whole
-unfolding last middle first fragment one_key
+unfolding last middle first fragment one_key joined_of
 first_whole = refl
 
 first_copies : datagram_of (last ∷ middle 0 ∷ []) (first 0) ≡ codes "aaaaaaaabbbbbbbbCCCCCCCC"
-unfolding last middle first fragment one_key
+unfolding last middle first fragment one_key datagram_of
 first_copies = refl
 
 -- 30 seconds after the group's first fragment
 in_time-middle_held : joined_of (last ∷ []) (middle 30000000) ≡ Held
-unfolding last middle fragment one_key
+unfolding last middle fragment one_key joined_of
 in_time-middle_held = refl
 
 in_time-first_whole : joined_of (last ∷ middle 30000000 ∷ []) (first 30000000) ≡ Whole
-unfolding last middle first fragment one_key
+unfolding last middle first fragment one_key joined_of
 in_time-first_whole = refl
 
 -- 31 seconds after it
 late-middle_held : joined_of (last ∷ []) (middle 31000000) ≡ Held
-unfolding last middle fragment one_key
+unfolding last middle fragment one_key joined_of
 late-middle_held = refl
 
 late-first_held : joined_of (last ∷ middle 31000000 ∷ []) (first 31000000) ≡ Held
-unfolding last middle first fragment one_key
+unfolding last middle first fragment one_key joined_of
 late-first_held = refl
 
 -- once it is whole, its group is gone
 whole_is_gone : joined_of (last ∷ middle 0 ∷ first 0 ∷ []) last ≡ Held
-unfolding last middle first fragment one_key
+unfolding last middle first fragment one_key joined_of
 whole_is_gone = refl
 
 -- the longest datagram, and one byte more
 longest_held : joined_of [] (fragment 0 65528 false (codes "1234567")) ≡ Held
-unfolding fragment one_key
+unfolding fragment one_key joined_of
 longest_held = refl
 
 too_long_ignored : joined_of [] (fragment 0 65528 false (codes "12345678")) ≡ Ignored
-unfolding fragment one_key
+unfolding fragment one_key joined_of
 too_long_ignored = refl

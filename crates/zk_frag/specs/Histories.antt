@@ -23,10 +23,10 @@ abbrev pub group_of : List Fragment → Fragment → List Fragment
 group_of given fragment = joined_by (open_group fragment.key given) fragment
 
 -- what one more fragment does
-abbrev pub joined_of : List Fragment → Fragment → Joined
+unfoldable pub joined_of : List Fragment → Fragment → Joined
 joined_of given fragment =
     if is_ignored fragment then Ignored else if is_covered (group_of given fragment) then Whole else Held
 
 -- the bytes of the datagram that it makes whole
-abbrev pub datagram_of : List Fragment → Fragment → List ℕ
+unfoldable pub datagram_of : List Fragment → Fragment → List ℕ
 datagram_of given fragment = datagram (group_of given fragment)

@@ -25,6 +25,16 @@ cut = 1 ∷ 0 ∷ 0 ∷ 0 ∷ 0 ∷ 0 ∷ 0 ∷ 0 ∷ 2 ∷ 0 ∷ 0 ∷ 0 ∷ 2 
 backwards : List ℕ
 backwards = 5 ∷ 0 ∷ 0 ∷ 0 ∷ 0 ∷ 0 ∷ 0 ∷ 0 ∷ 0 ∷ 0 ∷ 0 ∷ 0 ∷ 0 ∷ 0 ∷ 0 ∷ 0 ∷ 3 ∷ 0 ∷ 0 ∷ 0 ∷ 0 ∷ 0 ∷ 0 ∷ 0 ∷ 0 ∷ 0 ∷ 0 ∷ 0 ∷ 0 ∷ 0 ∷ 0 ∷ 0 ∷ []
 
+-- a big-endian capture with nanoseconds: no bytes of 60 at 1.999999999 s
+nanoseconds : List ℕ
+nanoseconds =
+    0xa1 ∷ 0xb2 ∷ 0x3c ∷ 0x4d ∷ 0 ∷ 2 ∷ 0 ∷ 4 ∷ 0 ∷ 0 ∷ 0 ∷ 0 ∷ 0 ∷ 0 ∷ 0 ∷ 0 ∷ 0 ∷ 4 ∷ 0 ∷ 0 ∷ 0 ∷ 0 ∷ 0 ∷ 1 ∷
+    0 ∷ 0 ∷ 0 ∷ 1 ∷ 0x3b ∷ 0x9a ∷ 0xc9 ∷ 0xff ∷ 0 ∷ 0 ∷ 0 ∷ 0 ∷ 0 ∷ 0 ∷ 0 ∷ 60 ∷ []
+
+nanoseconds_are_floored : (outcome list (one nanoseconds)).said ≡ codes "1.999999\tpacket\t1.999999\t0\t60\n"
+unfolding one list nanoseconds span_decimal digits
+nanoseconds_are_floored = refl
+
 an_empty_file_is_refused_at_its_first_byte : (outcome list (one [])).ending ≡ CaptureRefused (codes "c.pcap") 0
 unfolding one list
 an_empty_file_is_refused_at_its_first_byte = refl

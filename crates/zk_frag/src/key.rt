@@ -15,6 +15,7 @@ pub struct Key {
 }
 
 impl Key {
+    /// The key of a packet's fragments: fields of its header alone.
     pub fn of(ip: &Ip4<'_>) -> Key
         ensures { result ≡ key_of (packet ip.now).now }
     {

@@ -46,52 +46,52 @@ const REPLY: &[u8] = &[
 /// Ports, numbers and control bits.
 type Fields = (u16, u16, u32, u32, u8);
 
+/// Segments without a payload, and their fields.
+const SEGMENTS: [(Addr, Addr, &[u8], Fields); 3] = [
+    (
+        BROWSER,
+        SITE,
+        SYN,
+        (59344, 80, 1_051_207_910, 0, flags::SYN),
+    ),
+    (
+        SITE,
+        BROWSER,
+        SYN_ACK,
+        (
+            80,
+            59344,
+            2_345_086_766,
+            1_051_207_911,
+            flags::SYN | flags::ACK,
+        ),
+    ),
+    (
+        SITE,
+        BROWSER,
+        RESET,
+        (81, 60658, 0, 65_490_529, flags::RST | flags::ACK),
+    ),
+];
+
+fn fields_of(tcp: Tcp<'_>) -> Fields {
+    (
+        tcp.src_port(),
+        tcp.dst_port(),
+        tcp.seq(),
+        tcp.ack(),
+        tcp.flags(),
+    )
+}
+
 #[test]
 fn tcp_fields_are_those_that_tshark_prints(rt: HostRuntime) -> Result<(), L4Fault> {
-    let rows: [(Addr, Addr, &[u8], Fields, usize); 3] = [
-        (
-            BROWSER,
-            SITE,
-            SYN,
-            (59344, 80, 1_051_207_910, 0, flags::SYN),
-            0,
-        ),
-        (
-            SITE,
-            BROWSER,
-            SYN_ACK,
-            (
-                80,
-                59344,
-                2_345_086_766,
-                1_051_207_911,
-                flags::SYN | flags::ACK,
-            ),
-            0,
-        ),
-        (
-            SITE,
-            BROWSER,
-            RESET,
-            (81, 60658, 0, 65_490_529, flags::RST | flags::ACK),
-            0,
-        ),
-    ];
-    for (src, dst, bytes, fields, payload) in rows {
+    for (src, dst, bytes, fields) in SEGMENTS {
         assert!(rt; bytes.len() <= 65535);
         let tcp = Tcp::read(src, dst, bytes, bytes.len(), true)?;
-        assert_eq!(rt;
-            (
-                tcp.src_port(),
-                tcp.dst_port(),
-                tcp.seq(),
-                tcp.ack(),
-                tcp.flags()
-            ),
-            fields
-        );
-        assert_eq!(rt; tcp.full_payload(), payload);
-        assert_eq!(rt; tcp.payload().len(), payload);
+        assert_eq!(rt; fields_of(tcp), fields);
+        assert_eq!(rt; tcp.full_payload(), 0);
+        assert!(rt; tcp.payload().is_empty());
     }
     Ok(())
 }

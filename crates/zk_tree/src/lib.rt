@@ -1,0 +1,10 @@
+//! Tokens and syntax trees of scripts, each with its place in the text.
+#![tactic(auto)]
+
+mod place;
+mod token;
+mod tree;
+
+pub use place::Place;
+pub use token::{Sign, Token, TokenKind};
+pub use tree::{Block, Decl, Expr, Param, Stmt, Tree, Type};

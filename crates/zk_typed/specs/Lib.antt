@@ -1,0 +1,5 @@
+pub mod Typed
+pub mod Text
+pub mod World
+pub mod Exec
+pub mod Run

@@ -1,0 +1,20 @@
+-- The text of a value as `print` writes it (Zeek manual, print): times in seconds with six decimals.
+use Rattle.std.specs.Prelude.{ℕ, Bool, List, [], ◌∷◌, ◌++◌, map, codes, decimal, if◌then◌else◌}
+use Rattle.zk_tree.specs.Value.{Value, Truth, Count, Text, Time}
+use Rattle.zk_text.specs.Span.{span_decimal}
+
+abbrev pub text_of : Value → List ℕ
+text_of (Truth truth) = if truth then codes "T" else codes "F"
+text_of (Count count) = decimal count
+text_of (Text bytes) = bytes
+text_of (Time moment) = span_decimal moment.0
+
+-- texts with a comma and a blank between each and the next
+abbrev pub with_commas : List (List ℕ) → List ℕ
+with_commas [] = []
+with_commas (first ∷ []) = first
+with_commas (first ∷ second ∷ others) = first ++ codes ", " ++ with_commas (second ∷ others)
+
+-- the line of values that are printed together, without its end
+abbrev pub line_of : List Value → List ℕ
+line_of values = with_commas (map text_of values)

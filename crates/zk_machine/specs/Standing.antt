@@ -1,5 +1,5 @@
 -- What a machine stands for: a program, what was given out, and a world.
-use Rattle.std.specs.Prelude.{◌≡◌, ℕ, List, ◌++◌, Bool, true, false}
+use Rattle.std.specs.Prelude.{◌≡◌, ℕ, List, ◌++◌, length, true, false}
 use Rattle.zk_typed.specs.declared.program.Program.{Program}
 use Rattle.zk_typed.specs.World.{World}
 use Rattle.zk_value.specs.declared.code.Code.{Code}
@@ -16,6 +16,10 @@ pub record StandsFor (machine : Machine) (program : Program) (given : List (List
   pub time : machine.time ≡ world.time
   pub lines : world.lines ≡ given ++ machine.lines.items
   pub works : machine.failed ≡ false
+
+-- how many of its lines were not yet given out
+abbrev pub waiting : Machine → ℕ
+waiting machine = length machine.lines.items
 
 -- want of memory has broken it
 abbrev pub HasFailed : Machine → Type 0

@@ -1,4 +1,4 @@
-ghost use Rattle.std.specs.Prelude.{◌≡◌, ◌<◌, ℕ, List, [], ◌∷◌, ◌++◌, length, map, Some, IfOk, OnOk, OnErr, IfSome, OnSome, IsErr, IsNone, IfNone, slice_get};
+ghost use Rattle.std.specs.Prelude.{◌≡◌, ◌<◌, ◌+◌, ℕ, List, [], ◌∷◌, ◌++◌, length, map, Some, IfOk, OnOk, OnErr, IfSome, OnSome, IsErr, IsNone, IfNone, slice_get};
 ghost use Rattle.zk_typed.specs.declared.program.Program.{Program};
 ghost use Rattle.zk_typed.specs.declared.program.Handler.{Handler};
 ghost use Rattle.zk_typed.specs.Exec.{exec_body, end_of};
@@ -24,7 +24,7 @@ pub struct Machine {
 }
 
 impl Machine {
-    ghost use Rattle.zk_machine.specs.Standing.{StandsFor, HasFailed, code_of};
+    ghost use Rattle.zk_machine.specs.Standing.{StandsFor, HasFailed, code_of, waiting};
 
     /// A machine at the beginning of a run: network time is 0, and nothing is printed.
     pub fn new(alloc: Global, code: Code) -> Result<Machine, Mem>
@@ -83,6 +83,7 @@ impl Machine {
             → StandsFor self.new program (given ++ line_in out ∷ []) world) }
         ensures none { IfNone result ((program : Program) (given : List (List ℕ)) (world : World) → StandsFor self.old program given world
             → (given ≡ world.lines) × StandsFor self.new program given world) }
+        ensures fewer { IfSome result (λ out. waiting self.new + 1 ≡ waiting self.old) }
         ensures code { code_of self.new ≡ code_of self.old }
         ensures failed { HasFailed self.old → IsNone result × HasFailed self.new }
     {

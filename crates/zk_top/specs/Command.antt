@@ -1,6 +1,8 @@
 -- The command line: which words are a command, and which word is the first that isn't understood.
-use Rattle.std.specs.Prelude.{◌≡◌, ℕ, ◌+◌, ◌<◌, ◌≤◌, take, Bool, true, false, not, ◌&&◌, ◌==◌, List, [], ◌∷◌, ◌++◌, length, codes, Option, Some, None, Result, Ok, Err, IsTrue, if◌then◌else◌}
+use Rattle.std.specs.Prelude.{◌≡◌, ℕ, ◌+◌, ◌<◌, ◌≤◌, take, Bool, true, false, not, ◌&&◌, ◌||◌, ◌==◌, List, [], ◌∷◌, ◌++◌, length, codes, Option, Some, None, Result, Ok, Err, IsTrue, if◌then◌else◌}
 use Rattle.std.specs.Str.{bytes_eq}
+use Rattle.zk_top.specs.declared.command.Slot.{Slot}
+use Rattle.zk_top.specs.declared.command.Slot.TheVariants as slot
 use Rattle.zk_top.specs.declared.command.Command as code
 use Rattle.zk_top.specs.declared.command.Command.TheVariants as variants
 
@@ -8,6 +10,8 @@ use Rattle.zk_top.specs.declared.command.Command.TheVariants as variants
 pub data Command : Type 0 where
   -- say a line for each item of a capture
   ListItems : (file : List ℕ) → Command
+  -- run a script over a capture
+  RunScript : (file script : List ℕ) → Command
 
 -- the name of a file is neither empty nor like an option
 abbrev pub is_file_name : List ℕ → Bool
@@ -17,26 +21,48 @@ is_file_name (first ∷ others) = not (first == 45)
 -- the words of a command
 abbrev pub words_of : Command → List (List ℕ)
 words_of (ListItems file) = codes "list" ∷ file ∷ []
+words_of (RunScript file script) = codes "run" ∷ codes "-b" ∷ codes "-r" ∷ file ∷ script ∷ []
 
 -- the files that it names are named so
 abbrev pub is_well_named : Command → Bool
 is_well_named (ListItems file) = is_file_name file
+is_well_named (RunScript file script) = is_file_name file && is_file_name script
 
 -- the words are those of this command
 abbrev pub IsCommand : List (List ℕ) → Command → Type 0
 IsCommand words command = (words ≡ words_of command) × IsTrue (is_well_named command)
 
--- the command that the words are, if they are one
-abbrev pub command_of : List (List ℕ) → Option Command
-command_of (verb ∷ file ∷ []) = if bytes_eq verb (codes "list") && is_file_name file then Some (ListItems file) else None
-command_of words = None
+-- the word is one for this slot of a command
+abbrev pub fits : Slot → List ℕ → Bool
+fits slot.List word = bytes_eq word (codes "list")
+fits slot.Run word = bytes_eq word (codes "run")
+fits slot.Bare word = bytes_eq word (codes "-b")
+fits slot.Read word = bytes_eq word (codes "-r")
+fits slot.File word = is_file_name word
+
+abbrev pub list_slots : List Slot
+list_slots = slot.List ∷ slot.File ∷ []
+
+abbrev pub run_slots : List Slot
+run_slots = slot.Run ∷ slot.Bare ∷ slot.Read ∷ slot.File ∷ slot.File ∷ []
+
+-- the words are the first ones of a command with these slots
+abbrev pub begins_with : List Slot → List (List ℕ) → Bool
+begins_with slots [] = true
+begins_with [] (word ∷ words) = false
+begins_with (slot ∷ slots) (word ∷ words) = fits slot word && begins_with slots words
 
 -- the words are the first ones of some command
 abbrev pub begins : List (List ℕ) → Bool
-begins [] = true
-begins (verb ∷ []) = bytes_eq verb (codes "list")
-begins (verb ∷ file ∷ []) = bytes_eq verb (codes "list") && is_file_name file
-begins (verb ∷ file ∷ more ∷ others) = false
+begins words = begins_with list_slots words || begins_with run_slots words
+
+-- the command that the words are, if they are one
+abbrev pub command_of : List (List ℕ) → Option Command
+command_of (verb ∷ file ∷ []) =
+    if begins_with list_slots (verb ∷ file ∷ []) then Some (ListItems file) else None
+command_of (verb ∷ bare ∷ read ∷ file ∷ script ∷ []) =
+    if begins_with run_slots (verb ∷ bare ∷ read ∷ file ∷ script ∷ []) then Some (RunScript file script) else None
+command_of words = None
 
 -- with words that begin a command before them: the number of words up to the first with which they don't
 abbrev pub understood : List (List ℕ) → List (List ℕ) → ℕ
@@ -61,3 +87,4 @@ pub record IsFirstNotUnderstood (words : List (List ℕ)) (place : ℕ) : Type 0
 -- the command that the code has read
 abbrev pub command_seen : code.Command → Command
 command_seen (variants.List file) = ListItems file.now
+command_seen (variants.Run file script) = RunScript file.now script.now

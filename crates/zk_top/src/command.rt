@@ -1,6 +1,5 @@
-ghost use Rattle.std.specs.Prelude.{◌≡◌, ◌↔◌, ◌&&◌, ◌++◌, List, ℕ, [], Some, IsTrue, Ok, Err, codes, MatchResult};
-ghost use Rattle.std.specs.Str.{bytes_eq};
-ghost use Rattle.zk_top.specs.Command.{Command as Words, IsCommand, IsFirstNotUnderstood, is_file_name, command_of, begins, understood, understand, command_seen};
+ghost use Rattle.std.specs.Prelude.{◌≡◌, ◌↔◌, ◌++◌, List, ℕ, [], Some, IsTrue, Ok, Err, MatchResult};
+ghost use Rattle.zk_top.specs.Command.{Command as Words, IsCommand, IsFirstNotUnderstood, is_file_name, fits, list_slots, run_slots, begins_with, command_of, begins, understood, understand, command_seen};
 
 use zk_base::Word;
 
@@ -8,7 +7,30 @@ use zk_base::Word;
 pub enum Command<'a> {
     /// `list FILE`: a line for each item of a capture.
     List { file: &'a [u8] },
+    /// `run -b -r FILE SCRIPT`: a script over a capture, without the default scripts.
+    Run { file: &'a [u8], script: &'a [u8] },
 }
+
+/// A word of a command.
+#[derive(Clone, Copy)]
+enum Slot {
+    /// `list`
+    List,
+    /// `run`
+    Run,
+    /// `-b`
+    Bare,
+    /// `-r`
+    Read,
+    /// The name of a file.
+    File,
+}
+
+/// The words of `list FILE`.
+const LIST: [Slot; 2] = [Slot::List, Slot::File];
+
+/// The words of `run -b -r FILE SCRIPT`.
+const RUN: [Slot; 5] = [Slot::Run, Slot::Bare, Slot::Read, Slot::File, Slot::File];
 
 /// The command that the words are, or the number of the first word that isn't understood: the least
 /// n such that words 0 to n begin no command, or the number of words.
@@ -18,8 +40,12 @@ pub fn read_command(words: &[Word]) -> Result<Command<'_>, usize>
         (λ word. understand words.now ≡ Err word) }
 {
     match words {
-        [verb, file] if is_list(verb) && is_file_name(file) => Ok(Command::List {
+        [_, file] if begin_with(&LIST, words) => Ok(Command::List {
             file: file.as_slice(),
+        }),
+        [_, _, _, file, script] if begin_with(&RUN, words) => Ok(Command::Run {
+            file: file.as_slice(),
+            script: script.as_slice(),
         }),
         _ => Err(first_not_understood(words)),
     }
@@ -40,18 +66,32 @@ fn first_not_understood(words: &[Word]) -> usize
 fn begin(words: &[Word]) -> bool
     ensures { result ≡ begins words.now }
 {
-    match words {
-        [] => true,
-        [verb] => is_list(verb),
-        [verb, file] => is_list(verb) && is_file_name(file),
-        _ => false,
-    }
+    begin_with(&LIST, words) || begin_with(&RUN, words)
 }
 
-fn is_list(verb: &Word) -> bool
-    ensures { result ≡ bytes_eq verb.now (codes "list") }
+/// Whether words are the first ones of a command with these slots.
+fn begin_with(slots: &[Slot], words: &[Word]) -> bool
+    ensures { result ≡ begins_with slots.now words.now }
 {
-    verb.as_slice() == b"list".as_slice()
+    for (n, word) in words.iter().enumerate() {
+        if n == slots.len() || !is_for(word, slots[n]) {
+            return false;
+        }
+    }
+    true
+}
+
+/// Whether a word is one for this slot of a command.
+fn is_for(word: &Word, slot: Slot) -> bool
+    ensures { result ≡ fits slot word.now }
+{
+    match slot {
+        Slot::List => word.as_slice() == b"list".as_slice(),
+        Slot::Run => word.as_slice() == b"run".as_slice(),
+        Slot::Bare => word.as_slice() == b"-b".as_slice(),
+        Slot::Read => word.as_slice() == b"-r".as_slice(),
+        Slot::File => is_file_name(word),
+    }
 }
 
 /// The name of a file is neither empty nor like an option.

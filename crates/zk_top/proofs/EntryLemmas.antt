@@ -1,18 +1,20 @@
 -- From what the parts of a run do to what a run does.
-use Rattle.std.proofs.Common.{◌≡◌, ◌↔◌, ℕ, ◌≤◌, List, [], ◌++◌, Option, Some, None, Result, Ok, Err, inl, refl, sym, ap, subst, ◌∙◌, arith}
+use Rattle.std.proofs.Common.{◌≡◌, ◌↔◌, ℕ, ◌≤◌, List, [], ◌∷◌, ◌++◌, Option, Some, None, Result, Ok, Err, inl, refl, sym, ap, subst, ◌∙◌, arith}
 use Rattle.std.specs.Option.{option_map}
 use Rattle.std.proofs.lemmas.List.{append-nil}
 use Rattle.zk_base.specs.declared.endings.Ending.{Ending}
 use Rattle.zk_base.specs.declared.endings.Ending.TheVariants.{Usage}
 use Rattle.zk_base.specs.Shelf.{Files, Outside, HasRisen, appended}
 use Rattle.zk_pcap.specs.declared.captures.Capture.{Capture}
-use Rattle.zk_pcap.specs.declared.faults.CaptureFault.{CaptureFault}
-use Rattle.zk_pcap.specs.Capture.{capture_of}
+use Rattle.zk_typed.specs.declared.program.Program.{Program}
 use Rattle.zk_top.specs.declared.stop.Stop.{Stop}
-use Rattle.zk_top.specs.Command.{Command, ListItems, understand}
+use Rattle.zk_top.specs.Command.{Command, ListItems, RunScript, understand}
 use Rattle.zk_top.specs.Complaint.{complaint_of}
-use Rattle.zk_top.specs.Outcome.{Outcome, no_files, listing, listing_of, outcome_of, outcome}
-use Rattle.zk_top.specs.Run.{IsOfListing, IsFront, files_over, IsDone, OutputsBegun, StaysWithin, DoesAll, DoesPart, Fulfils, BreaksOff}
+use Rattle.zk_top.specs.Item.{items_of}
+use Rattle.zk_top.specs.Line.{lines_of}
+use Rattle.zk_top.specs.Replay.{printed}
+use Rattle.zk_top.specs.Outcome.{Outcome, no_files, opened, loaded, over_capture, running, outcome_of, outcome}
+use Rattle.zk_top.specs.Run.{IsOfCommand, IsFront, files_over, IsDone, OutputsBegun, StaysWithin, DoesAll, DoesPart, Fulfils, BreaksOff}
 use Rattle.zk_top.proofs.Doing.{front_all, does_nothing_all, does_both_all, does_both_part}
 
 -- Of what is wanted: no file is written, and the complaint is that of the ending ---------------------------------
@@ -21,17 +23,19 @@ record IsPlain (wanted : Outcome) : Type 0 where
   files : wanted.files ≡ no_files
   complained : wanted.complained ≡ complaint_of wanted.ending
 
-plain_capture : (file : List ℕ) (read : Result Capture CaptureFault) → IsPlain (listing_of file read)
-plain_capture file (Ok capture) = record { files = refl; complained = refl }
-plain_capture file (Err why) = record { files = refl; complained = refl }
+plain_over : (said_of : Capture → List ℕ) (names : List (List ℕ)) (file : List ℕ) (found : Result Capture Ending) → IsPlain (over_capture said_of names file found)
+plain_over said_of names file (Ok capture) = record { files = refl; complained = refl }
+plain_over said_of names file (Err e) = record { files = refl; complained = refl }
 
-plain_listing : (file : List ℕ) (found : Option (List ℕ)) → IsPlain (listing file found)
-plain_listing file None = record { files = refl; complained = refl }
-plain_listing file (Some bytes) = plain_capture file (capture_of bytes)
+plain_running : (file script : List ℕ) (found : Result Program Ending) (inputs : Files) → IsPlain (running file script found inputs)
+plain_running file script (Ok program) inputs =
+    plain_over (λ capture. printed program capture.packets) (script ∷ file ∷ []) file (opened file (inputs file))
+plain_running file script (Err e) inputs = record { files = refl; complained = refl }
 
 plain_of : (asked : Result Command ℕ) (inputs : Files) → IsPlain (outcome_of asked inputs)
 plain_of (Err word) inputs = record { files = refl; complained = refl }
-plain_of (Ok (ListItems file)) inputs = plain_listing file (inputs file)
+plain_of (Ok (ListItems file)) inputs = plain_over (λ capture. lines_of (items_of capture.packets)) (file ∷ []) file (opened file (inputs file))
+plain_of (Ok (RunScript file script)) inputs = plain_running file script (loaded script (inputs script)) inputs
 
 plain : (words : List (List ℕ)) (inputs : Files) → IsPlain (outcome words inputs)
 plain words inputs = plain_of (understand words) inputs
@@ -137,11 +141,11 @@ not_understood words word old is = record {
   said_is = λ inputs told. ap (λ asked. (outcome_of asked inputs).said) (sym is);
 }
 
--- a listing that was asked for
-pub usage_of_listing : (words : List (List ℕ)) (file : List ℕ) (ending : Ending) → understand words ≡ Ok (ListItems file) → IsOfListing ending
+-- a command that was asked for
+pub usage_of_command : (words : List (List ℕ)) (command : Command) (ending : Ending) → understand words ≡ Ok command → IsOfCommand ending
     → (word : ℕ) → (ending ≡ Usage word) ↔ (understand words ≡ Err word)
-usage_of_listing words file ending is listed word =
-    (λ same. absurd (subst IsOfListing same listed), λ same. absurd (let never : ⊥ = cc in never))
+usage_of_command words command ending is ends word =
+    (λ same. absurd (subst IsOfCommand same ends), λ same. absurd (let never : ⊥ = cc in never))
 
 pub usage_of_usage : (words : List (List ℕ)) (found : ℕ) → understand words ≡ Err found → (word : ℕ) → (Usage found ≡ Usage word) ↔ (understand words ≡ Err word)
 usage_of_usage words found is word =

@@ -1,8 +1,13 @@
 mod CommandLaws
 mod CommandLemmas
+mod Dispatching
 mod Doing
 mod EntryLemmas
-mod ListingLemmas
+mod Growth
+mod OverCapture
+mod OverScript
+mod Packets
+mod PlayingLemmas
 mod Rows
 mod Said
 mod SoFar

@@ -1,6 +1,12 @@
 pub mod Command
 pub mod Item
 pub mod Line
+pub mod Tokens
+pub mod Script
+pub mod Lowering
+pub mod Replay
+pub mod Handlers
+pub mod Playing
 pub mod Complaint
 pub mod Outcome
 pub mod Run

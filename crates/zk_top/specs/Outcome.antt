@@ -1,7 +1,7 @@
 -- What a run of the program comes to, by its words and its inputs.
 use Rattle.std.specs.Prelude.{ℕ, List, [], ◌∷◌, Option, Some, None, Result, Ok, Err}
 use Rattle.zk_base.specs.declared.endings.Ending.{Ending}
-use Rattle.zk_base.specs.declared.endings.Ending.TheVariants.{Done, Usage, NoInput, CaptureRefused, CutShort}
+use Rattle.zk_base.specs.declared.endings.Ending.TheVariants.{Done, Usage, ScriptRefused, NoInput, CaptureRefused, CutShort}
 use Rattle.zk_base.specs.Shelf.{Files}
 use Rattle.zk_pcap.specs.declared.captures.Capture.{Capture}
 use Rattle.zk_pcap.specs.declared.captures.CaptureEnding.{CaptureEnding}
@@ -9,10 +9,13 @@ use Rattle.zk_pcap.specs.declared.captures.CaptureEnding.TheVariants.{Whole, Cut
 use Rattle.zk_pcap.specs.declared.faults.CaptureFault.{CaptureFault}
 use Rattle.zk_pcap.specs.CaptureFault.{place_of}
 use Rattle.zk_pcap.specs.Capture.{capture_of}
-use Rattle.zk_top.specs.Command.{Command, ListItems, understand}
+use Rattle.zk_typed.specs.declared.program.Program.{Program}
+use Rattle.zk_top.specs.Command.{Command, ListItems, RunScript, understand}
 use Rattle.zk_top.specs.Complaint.{complaint_of}
 use Rattle.zk_top.specs.Item.{items_of}
 use Rattle.zk_top.specs.Line.{lines_of}
+use Rattle.zk_top.specs.Replay.{printed}
+use Rattle.zk_top.specs.Script.{Refusal, script_of}
 
 pub record Outcome : Type 0 where
   -- how it ends
@@ -44,21 +47,47 @@ abbrev pub end_of_capture : List ℕ → CaptureEnding → Ending
 end_of_capture file Whole = Done
 end_of_capture file (Cut place) = CutShort file place
 
--- a listing of a file that is this capture, or none
-abbrev pub listing_of : List ℕ → Result Capture CaptureFault → Outcome
-listing_of file (Err fault) = ending_so (CaptureRefused file (place_of fault)) [] (file ∷ [])
-listing_of file (Ok capture) =
-    ending_so (end_of_capture file capture.ending) (lines_of (items_of capture.packets)) (file ∷ [])
+-- the capture in a file with these bytes, or how it ends where there is none
+abbrev pub judged : List ℕ → Result Capture CaptureFault → Result Capture Ending
+judged file (Err fault) = Err (CaptureRefused file (place_of fault))
+judged file (Ok capture) = Ok capture
+
+abbrev pub opened : List ℕ → Option (List ℕ) → Result Capture Ending
+opened file None = Err (NoInput file)
+opened file (Some bytes) = judged file (capture_of bytes)
+
+-- the program in a file with this text, or how it ends where there is none
+abbrev pub accepted : List ℕ → Result Program Refusal → Result Program Ending
+accepted file (Err refusal) = Err (ScriptRefused file refusal.place refusal.kind)
+accepted file (Ok program) = Ok program
+
+abbrev pub loaded : List ℕ → Option (List ℕ) → Result Program Ending
+loaded file None = Err (NoInput file)
+loaded file (Some text) = accepted file (script_of text)
+
+-- what is said over a capture, after these names were asked for
+abbrev pub over_capture : (Capture → List ℕ) → List (List ℕ) → List ℕ → Result Capture Ending → Outcome
+over_capture said_of asked file (Err ending) = ending_so ending [] asked
+over_capture said_of asked file (Ok capture) = ending_so (end_of_capture file capture.ending) (said_of capture) asked
 
 -- a listing of a file with these bytes, or of none
 abbrev pub listing : List ℕ → Option (List ℕ) → Outcome
-listing file None = ending_so (NoInput file) [] (file ∷ [])
-listing file (Some bytes) = listing_of file (capture_of bytes)
+listing file found = over_capture (λ capture. lines_of (items_of capture.packets)) (file ∷ []) file (opened file found)
+
+-- a run of a program, whose script was asked for
+abbrev pub replay : List ℕ → List ℕ → Program → Option (List ℕ) → Outcome
+replay file script program found = over_capture (λ capture. printed program capture.packets) (script ∷ file ∷ []) file (opened file found)
+
+-- A run of a script over a capture. The capture is asked for once the script is accepted.
+abbrev pub running : List ℕ → List ℕ → Result Program Ending → Files → Outcome
+running file script (Err ending) inputs = ending_so ending [] (script ∷ [])
+running file script (Ok program) inputs = replay file script program (inputs file)
 
 -- what the words ask for
 abbrev pub outcome_of : Result Command ℕ → Files → Outcome
 outcome_of (Err word) inputs = ending_so (Usage word) [] []
 outcome_of (Ok (ListItems file)) inputs = listing file (inputs file)
+outcome_of (Ok (RunScript file script)) inputs = running file script (loaded script (inputs script)) inputs
 
 abbrev pub outcome : List (List ℕ) → Files → Outcome
 outcome words inputs = outcome_of (understand words) inputs

@@ -1,5 +1,5 @@
 -- What a run leaves of the outside, beside what was there before.
-use Rattle.std.specs.Prelude.{◌≡◌, ◌⊎◌, ◌≤◌, ℕ, List, [], ◌++◌, Option, Some, None}
+use Rattle.std.specs.Prelude.{◌≡◌, ◌⊎◌, ◌≤◌, ℕ, List, [], ◌∷◌, ◌++◌, Option, Some, None, Result, Err, IfErr}
 use Rattle.std.specs.Option.{option_map}
 use Rattle.zk_base.specs.declared.endings.Ending.{Ending}
 use Rattle.zk_base.specs.declared.endings.Ending.TheVariants.{Done, Usage, ScriptRefused, NoInput, CaptureRefused, CutShort, ReadFault, WriteFault, NoMemory, Flood}
@@ -21,31 +21,31 @@ IsWhole WriteFault = ⊥
 IsWhole NoMemory = ⊥
 IsWhole (Flood moment) = Unit {0}
 
--- the reading of a capture may end so
-abbrev pub IsOfCapture : Ending → Type 0
-IsOfCapture Done = Unit {0}
-IsOfCapture (Usage word) = ⊥
-IsOfCapture (ScriptRefused file place kind) = ⊥
-IsOfCapture (NoInput name) = ⊥
-IsOfCapture (CaptureRefused name place) = Unit {0}
-IsOfCapture (CutShort name place) = Unit {0}
-IsOfCapture ReadFault = ⊥
-IsOfCapture WriteFault = ⊥
-IsOfCapture NoMemory = ⊥
-IsOfCapture (Flood moment) = ⊥
+-- an input is absent or refused
+abbrev pub IsRefusal : Ending → Type 0
+IsRefusal Done = ⊥
+IsRefusal (Usage word) = ⊥
+IsRefusal (ScriptRefused file place kind) = Unit {0}
+IsRefusal (NoInput name) = Unit {0}
+IsRefusal (CaptureRefused name place) = Unit {0}
+IsRefusal (CutShort name place) = ⊥
+IsRefusal ReadFault = ⊥
+IsRefusal WriteFault = ⊥
+IsRefusal NoMemory = ⊥
+IsRefusal (Flood moment) = ⊥
 
--- a listing may end so
-abbrev pub IsOfListing : Ending → Type 0
-IsOfListing Done = Unit {0}
-IsOfListing (Usage word) = ⊥
-IsOfListing (ScriptRefused file place kind) = ⊥
-IsOfListing (NoInput name) = Unit {0}
-IsOfListing (CaptureRefused name place) = Unit {0}
-IsOfListing (CutShort name place) = Unit {0}
-IsOfListing ReadFault = ⊥
-IsOfListing WriteFault = ⊥
-IsOfListing NoMemory = ⊥
-IsOfListing (Flood moment) = ⊥
+-- a command that is carried out may end so
+abbrev pub IsOfCommand : Ending → Type 0
+IsOfCommand Done = Unit {0}
+IsOfCommand (Usage word) = ⊥
+IsOfCommand (ScriptRefused file place kind) = Unit {0}
+IsOfCommand (NoInput name) = Unit {0}
+IsOfCommand (CaptureRefused name place) = Unit {0}
+IsOfCommand (CutShort name place) = Unit {0}
+IsOfCommand ReadFault = ⊥
+IsOfCommand WriteFault = ⊥
+IsOfCommand NoMemory = ⊥
+IsOfCommand (Flood moment) = Unit {0}
 
 -- the list goes on with the rest
 pub record IsFront {X : Type 0} (part whole : List X) : Type 0 where
@@ -135,6 +135,13 @@ pub record DoesPart (names : List (List ℕ)) (said complained : List ℕ) (old 
   pub complained_front : IsFront complained_part complained
   pub does : Does names_part said_part complained_part old new
   pub cause : HasCause old stop new
+
+-- What is found in the input of a name, which is started and read. Where inputs are told, judge says what it is.
+pub record Finds {X : Type 0} (name : List ℕ) (judge : Option (List ℕ) → Result X Ending) (old : Outside) (found : Result X Ending) (new : Outside) : Type 0 where
+  pub does : DoesAll (name ∷ []) [] [] old new
+  pub told : (inputs : Files) → old.inputs ≡ Some inputs → found ≡ judge (inputs name)
+  pub refusal : IfErr found IsRefusal
+  pub absent : (absentee : List ℕ) → found ≡ Err (NoInput absentee) → HasRisen old.absences new.absences
 
 -- Of a piece that waits to be said, a front is said and the rest waits on.
 pub record HandsOver (old : Outside) (piece : List ℕ) (new : Outside) (rest : List ℕ) : Type 0 where

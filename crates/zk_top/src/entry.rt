@@ -3,11 +3,12 @@ ghost use Rattle.zk_base.specs.Shelf.{Files, HasRisen};
 ghost use Rattle.zk_top.specs.Command.{understand, command_seen};
 ghost use Rattle.zk_top.specs.Complaint.{complaint_of};
 ghost use Rattle.zk_top.specs.Outcome.{outcome, outcome_of};
-ghost use Rattle.zk_top.specs.Run.{IsWhole, IsDone, StaysWithin, IsOfListing, Fulfils, BreaksOff, SameFaults};
+ghost use Rattle.zk_top.specs.Run.{IsWhole, IsDone, StaysWithin, IsOfCommand, Fulfils, BreaksOff, SameFaults};
 
 use crate::command::{Command, read_command};
 use crate::complaint::complain;
 use crate::listing::list;
+use crate::running::run_script;
 use crate::stop::Stop;
 use std::alloc::Global;
 use zk_base::{Ending, Shelf, Word};
@@ -70,10 +71,11 @@ fn carry_out<S: Shelf>(alloc: Global, words: &[Word], shelf: &mut S) -> Result<E
 /// Does what a command asks for, but for the complaint.
 fn perform<S: Shelf>(alloc: Global, command: Command<'_>, shelf: &mut S) -> Result<Ending, Stop>
     ensures done { IfOk result (λ ending. Fulfils (outcome_of (Ok (command_seen command.entry))) [] (S.outside shelf.old) ending (S.outside shelf.new)) }
-    ensures performed { IfOk result IsOfListing }
+    ensures command_ends { IfOk result IsOfCommand }
     ensures stopped { IfErr result (λ stop. BreaksOff (outcome_of (Ok (command_seen command.entry))) (S.outside shelf.old) stop (S.outside shelf.new)) }
 {
     match command {
         Command::List { file } => list(alloc, shelf, file),
+        Command::Run { file, script } => run_script(alloc, shelf, file, script),
     }
 }

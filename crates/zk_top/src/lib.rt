@@ -6,8 +6,16 @@ mod complaint;
 mod entry;
 mod line;
 mod listing;
+mod lowering;
+mod opening;
+mod output;
+mod playing;
 mod reading;
+mod running;
+mod script;
+mod splitter;
 mod stop;
+mod typing;
 
 pub use command::command_line;
 pub use entry::run;

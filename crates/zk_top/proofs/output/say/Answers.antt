@@ -1,5 +1,5 @@
 use Rattle.zk_top.proofs.Doing.{said_part, out_of_memory}
-use Rattle.zk_top.proofs.listing.say.Goals as goal
+use Rattle.zk_top.proofs.output.say.Goals as goal
 
 pub returns-in-Failed-clause-stopped : goal.returns-in-Failed-clause-stopped
 returns-in-Failed-clause-stopped g c =

@@ -1,0 +1,82 @@
+-- A program only adds lines to those that were printed.
+use Rattle.std.proofs.Common.{◌≡◌, ℕ, zero, suc, Bool, true, false, cond, List, [], ◌∷◌, ◌++◌, map, fold, Result, Ok, Err, refl, sym, ap, subst, ◌∙◌, append_assoc}
+use Rattle.std.specs.List.{flat_map}
+use Rattle.zk_tree.specs.declared.place.Place.{Place}
+use Rattle.zk_tree.specs.Value.{Value}
+use Rattle.zk_typed.specs.declared.program.Program.{Program}
+use Rattle.zk_typed.specs.declared.program.Handler.{Handler}
+use Rattle.zk_typed.specs.declared.program.Statement.{Statement}
+use Rattle.zk_typed.specs.declared.program.Statement.TheVariants.{Print}
+use Rattle.zk_typed.specs.Exec.{Stop, Faults, Spends, Left, is_normal, evaluate_all, printed, exec, exec_all, exec_body}
+use Rattle.zk_typed.specs.Run.{Queued, Turn, handlers_of, bodies, dispatch, turn}
+use Rattle.zk_typed.specs.Text.{line_of}
+use Rattle.zk_typed.specs.World.{World}
+use Rattle.zk_top.specs.Line.{line_end}
+use Rattle.zk_top.specs.Replay.{text_of}
+use Rattle.zk_top.specs.Run.{IsFront}
+use Rattle.zk_top.proofs.Doing.{front_all, front_trans}
+
+-- one world's lines go on with another's
+pub record GoesOn (old new : World) : Type 0 where
+  pub front : IsFront old.lines new.lines
+
+pub goes_on_same : (world : World) → GoesOn world world
+goes_on_same world = record { front = front_all world.lines }
+
+pub goes_on_trans : (a b c : World) → GoesOn a b → GoesOn b c → GoesOn a c
+goes_on_trans a b c ab bc = record { front = front_trans a.lines b.lines c.lines ab.front bc.front }
+
+printed_adds : (place : Place) (world : World) (values : Result (List Value × ℕ) Stop) → GoesOn world (printed place world values).world
+printed_adds place world (Ok values) = record { front = record { rest = line_of values.0 ∷ []; joined = refl } }
+printed_adds place world (Err (Faults kind left)) = goes_on_same world
+printed_adds place world (Err Spends) = goes_on_same world
+
+exec_adds : (args : List Value) (statement : Statement) (world : World) (left : ℕ) → GoesOn world (exec args statement world left).world
+exec_adds args (Print place values) world zero = goes_on_same world
+exec_adds args (Print place values) world (suc left) = printed_adds place world (evaluate_all world args values left)
+
+chosen_adds : (world : World) (normal : Bool) (a b : Left) → GoesOn world a.world → GoesOn world b.world → GoesOn world (cond normal a b).world
+chosen_adds world true a b h g = h
+chosen_adds world false a b h g = g
+
+exec_all_adds : (args : List Value) (statements : List Statement) (world : World) (left : ℕ) → GoesOn world (exec_all args statements world left).world
+exec_all_adds args [] world left = goes_on_same world
+exec_all_adds args (first ∷ others) world left =
+    let after : Left = exec args first world left in
+    let here : GoesOn world after.world = exec_adds args first world left in
+    let rest : Left = exec_all args others after.world after.units in
+    chosen_adds world (is_normal after.outcome) rest after (goes_on_trans world after.world rest.world here (exec_all_adds args others after.world after.units)) here
+
+pub body_adds : (of : Handler) (args : List Value) (world : World) (budget : ℕ) → GoesOn world (exec_body of args world budget).world
+body_adds of args world budget = exec_all_adds args of.body world budget
+
+pub bodies_add : (args : List Value) (budget : ℕ) (world : World) (of : List Handler) → GoesOn world (bodies args budget world of)
+bodies_add args budget world [] = goes_on_same world
+bodies_add args budget world (first ∷ others) =
+    let after : World = (exec_body first args world budget).world in
+    goes_on_trans world after (bodies args budget after others) (body_adds first args world budget) (bodies_add args budget after others)
+
+dispatches_add : (program : Program) (budget : ℕ) (world : World) (events : List Queued) → GoesOn world (fold (dispatch program budget) world events)
+dispatches_add program budget world [] = goes_on_same world
+dispatches_add program budget world (event ∷ events) =
+    let after : World = dispatch program budget world event in
+    goes_on_trans world after (fold (dispatch program budget) after events) (bodies_add event.args budget world (handlers_of program event.event)) (dispatches_add program budget after events)
+
+turn_adds : (program : Program) (budget : ℕ) (world : World) (item : Turn) → GoesOn world (turn program budget world item)
+turn_adds program budget world item =
+    record { front = (dispatches_add program budget (record world { time = item.moment }) item.events).front }
+
+pub turns_add : (program : Program) (budget : ℕ) (world : World) (items : List Turn) → GoesOn world (fold (turn program budget) world items)
+turns_add program budget world [] = goes_on_same world
+turns_add program budget world (item ∷ items) =
+    let after : World = turn program budget world item in
+    goes_on_trans world after (fold (turn program budget) after items) (turn_adds program budget world item) (turns_add program budget after items)
+
+-- The text of lines -----------------------------------------------------------------------------------------------
+
+pub text-append : (a b : List (List ℕ)) → text_of (a ++ b) ≡ text_of a ++ text_of b
+text-append [] b = refl
+text-append (line ∷ a) b = ap (λ text. (line ++ line_end) ++ text) (text-append a b) ∙ sym (append_assoc (line ++ line_end) (text_of a) (text_of b))
+
+pub text_front : (a b : List (List ℕ)) → IsFront a b → IsFront (text_of a) (text_of b)
+text_front a b front = record { rest = text_of front.rest; joined = ap text_of front.joined ∙ text-append a front.rest }

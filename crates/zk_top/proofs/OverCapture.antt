@@ -1,0 +1,184 @@
+-- What is done over a capture, or over none.
+use Rattle.std.proofs.Common.{◌≡◌, ◌≢◌, ℕ, List, [], ◌∷◌, Option, Some, None, Result, Ok, Err, IfErr, IfSome, refl, sym, ap, subst, ◌∙◌}
+use Rattle.zk_base.specs.declared.endings.Ending.{Ending}
+use Rattle.zk_base.specs.declared.endings.Ending.TheVariants as ending
+use Rattle.zk_base.specs.Shelf.{Files, Outside, HasRisen}
+use Rattle.zk_pcap.specs.declared.captures.Capture.{Capture}
+use Rattle.zk_pcap.specs.declared.captures.CaptureEnding.{CaptureEnding}
+use Rattle.zk_pcap.specs.declared.captures.CaptureEnding.TheVariants.{Whole, Cut}
+use Rattle.zk_pcap.specs.declared.faults.CaptureFault.{CaptureFault}
+use Rattle.zk_pcap.specs.declared.faults.CaptureFault.TheVariants as fault
+use Rattle.zk_pcap.specs.Capture.{capture_of, UnlessNoMemory}
+use Rattle.zk_typed.specs.declared.program.Program.{Program}
+use Rattle.zk_top.specs.declared.stop.Stop.{Stop}
+use Rattle.zk_top.specs.Script.{Refusal, script_of}
+use Rattle.zk_top.specs.Outcome.{Outcome, over_capture, judged, opened, accepted, loaded, end_of_capture}
+use Rattle.zk_top.specs.Run.{IsWhole, IsRefusal, IsOfCommand, IsFront, DoesAll, DoesPart, Finds, Fulfils, BreaksOff}
+use Rattle.zk_top.proofs.Doing.{front_none, front_trans, does_both_all, does_both_part}
+
+-- a refusal that isn't for want of memory
+pub refused : (why : CaptureFault) (wanted : Result Capture CaptureFault) → UnlessNoMemory (Err why) wanted → why ≢ fault.NoMemory → wanted ≡ Err why
+refused (fault.Short place) wanted given other = sym given
+refused fault.Magic wanted given other = sym given
+refused fault.Version wanted given other = sym given
+refused fault.Link wanted given other = sym given
+refused fault.NoMemory wanted given other = absurd (other refl)
+
+-- Endings -------------------------------------------------------------------------------------------------------
+
+pub whole_refusal : (e : Ending) → IsRefusal e → IsWhole e
+whole_refusal ending.Done is = absurd is
+whole_refusal (ending.Usage word) is = absurd is
+whole_refusal (ending.ScriptRefused file place kind) is = tt
+whole_refusal (ending.NoInput name) is = tt
+whole_refusal (ending.CaptureRefused name place) is = tt
+whole_refusal (ending.CutShort name place) is = absurd is
+whole_refusal ending.ReadFault is = is
+whole_refusal ending.WriteFault is = is
+whole_refusal ending.NoMemory is = is
+whole_refusal (ending.Flood moment) is = absurd is
+
+pub command_refusal : (e : Ending) → IsRefusal e → IsOfCommand e
+command_refusal ending.Done is = absurd is
+command_refusal (ending.Usage word) is = is
+command_refusal (ending.ScriptRefused file place kind) is = tt
+command_refusal (ending.NoInput name) is = tt
+command_refusal (ending.CaptureRefused name place) is = tt
+command_refusal (ending.CutShort name place) is = absurd is
+command_refusal ending.ReadFault is = is
+command_refusal ending.WriteFault is = is
+command_refusal ending.NoMemory is = is
+command_refusal (ending.Flood moment) is = absurd is
+
+whole_end : (file : List ℕ) (e : CaptureEnding) → IsWhole (end_of_capture file e)
+whole_end file Whole = tt
+whole_end file (Cut place) = tt
+
+pub command_end : (file : List ℕ) (e : CaptureEnding) → IsOfCommand (end_of_capture file e)
+command_end file Whole = tt
+command_end file (Cut place) = tt
+
+not_absent : (file : List ℕ) (e : CaptureEnding) (name : List ℕ) → end_of_capture file e ≡ ending.NoInput name → ⊥
+not_absent file Whole name same = let never : ⊥ = cc in never
+not_absent file (Cut place) name same = let never : ⊥ = cc in never
+
+-- What is wanted over a capture -----------------------------------------------------------------------------------
+
+
+asked : (said_of : Capture → List ℕ) (names : List (List ℕ)) (file : List ℕ) (found : Result Capture Ending) → (over_capture said_of names file found).asked ≡ names
+asked said_of names file (Ok capture) = refl
+asked said_of names file (Err e) = refl
+
+-- stopped before its capture was found
+pub broken_before : (said_of : Capture → List ℕ) (file : List ℕ) (old : Outside) (stop : Stop) (new : Outside) → DoesPart (file ∷ []) [] [] old stop new
+    → BreaksOff (λ inputs. over_capture said_of (file ∷ []) file (opened file (inputs file))) old stop new
+broken_before said_of file old stop new part = record {
+  names = part.names_part;
+  said = part.said_part;
+  complained = part.complained_part;
+  does = part.does;
+  cause = part.cause;
+  names_front = λ inputs told. subst (λ names. IsFront part.names_part names) (sym (asked said_of (file ∷ []) file (opened file (inputs file)))) part.names_front;
+  said_front = λ inputs told. let whole : List ℕ = (over_capture said_of (file ∷ []) file (opened file (inputs file))).said in
+      front_trans part.said_part [] whole part.said_front (front_none whole);
+  complained_front = λ inputs told. let whole : List ℕ = (over_capture said_of (file ∷ []) file (opened file (inputs file))).complained in
+      front_trans part.complained_part [] whole part.complained_front (front_none whole);
+}
+
+-- stopped while its lines were said
+pub broken_within : (said_of : Capture → List ℕ) (file : List ℕ) (capture : Capture) (old mid : Outside) (stop : Stop) (new : Outside) → Finds file (opened file) old (Ok capture) mid
+    → DoesPart [] (said_of capture) [] mid stop new → BreaksOff (λ inputs. over_capture said_of (file ∷ []) file (opened file (inputs file))) old stop new
+broken_within said_of file capture old mid stop new found says =
+    let part : DoesPart (file ∷ []) (said_of capture) [] old stop new = does_both_part (file ∷ []) [] [] (said_of capture) [] [] old mid stop new found.does says in
+    record {
+      names = part.names_part;
+      said = part.said_part;
+      complained = part.complained_part;
+      does = part.does;
+      cause = part.cause;
+      names_front = λ inputs told. subst (λ names. IsFront part.names_part names) (sym (asked said_of (file ∷ []) file (opened file (inputs file)))) part.names_front;
+      said_front = λ inputs told. subst (λ r. IsFront part.said_part (over_capture said_of (file ∷ []) file r).said) (found.told inputs told) part.said_front;
+      complained_front = λ inputs told. let whole : List ℕ = (over_capture said_of (file ∷ []) file (opened file (inputs file))).complained in
+          front_trans part.complained_part [] whole part.complained_front (front_none whole);
+    }
+
+-- its lines were said
+pub fulfilled : (said_of : Capture → List ℕ) (file : List ℕ) (capture : Capture) (old mid : Outside) (e : Ending) (new : Outside) → Finds file (opened file) old (Ok capture) mid
+    → e ≡ end_of_capture file capture.ending → DoesAll [] (said_of capture) [] mid new
+    → Fulfils (λ inputs. over_capture said_of (file ∷ []) file (opened file (inputs file))) [] old e new
+fulfilled said_of file capture old mid e new found is says = record {
+  names = file ∷ [];
+  said = said_of capture;
+  does = does_both_all (file ∷ []) [] [] (said_of capture) [] [] old mid new found.does says;
+  whole = subst IsWhole (sym is) (whole_end file capture.ending);
+  absent = λ name same. absurd (not_absent file capture.ending name (sym is ∙ same));
+  ends = λ inputs told. is ∙ ap (λ r. (over_capture said_of (file ∷ []) file r).ending) (found.told inputs told);
+  names_are = λ inputs told. sym (asked said_of (file ∷ []) file (opened file (inputs file)));
+  said_is = λ inputs told. ap (λ r. (over_capture said_of (file ∷ []) file r).said) (found.told inputs told);
+}
+
+-- there is no capture
+pub fulfilled_refused : (said_of : Capture → List ℕ) (file : List ℕ) (old : Outside) (e : Ending) (new : Outside) → Finds file (opened file) old (Err e) new
+    → Fulfils (λ inputs. over_capture said_of (file ∷ []) file (opened file (inputs file))) [] old e new
+fulfilled_refused said_of file old e new found = record {
+  names = file ∷ [];
+  said = [];
+  does = found.does;
+  whole = whole_refusal e found.refusal;
+  absent = λ name same. found.absent name (ap Err same);
+  ends = λ inputs told. ap (λ r. (over_capture said_of (file ∷ []) file r).ending) (found.told inputs told);
+  names_are = λ inputs told. sym (asked said_of (file ∷ []) file (opened file (inputs file)));
+  said_is = λ inputs told. ap (λ r. (over_capture said_of (file ∷ []) file r).said) (found.told inputs told);
+}
+
+-- What is found in a file -----------------------------------------------------------------------------------------
+
+-- what the inputs are told to hold under a name
+pub told : (inputs : Option Files) (files : Files) (name : List ℕ) (found : Option (List ℕ)) → inputs ≡ Some files → IfSome inputs (λ fs. fs name ≡ found) → files name ≡ found
+told inputs files name found is given = subst (λ o. IfSome o (λ fs. fs name ≡ found)) is given
+
+judged_refusal : (file : List ℕ) (read : Result Capture CaptureFault) → IfErr (judged file read) IsRefusal
+judged_refusal file (Ok capture) = tt
+judged_refusal file (Err why) = tt
+
+judged_there : (file : List ℕ) (read : Result Capture CaptureFault) (name : List ℕ) → judged file read ≡ Err (ending.NoInput name) → ⊥
+judged_there file (Ok capture) name same = let never : ⊥ = cc in never
+judged_there file (Err why) name same = let never : ⊥ = cc in never
+
+-- a capture was read
+pub found_capture : (file bytes : List ℕ) (old : Outside) (found : Result Capture Ending) (new : Outside) → DoesAll (file ∷ []) [] [] old new → IfSome old.inputs (λ files. files file ≡ Some bytes)
+    → found ≡ judged file (capture_of bytes) → Finds file (opened file) old found new
+found_capture file bytes old found new read holds is = record {
+  does = read;
+  told = λ inputs t. is ∙ ap (opened file) (sym (told old.inputs inputs file (Some bytes) t holds));
+  refusal = subst (λ r. IfErr r IsRefusal) (sym is) (judged_refusal file (capture_of bytes));
+  absent = λ name same. absurd (judged_there file (capture_of bytes) name (sym is ∙ same));
+}
+
+accepted_refusal : (file : List ℕ) (read : Result Program Refusal) → IfErr (accepted file read) IsRefusal
+accepted_refusal file (Ok program) = tt
+accepted_refusal file (Err refusal) = tt
+
+accepted_there : (file : List ℕ) (read : Result Program Refusal) (name : List ℕ) → accepted file read ≡ Err (ending.NoInput name) → ⊥
+accepted_there file (Ok program) name same = let never : ⊥ = cc in never
+accepted_there file (Err refusal) name same = let never : ⊥ = cc in never
+
+-- a script was read
+pub found_script : (file text : List ℕ) (old new : Outside) → DoesAll (file ∷ []) [] [] old new → IfSome old.inputs (λ files. files file ≡ Some text)
+    → Finds file (loaded file) old (accepted file (script_of text)) new
+found_script file text old new read holds = record {
+  does = read;
+  told = λ inputs t. ap (loaded file) (sym (told old.inputs inputs file (Some text) t holds));
+  refusal = accepted_refusal file (script_of text);
+  absent = λ name same. absurd (accepted_there file (script_of text) name same);
+}
+
+-- there is no script
+pub found_no_script : (file : List ℕ) (old new : Outside) → DoesAll (file ∷ []) [] [] old new → IfSome old.inputs (λ files. files file ≡ None) → HasRisen old.absences new.absences
+    → Finds file (loaded file) old (Err (ending.NoInput file)) new
+found_no_script file old new read lacks risen = record {
+  does = read;
+  told = λ inputs t. ap (loaded file) (sym (told old.inputs inputs file None t lacks));
+  refusal = tt;
+  absent = λ name same. risen;
+}

@@ -1,0 +1,121 @@
+-- What is done for a script and a capture.
+use Rattle.std.proofs.Common.{◌≡◌, ℕ, ◌≤◌, List, [], ◌∷◌, ◌++◌, Option, Some, None, Result, Ok, Err, refl, sym, ap, subst, ◌∙◌, arith}
+use Rattle.zk_base.specs.declared.endings.Ending.{Ending}
+use Rattle.zk_base.specs.Shelf.{Files, Outside, HasRisen}
+use Rattle.zk_pcap.specs.declared.captures.Capture.{Capture}
+use Rattle.zk_typed.specs.declared.program.Program.{Program}
+use Rattle.zk_top.specs.declared.stop.Stop.{Stop}
+use Rattle.zk_value.specs.declared.code.Code.{Code}
+use Rattle.zk_machine.specs.Lowered.{lowered}
+use Rattle.zk_top.specs.Lowering.{code_or_ending}
+use Rattle.zk_top.specs.Outcome.{Outcome, over_capture, opened, loaded, replay, running}
+use Rattle.zk_top.specs.Replay.{printed}
+use Rattle.zk_top.specs.Run.{IsFront, DoesAll, DoesPart, Finds, Fulfils, BreaksOff}
+use Rattle.zk_top.proofs.Doing.{front_none, front_all, front_trans, front_behind, cause_since, does_both, does_both_all}
+use Rattle.zk_top.proofs.OverCapture.{whole_refusal}
+
+-- the same with that name before
+pub record SameBut (script : List ℕ) (inner outer : Outcome) : Type 0 where
+  pub ending : inner.ending ≡ outer.ending
+  pub said : inner.said ≡ outer.said
+  pub complained : inner.complained ≡ outer.complained
+  pub asked : script ∷ inner.asked ≡ outer.asked
+
+same_over : (said_of : Capture → List ℕ) (script file : List ℕ) (found : Result Capture Ending) → SameBut script (over_capture said_of (file ∷ []) file found) (over_capture said_of (script ∷ file ∷ []) file found)
+same_over said_of script file (Ok capture) = record { ending = refl; said = refl; complained = refl; asked = refl }
+same_over said_of script file (Err e) = record { ending = refl; said = refl; complained = refl; asked = refl }
+
+pub same_playing : (file script : List ℕ) (program : Program) (inputs : Files) → SameBut script (over_capture (λ capture. printed program capture.packets) (file ∷ []) file (opened file (inputs file))) (running file script (Ok program) inputs)
+same_playing file script program inputs = same_over (λ capture. printed program capture.packets) script file (opened file (inputs file))
+
+-- the inputs that are told stay
+told_still : (old mid : Outside) (inputs : Files) → mid.inputs ≡ old.inputs → old.inputs ≡ Some inputs → mid.inputs ≡ Some inputs
+told_still old mid inputs stay told = stay ∙ told
+
+risen_before : (a b c : ℕ) → a ≤ b → HasRisen b c → HasRisen a c
+risen_before a b c le risen = record { kept = omega (arith, risen.kept); risen = omega (arith, risen.kept, risen.risen) }
+
+-- the program was played
+pub played : (file script : List ℕ) (program : Program) (old mid : Outside) (e : Ending) (new : Outside) → Finds script (loaded script) old (Ok program) mid
+    → Fulfils (λ inputs. over_capture (λ capture. printed program capture.packets) (file ∷ []) file (opened file (inputs file))) [] mid e new
+    → Fulfils (λ inputs. running file script (loaded script (inputs script)) inputs) [] old e new
+played file script program old mid e new found plays = record {
+  names = script ∷ plays.names;
+  said = plays.said;
+  does = does_both_all (script ∷ []) plays.names [] plays.said [] [] old mid new found.does plays.does;
+  whole = plays.whole;
+  absent = λ name same. risen_before old.absences mid.absences new.absences found.does.does.absences (plays.absent name same);
+  ends = λ inputs t. plays.ends inputs (told_still old mid inputs found.does.does.inputs_stay t)
+      ∙ ((same_playing file script program inputs).ending ∙ ap (λ p. (running file script p inputs).ending) (found.told inputs t));
+  names_are = λ inputs t. ap (λ names. script ∷ names) (plays.names_are inputs (told_still old mid inputs found.does.does.inputs_stay t))
+      ∙ ((same_playing file script program inputs).asked ∙ ap (λ p. (running file script p inputs).asked) (found.told inputs t));
+  said_is = λ inputs t. plays.said_is inputs (told_still old mid inputs found.does.does.inputs_stay t)
+      ∙ ((same_playing file script program inputs).said ∙ ap (λ p. (running file script p inputs).said) (found.told inputs t));
+}
+
+-- it was stopped
+pub played_part : (file script : List ℕ) (program : Program) (old mid : Outside) (stop : Stop) (new : Outside) → Finds script (loaded script) old (Ok program) mid
+    → BreaksOff (λ inputs. over_capture (λ capture. printed program capture.packets) (file ∷ []) file (opened file (inputs file))) mid stop new
+    → BreaksOff (λ inputs. running file script (loaded script (inputs script)) inputs) old stop new
+played_part file script program old mid stop new found part = record {
+  names = script ∷ part.names;
+  said = part.said;
+  complained = part.complained;
+  does = does_both (script ∷ []) part.names [] part.said [] part.complained old mid new found.does.does part.does;
+  cause = cause_since old mid stop new found.does.faults part.cause;
+  names_front = λ inputs t.
+      let inside = part.names_front inputs (told_still old mid inputs found.does.does.inputs_stay t) in
+      subst (λ names. IsFront (script ∷ part.names) names)
+      ((same_playing file script program inputs).asked ∙ ap (λ p. (running file script p inputs).asked) (found.told inputs t))
+      (front_behind (script ∷ []) part.names (over_capture (λ capture. printed program capture.packets) (file ∷ []) file (opened file (inputs file))).asked inside);
+  said_front = λ inputs t. subst (λ said. IsFront part.said said)
+      ((same_playing file script program inputs).said ∙ ap (λ p. (running file script p inputs).said) (found.told inputs t))
+      (part.said_front inputs (told_still old mid inputs found.does.does.inputs_stay t));
+  complained_front = λ inputs t. subst (λ said. IsFront part.complained said)
+      ((same_playing file script program inputs).complained ∙ ap (λ p. (running file script p inputs).complained) (found.told inputs t))
+      (part.complained_front inputs (told_still old mid inputs found.does.does.inputs_stay t));
+}
+
+asked_file : (program : Program) (file : List ℕ) (found : Result Capture Ending) → (over_capture (λ capture. printed program capture.packets) (file ∷ []) file found).asked ≡ file ∷ []
+asked_file program file (Ok capture) = refl
+asked_file program file (Err e) = refl
+
+asked_first : (file script : List ℕ) (found : Result Program Ending) (inputs : Files) → IsFront (script ∷ []) (running file script found inputs).asked
+asked_first file script (Ok program) inputs = record { rest = file ∷ []; joined = sym (same_playing file script program inputs).asked ∙ ap (λ names. script ∷ names) (asked_file program file (opened file (inputs file))) }
+asked_first file script (Err e) inputs = front_all (script ∷ [])
+
+-- there is no program
+pub not_played : (file script : List ℕ) (old : Outside) (e : Ending) (new : Outside) → Finds script (loaded script) old (Err e) new
+    → Fulfils (λ inputs. running file script (loaded script (inputs script)) inputs) [] old e new
+not_played file script old e new found = record {
+  names = script ∷ [];
+  said = [];
+  does = found.does;
+  whole = whole_refusal e found.refusal;
+  absent = λ name same. found.absent name (ap Err same);
+  ends = λ inputs t. ap (λ p. (running file script p inputs).ending) (found.told inputs t);
+  names_are = λ inputs t. ap (λ p. (running file script p inputs).asked) (found.told inputs t);
+  said_is = λ inputs t. ap (λ p. (running file script p inputs).said) (found.told inputs t);
+}
+
+-- stopped before the script was found
+pub stopped_script : (file script : List ℕ) (old : Outside) (stop : Stop) (new : Outside) → DoesPart (script ∷ []) [] [] old stop new
+    → BreaksOff (λ inputs. running file script (loaded script (inputs script)) inputs) old stop new
+stopped_script file script old stop new part = record {
+  names = part.names_part;
+  said = part.said_part;
+  complained = part.complained_part;
+  does = part.does;
+  cause = part.cause;
+  names_front = λ inputs t. let whole : Outcome = running file script (loaded script (inputs script)) inputs in
+      front_trans part.names_part (script ∷ []) whole.asked part.names_front (asked_first file script (loaded script (inputs script)) inputs);
+  said_front = λ inputs t. let whole : Outcome = running file script (loaded script (inputs script)) inputs in
+      front_trans part.said_part [] whole.said part.said_front (front_none whole.said);
+  complained_front = λ inputs t. let whole : Outcome = running file script (loaded script (inputs script)) inputs in
+      front_trans part.complained_part [] whole.complained part.complained_front (front_none whole.complained);
+}
+
+-- the program that a code was made from
+pub meant_by : (meant : Result Program Ending) (code : Code) → Ok code ≡ code_or_ending meant → (program : Program) × (meant ≡ Ok program) × (code ≡ lowered program)
+meant_by (Ok program) code is = (program, refl, cc)
+meant_by (Err e) code is = absurd (let never : ⊥ = cc in never)

@@ -1,0 +1,30 @@
+-- What a program prints over a capture.
+use Rattle.std.specs.Prelude.{ℕ, List, [], ◌∷◌, ◌++◌, map}
+use Rattle.std.specs.List.{flat_map}
+use Rattle.zk_pcap.specs.declared.records.Packet.{Packet}
+use Rattle.zk_pcap.specs.NetworkTime.{now}
+use Rattle.zk_tree.specs.Value.{Count, Time}
+use Rattle.zk_typed.specs.declared.program.Program.{Program}
+use Rattle.zk_typed.specs.Typed.{packet_seen}
+use Rattle.zk_typed.specs.Run.{Queued, queued, Turn, run}
+use Rattle.zk_top.specs.Item.{Item, What, Seen, items_of}
+use Rattle.zk_top.specs.Line.{line_end}
+
+-- the units for one body
+abbrev pub budget : ℕ
+budget = 1_000_000
+
+-- the event of what is seen
+abbrev pub event_of : What → Queued
+event_of (Seen own captured original) = queued packet_seen (Time own ∷ Count captured ∷ Count original ∷ [])
+
+abbrev pub turn_of : Item → Turn
+turn_of item = record { moment = item.moment; events = event_of item.what ∷ [] }
+
+-- lines, each with its end
+abbrev pub text_of : List (List ℕ) → List ℕ
+text_of lines = flat_map (λ line. line ++ line_end) lines
+
+-- the lines that a program prints over these packets
+abbrev pub printed : Program → List Packet → List ℕ
+printed program packets = text_of (run program budget (map turn_of (items_of packets)) (now packets)).lines

@@ -1,0 +1,261 @@
+ghost use Rattle.std.specs.Prelude.{◌≡◌, ◌<◌, ℕ, List, [], map, fold, Some, slice_get, length, All, IfOk, OnOk, IfErr};
+ghost use Rattle.zk_base.specs.Shelf.{Outside};
+ghost use Rattle.zk_machine.specs.Lowered.{lowered};
+ghost use Rattle.zk_machine.specs.Standing.{code_of};
+ghost use Rattle.zk_pcap.specs.NetworkTime.{now as network_time};
+ghost use Rattle.zk_typed.specs.declared.program.Program.{Program};
+ghost use Rattle.zk_typed.specs.declared.program.Handler.{Handler};
+ghost use Rattle.zk_typed.specs.Exec.{exec_body};
+ghost use Rattle.zk_typed.specs.Run.{handlers_of, bodies, turn};
+ghost use Rattle.zk_typed.specs.Typed.{packet_seen};
+ghost use Rattle.zk_typed.specs.World.{World, first_world, at_time};
+ghost use Rattle.zk_value.specs.Plain.{value_of, line_in};
+ghost use Rattle.zk_top.specs.Item.{seen_at, items_of};
+ghost use Rattle.zk_top.specs.Replay.{budget, printed, text_of, turn_of};
+ghost use Rattle.zk_top.specs.Run.{DoesAll, DoesPart};
+
+use crate::opening::later;
+use crate::output::{PIECE, push_line, say};
+use crate::stop::Stop;
+use std::alloc::Global;
+use zk_base::{EventNo, HandlerNo, Mem, Moment, Shelf};
+use zk_machine::Machine;
+use zk_pcap::Packet;
+use zk_typed::{PACKET_SEEN, ZEEK_DONE, ZEEK_INIT};
+use zk_value::{Code, Out, Value};
+
+/// The units for one body.
+const BUDGET: u64 = 1_000_000;
+
+/// A program that plays over a capture, and what it has printed that is not yet said.
+#[derive(Drop)]
+pub struct Player {
+    machine: Machine,
+    piece: Vec<u8>,
+}
+
+impl Player {
+    ghost use Rattle.zk_top.specs.Handlers.{AreHandlers, AreWithin};
+    ghost use Rattle.zk_top.specs.Playing.{HasCome};
+
+    /// A program at its beginning.
+    fn new(alloc: Global, code: Code) -> Result<Player, Mem>
+        ensures came { IfOk result (λ player. (first : Outside) (program : Program) → code ≡ lowered program → HasCome first program [] first_world player first) }
+        ensures code { IfOk result (λ player. code_of player.machine ≡ code) }
+    {
+        Ok(Player {
+            machine: Machine::new(alloc, code)?,
+            piece: Vec::with_capacity(alloc, PIECE)?,
+        })
+    }
+
+    /// Takes the lines that the machine has, and says what fills a piece.
+    fn take_lines<S: Shelf>(&mut self, shelf: &mut S) -> Result<(), Stop>
+        ensures came { OnOk result ((first : Outside) (program : Program) (taken : List (List ℕ)) (world : World) → HasCome first program taken world self.old (S.outside shelf.old)
+            → HasCome first program world.lines world self.new (S.outside shelf.new)) }
+        ensures stopped { IfErr result (λ stop. (first : Outside) (program : Program) (taken : List (List ℕ)) (world : World) → HasCome first program taken world self.old (S.outside shelf.old)
+            → DoesPart [] (text_of world.lines) [] first stop (S.outside shelf.new)) }
+        ensures code { code_of self.new.machine ≡ code_of self.old.machine }
+    {
+        while let Some(out) = self.machine.out() {
+            push_line(shelf, &mut self.piece, line_in(&out))?;
+        }
+        Ok(())
+    }
+
+    /// Runs the body of a handler.
+    fn run_body<S: Shelf>(
+        &mut self,
+        shelf: &mut S,
+        handler: HandlerNo,
+        args: &[Value],
+    ) -> Result<(), Stop>
+        requires { handler.0 < length (code_of self.old.machine).handlers }
+        ensures came { OnOk result ((first : Outside) (program : Program) (world : World) (of : Handler) → slice_get program.handlers handler.0 ≡ Some of
+            → HasCome first program world.lines world self.old (S.outside shelf.old)
+            → let after = (exec_body of (map value_of args.now) world budget).world in HasCome first program after.lines after self.new (S.outside shelf.new)) }
+        ensures stopped { IfErr result (λ stop. (first : Outside) (program : Program) (world : World) (of : Handler) → slice_get program.handlers handler.0 ≡ Some of
+            → HasCome first program world.lines world self.old (S.outside shelf.old)
+            → DoesPart [] (text_of (exec_body of (map value_of args.now) world budget).world.lines) [] first stop (S.outside shelf.new)) }
+        ensures code { code_of self.new.machine ≡ code_of self.old.machine }
+    {
+        self.machine.body(handler, args, BUDGET)?;
+        self.take_lines(shelf)
+    }
+
+    /// Runs the bodies of an event's handlers, one after another.
+    fn dispatch<S: Shelf>(
+        &mut self,
+        shelf: &mut S,
+        handlers: &[HandlerNo],
+        args: &[Value],
+    ) -> Result<(), Stop>
+        requires { All (λ n. n.0 < length (code_of self.old.machine).handlers) handlers.now }
+        ensures came { OnOk result ((first : Outside) (program : Program) (world : World) (of : List Handler) → map (λ n. slice_get program.handlers n.0) handlers.now ≡ map Some of
+            → HasCome first program world.lines world self.old (S.outside shelf.old)
+            → let after = bodies (map value_of args.now) budget world of in HasCome first program after.lines after self.new (S.outside shelf.new)) }
+        ensures stopped { IfErr result (λ stop. (first : Outside) (program : Program) (world : World) (of : List Handler) → map (λ n. slice_get program.handlers n.0) handlers.now ≡ map Some of
+            → HasCome first program world.lines world self.old (S.outside shelf.old)
+            → DoesPart [] (text_of (bodies (map value_of args.now) budget world of).lines) [] first stop (S.outside shelf.new)) }
+        ensures code { code_of self.new.machine ≡ code_of self.old.machine }
+    {
+        for handler in handlers {
+            self.run_body(shelf, *handler, args)?;
+        }
+        Ok(())
+    }
+
+    /// Sets network time.
+    fn set_time(&mut self, time: Moment)
+        ensures came { (first : Outside) (program : Program) (world : World) (now : Outside) → HasCome first program world.lines world self.old now
+            → HasCome first program (at_time time world).lines (at_time time world) self.new now }
+        ensures code { code_of self.new.machine ≡ code_of self.old.machine }
+    {
+        self.machine.set_time(time);
+    }
+
+    /// Runs the handlers of what is seen of a packet, at its network time.
+    fn see<S: Shelf>(
+        &mut self,
+        shelf: &mut S,
+        handlers: &[HandlerNo],
+        time: Moment,
+        packet: &Packet,
+    ) -> Result<(), Stop>
+        requires { All (λ n. n.0 < length (code_of self.old.machine).handlers) handlers.now }
+        ensures came { OnOk result ((first : Outside) (program : Program) (world : World) → map (λ n. slice_get program.handlers n.0) handlers.now ≡ map Some (handlers_of program packet_seen)
+            → HasCome first program world.lines world self.old (S.outside shelf.old)
+            → let after = turn program budget world (turn_of (seen_at time packet.now)) in HasCome first program after.lines after self.new (S.outside shelf.new)) }
+        ensures stopped { IfErr result (λ stop. (first : Outside) (program : Program) (world : World) → map (λ n. slice_get program.handlers n.0) handlers.now ≡ map Some (handlers_of program packet_seen)
+            → HasCome first program world.lines world self.old (S.outside shelf.old)
+            → DoesPart [] (text_of (turn program budget world (turn_of (seen_at time packet.now))).lines) [] first stop (S.outside shelf.new)) }
+        ensures code { code_of self.new.machine ≡ code_of self.old.machine }
+    {
+        let args = [
+            Value::Time(packet.moment),
+            Value::Count(packet.bytes.len() as u64),
+            Value::Count(u64::from(packet.orig_len)),
+        ];
+        self.set_time(time);
+        self.dispatch(shelf, handlers, &args)
+    }
+
+    /// Runs the handlers of what is seen of packets, in order. Answers the last network time.
+    fn see_packets<S: Shelf>(
+        &mut self,
+        shelf: &mut S,
+        handlers: &[HandlerNo],
+        packets: &[Packet],
+    ) -> Result<Moment, Stop>
+        requires { All (λ n. n.0 < length (code_of self.old.machine).handlers) handlers.now }
+        ensures last { IfOk result (λ last. last ≡ network_time packets.now) }
+        ensures came { OnOk result ((first : Outside) (program : Program) (world : World) → map (λ n. slice_get program.handlers n.0) handlers.now ≡ map Some (handlers_of program packet_seen)
+            → HasCome first program world.lines world self.old (S.outside shelf.old)
+            → let after = fold (turn program budget) world (map turn_of (items_of packets.now)) in HasCome first program after.lines after self.new (S.outside shelf.new)) }
+        ensures stopped { IfErr result (λ stop. (first : Outside) (program : Program) (world : World) → map (λ n. slice_get program.handlers n.0) handlers.now ≡ map Some (handlers_of program packet_seen)
+            → HasCome first program world.lines world self.old (S.outside shelf.old)
+            → DoesPart [] (text_of (fold (turn program budget) world (map turn_of (items_of packets.now))).lines) [] first stop (S.outside shelf.new)) }
+        ensures code { code_of self.new.machine ≡ code_of self.old.machine }
+    {
+        let mut now = Moment(0);
+        for packet in packets {
+            now = later(now, packet.moment);
+            self.see(shelf, handlers, now, packet)?;
+        }
+        Ok(now)
+    }
+
+    /// Runs the program from its beginning to its end, and says what it prints.
+    fn run<S: Shelf>(
+        &mut self,
+        shelf: &mut S,
+        handlers: &Handlers,
+        packets: &[Packet],
+    ) -> Result<(), Stop>
+        requires { AreWithin (code_of self.old.machine) handlers.now }
+        ensures said { OnOk result ((first : Outside) (program : Program) → AreHandlers program handlers.now → HasCome first program [] first_world self.old (S.outside shelf.old)
+            → DoesAll [] (printed program packets.now) [] first (S.outside shelf.new)) }
+        ensures stopped { IfErr result (λ stop. (first : Outside) (program : Program) → AreHandlers program handlers.now → HasCome first program [] first_world self.old (S.outside shelf.old)
+            → DoesPart [] (printed program packets.now) [] first stop (S.outside shelf.new)) }
+    {
+        self.dispatch(shelf, &handlers.init, &[])?;
+        let last = self.see_packets(shelf, &handlers.seen, packets)?;
+        self.set_time(last);
+        self.dispatch(shelf, &handlers.done, &[])?;
+        say(shelf, &self.piece)
+    }
+}
+
+/// The handlers of each event, in load order.
+#[derive(Drop)]
+pub struct Handlers {
+    init: Vec<HandlerNo>,
+    seen: Vec<HandlerNo>,
+    done: Vec<HandlerNo>,
+}
+
+impl Handlers {
+    ghost use Rattle.zk_top.specs.Handlers.{AreHandlers, AreWithin};
+
+    fn of(alloc: Global, code: &Code) -> Result<Handlers, Mem>
+        ensures handlers { IfOk result (λ handlers. (program : Program) → code.now ≡ lowered program → AreHandlers program handlers) }
+        ensures within { IfOk result (λ handlers. AreWithin code.now handlers) }
+    {
+        Ok(Handlers {
+            init: handlers_of(alloc, code, ZEEK_INIT)?,
+            seen: handlers_of(alloc, code, PACKET_SEEN)?,
+            done: handlers_of(alloc, code, ZEEK_DONE)?,
+        })
+    }
+}
+
+/// The line that is given out.
+fn line_in(out: &Out) -> &[u8]
+    ensures { result.now ≡ line_in out.now }
+{
+    match out {
+        Out::Line(line) => line.as_slice(),
+    }
+}
+
+/// The handlers of an event, in load order.
+fn handlers_of(alloc: Global, code: &Code, event: EventNo) -> Result<Vec<HandlerNo>, Mem>
+    ensures handlers { IfOk result (λ numbers. (program : Program) → code.now ≡ lowered program
+        → map (λ n. slice_get program.handlers n.0) numbers.items ≡ map Some (handlers_of program event)) }
+    ensures within { IfOk result (λ numbers. All (λ n. n.0 < length code.now.handlers) numbers.items) }
+{
+    let mut numbers = Vec::new(alloc);
+    for (n, handler) in code.handlers.as_slice().iter().enumerate() {
+        if handler.event == event {
+            numbers.push(handler_number(n)?)?;
+        }
+    }
+    Ok(numbers)
+}
+
+/// The number of a handler. More than 2^32 handlers want more memory than there is.
+fn handler_number(n: usize) -> Result<HandlerNo, Mem>
+    ensures { IfOk result (λ number. number.0 ≡ n) }
+{
+    match u32::try_from(n) {
+        Ok(number) => Ok(HandlerNo(number)),
+        Err(_) => Err(Mem),
+    }
+}
+
+/// Runs a program over the packets of a capture, and says what it prints.
+pub fn play<S: Shelf>(
+    alloc: Global,
+    shelf: &mut S,
+    code: Code,
+    packets: &[Packet],
+) -> Result<(), Stop>
+    ensures said { OnOk result ((program : Program) → code ≡ lowered program
+        → DoesAll [] (printed program packets.now) [] (S.outside shelf.old) (S.outside shelf.new)) }
+    ensures stopped { IfErr result (λ stop. (program : Program) → code ≡ lowered program
+        → DoesPart [] (printed program packets.now) [] (S.outside shelf.old) stop (S.outside shelf.new)) }
+{
+    let handlers = Handlers::of(alloc, &code)?;
+    let mut player = Player::new(alloc, code)?;
+    player.run(shelf, &handlers, packets)
+}

@@ -1,0 +1,54 @@
+ghost use Rattle.std.specs.Prelude.{◌≡◌, [], ◌∷◌, Some, IfOk, IfErr};
+ghost use Rattle.zk_machine.specs.Lowered.{lowered};
+ghost use Rattle.zk_typed.specs.declared.program.Program.{Program};
+ghost use Rattle.zk_top.specs.Outcome.{over_capture, opened, loaded, running};
+ghost use Rattle.zk_top.specs.Replay.{printed};
+ghost use Rattle.zk_top.specs.Run.{Fulfils, BreaksOff, IsOfCommand};
+
+use crate::opening::{end_of, read_capture};
+use crate::playing::play;
+use crate::script::read_script;
+use crate::stop::Stop;
+use std::alloc::Global;
+use zk_base::{Ending, Shelf};
+use zk_value::Code;
+
+/// Runs a script over the capture in a file. The capture is asked for once the script is accepted.
+pub fn run_script<S: Shelf>(
+    alloc: Global,
+    shelf: &mut S,
+    file: &[u8],
+    script: &[u8],
+) -> Result<Ending, Stop>
+    ensures done { IfOk result (λ ending. Fulfils (λ inputs. running file.now script.now (loaded script.now (inputs script.now)) inputs) [] (S.outside shelf.old) ending (S.outside shelf.new)) }
+    ensures command { IfOk result IsOfCommand }
+    ensures stopped { IfErr result (λ stop. BreaksOff (λ inputs. running file.now script.now (loaded script.now (inputs script.now)) inputs) (S.outside shelf.old) stop (S.outside shelf.new)) }
+{
+    match read_script(alloc, shelf, script)? {
+        Ok(code) => replay(alloc, shelf, file, code),
+        Err(ending) => Ok(ending),
+    }
+}
+
+/// Runs a program over the capture in a file.
+fn replay<S: Shelf>(
+    alloc: Global,
+    shelf: &mut S,
+    file: &[u8],
+    code: Code,
+) -> Result<Ending, Stop>
+    ensures done { IfOk result (λ ending. (program : Program) → code ≡ lowered program
+        → Fulfils (λ inputs. over_capture (λ capture. printed program capture.packets) (file.now ∷ []) file.now (opened file.now (inputs file.now))) [] (S.outside shelf.old) ending (S.outside shelf.new)) }
+    ensures command { IfOk result IsOfCommand }
+    ensures stopped { IfErr result (λ stop. (program : Program) → code ≡ lowered program
+        → BreaksOff (λ inputs. over_capture (λ capture. printed program capture.packets) (file.now ∷ []) file.now (opened file.now (inputs file.now))) (S.outside shelf.old) stop (S.outside shelf.new)) }
+{
+    match read_capture(alloc, shelf, file)? {
+        Ok(capture) => {
+            let ending = end_of(alloc, file, capture.ending)?;
+            play(alloc, shelf, code, capture.packets.as_slice())?;
+            Ok(ending)
+        }
+        Err(ending) => Ok(ending),
+    }
+}

@@ -1,0 +1,71 @@
+ghost use Rattle.std.specs.Prelude.{◌≡◌, ◌+◌, ℕ, List, Result as Either, [], ◌∷◌, length, IfOk, IfErr};
+ghost use Rattle.zk_base.specs.declared.endings.Ending.{Ending as Ends};
+ghost use Rattle.zk_typed.specs.declared.program.Program.{Program as Typed};
+ghost use Rattle.zk_top.specs.Lowering.{code_or_ending};
+ghost use Rattle.zk_top.specs.Outcome.{loaded, accepted};
+ghost use Rattle.zk_top.specs.Run.{DoesPart, Finds};
+ghost use Rattle.zk_top.specs.Script.{script_of, place_of_token};
+
+use crate::lowering::code_of;
+use crate::reading::read_input;
+use crate::splitter::tokens;
+use crate::stop::Stop;
+use crate::typing::program_of;
+use std::alloc::Global;
+use zk_base::{Bytes, Ending, Mem, ScriptKind, Shelf};
+use zk_parse::{ParseFault, parse};
+use zk_tree::Token;
+use zk_value::Code;
+
+/// The most bytes that a script may have.
+const SCRIPT_MAX: usize = 1_048_576;
+
+/// The code of the script in a file, or how a run ends where there is none.
+pub fn read_script<S: Shelf>(
+    alloc: Global,
+    shelf: &mut S,
+    file: &[u8],
+) -> Result<Result<Code, Ending>, Stop>
+    ensures found { IfOk result (λ code. (program : Either Typed Ends) × (code ≡ code_or_ending program)
+        × Finds file.now (loaded file.now) (S.outside shelf.old) program (S.outside shelf.new)) }
+    ensures stopped { IfErr result (λ stop. DoesPart (file.now ∷ []) [] [] (S.outside shelf.old) stop (S.outside shelf.new)) }
+{
+    let name = Bytes::copy_of(alloc, file)?;
+    match read_input(alloc, shelf, file)? {
+        Some(text) => Ok(compile(alloc, name, text.as_slice())?),
+        None => Ok(Err(Ending::NoInput { name })),
+    }
+}
+
+/// The code of a text, or how a run ends where it is refused.
+fn compile(alloc: Global, name: Bytes, text: &[u8]) -> Result<Result<Code, Ending>, Mem>
+    ensures { IfOk result (λ code. code ≡ code_or_ending (accepted name (script_of text.now))) }
+{
+    if text.len() > SCRIPT_MAX {
+        return Ok(Err(Ending::ScriptRefused {
+            file: name,
+            place: SCRIPT_MAX as u64,
+            kind: ScriptKind::TooLarge,
+        }));
+    }
+    let tokens = tokens(alloc, text)?;
+    match parse(alloc, &tokens) {
+        Ok(tree) => {
+            let program = program_of(alloc, &tree)?;
+            Ok(Ok(code_of(alloc, &program)?))
+        }
+        Err(ParseFault::NoTree { at }) => Ok(Err(Ending::ScriptRefused {
+            file: name,
+            place: place_of(&tokens, at),
+            kind: ScriptKind::NoTree,
+        })),
+        Err(ParseFault::NoMemory) => Err(Mem),
+    }
+}
+
+/// The place of a token, by its number.
+fn place_of(tokens: &[Token], number: usize) -> u64
+    ensures { result ≡ place_of_token tokens.now number }
+{
+    tokens.get(number).map_or(0, |token| token.place)
+}

@@ -1,5 +1,5 @@
 -- What a machine stands for: a program, what was given out, and a world.
-use Rattle.std.specs.Prelude.{◌≡◌, ℕ, List, ◌++◌, Bool, true, false}
+use Rattle.std.specs.Prelude.{◌≡◌, ℕ, List, ◌++◌, true, false}
 use Rattle.zk_typed.specs.declared.program.Program.{Program}
 use Rattle.zk_typed.specs.World.{World}
 use Rattle.zk_value.specs.declared.code.Code.{Code}

@@ -1,7 +1,10 @@
 //! One handler's body at a time: code that runs in a world.
 #![tactic(auto)]
 
+mod halt;
 mod machine;
+mod prints;
+mod texts;
 
 pub use machine::Machine;
 pub use zk_tree::Place;

@@ -4,13 +4,15 @@ ghost use Rattle.zk_typed.specs.declared.program.Handler.{Handler};
 ghost use Rattle.zk_typed.specs.Exec.{exec_body, end_of};
 ghost use Rattle.zk_typed.specs.World.{World, first_world, at_time};
 ghost use Rattle.zk_value.specs.Plain.{value_of, line_in};
-ghost use Rattle.zk_machine.specs.Lowered.{lowered};
+ghost use Rattle.zk_machine.specs.Lowered.{lowered, print_of};
 
+use crate::halt::Halt;
+use crate::prints::do_prints;
 use std::alloc::Global;
 use std::collections::VecDeque;
 use zk_base::{Bytes, HandlerNo, Mem, Moment};
 use zk_typed::BodyEnd;
-use zk_value::{Code, Out, Value};
+use zk_value::{Code, Out, Print, Value};
 
 /// Code that runs, one handler's body at a time, and the world that it has come to. Once a call has
 /// answered `Mem` the machine has failed: `body` goes on answering `Mem`, and `out` gives nothing.
@@ -58,12 +60,7 @@ impl Machine {
     }
 
     /// Runs the body of a handler, given its arguments and so many units.
-    pub fn body(
-        &mut self,
-        handler: HandlerNo,
-        args: &[Value],
-        budget: u64,
-    ) -> Result<BodyEnd, Mem>
+    pub fn body(&mut self, handler: HandlerNo, args: &[Value], budget: u64) -> Result<BodyEnd, Mem>
         requires { handler.0 < length (code_of self.old).handlers }
         // It ends as the meaning of the program says, and so the world becomes.
         ensures ended { IfOk result (λ end. (program : Program) (given : List (List ℕ)) (world : World) (of : Handler) → StandsFor self.old program given world
@@ -74,7 +71,18 @@ impl Machine {
         ensures fails { OnErr result (HasFailed self.new) }
         ensures failed { HasFailed self.old → IsErr result }
     {
-        Err(Mem)
+        if self.failed {
+            return Err(Mem);
+        }
+        let prints = prints_of(&self.code, handler);
+        match do_prints(self.alloc, &mut self.lines, prints, self.time, args, budget) {
+            Ok(_) => Ok(BodyEnd::Done),
+            Err(Halt::Ends(end)) => Ok(end),
+            Err(Halt::NoMemory) => {
+                self.failed = true;
+                Err(Mem)
+            }
+        }
     }
 
     /// The next line that was not yet given, or none where all were.
@@ -91,4 +99,15 @@ impl Machine {
         }
         self.lines.pop_front().map(Out::Line)
     }
+}
+
+/// The prints of a handler, lent.
+fn prints_of(code: &Code, handler: HandlerNo) -> &[Print]
+    requires { handler.0 < length code.now.handlers }
+    ensures { (program : Program) (of : Handler) → code.now ≡ lowered program → slice_get program.handlers handler.0 ≡ Some of
+        → result.now ≡ map print_of of.body }
+{
+    code.handlers.as_slice()[handler.0 as usize]
+        .prints
+        .as_slice()
 }

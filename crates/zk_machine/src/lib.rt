@@ -9,3 +9,6 @@ mod texts;
 pub use machine::Machine;
 pub use zk_tree::Place;
 pub use zk_typed::{BodyEnd, FaultKind};
+
+#[cfg(test)]
+mod tests;

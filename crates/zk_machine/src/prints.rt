@@ -75,12 +75,11 @@ fn push_line(
     print: &Print,
     time: Moment,
     args: &[Value],
-    left: u64,
+    mut left: u64,
 ) -> Result<u64, Halt>
     ensures given { IfOk result (GivesAll (evaluated_all time args.now left print.now.values) line.old.items line.new.items) }
     ensures stopped { IfErr result (Stops print.now.place (evaluated_all time args.now left print.now.values)) }
 {
-    let mut left = left;
     for (number, operand) in print.values.as_slice().iter().enumerate() {
         push_separator(line, number)?;
         left = push_operand(line, operand, time, args, left, print.place)?;

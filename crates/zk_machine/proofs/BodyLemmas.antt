@@ -30,6 +30,7 @@ use Rattle.zk_machine.specs.Standing.{StandsFor}
 abbrev pub behind : List (List ℕ) → Left → Left
 behind given left = record { outcome = left.outcome; world = world_of left.world.time (given ++ left.world.lines); units = left.units }
 
+-- a print behind such lines
 printed_behind : (given lines : List (List ℕ)) (time : Moment) (place : Place) (values : Result (List plain.Value × ℕ) Stop)
     → printed place (world_of time (given ++ lines)) values ≡ behind given (printed place (world_of time lines) values)
 printed_behind given lines time place (Ok values) =
@@ -38,6 +39,7 @@ printed_behind given lines time place (Ok values) =
 printed_behind given lines time place (Err (Faults kind units)) = refl
 printed_behind given lines time place (Err Spends) = refl
 
+-- a statement behind such lines
 exec_behind : (given lines : List (List ℕ)) (time : Moment) (args : List plain.Value) (statement : Statement) (left : ℕ)
     → exec args statement (world_of time (given ++ lines)) left ≡ behind given (exec args statement (world_of time lines) left)
 exec_behind given lines time args (statement.Print place values) zero = refl
@@ -45,9 +47,10 @@ exec_behind given lines time args (statement.Print place values) (suc left) =
     printed_behind given lines time place (evaluate_all (world_of time lines) args values left)
 
 -- statements after one that came out so
-abbrev pub after_one : List plain.Value → List Statement → Left → Left
+abbrev after_one : List plain.Value → List Statement → Left → Left
 after_one args others after = if is_normal after.outcome then exec_all args others after.world after.units else after
 
+-- going on or stopping behind such lines
 chosen_behind : (given : List (List ℕ)) (normal : Bool) (one two after : Left) → one ≡ behind given two
     → (if normal then one else behind given after) ≡ behind given (if normal then two else after)
 chosen_behind given true one two after same = same
@@ -66,6 +69,7 @@ exec_all_behind given lines time args (first ∷ others) left =
 
 -- Code and program -------------------------------------------------------------------------------------------------
 
+-- code means what it was made from
 expression_back : (expression : Expression) → expression_of (operand_of expression) ≡ expression
 expression_back (expression.Bool truth) = refl
 expression_back (expression.Count count) = refl

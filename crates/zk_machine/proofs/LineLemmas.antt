@@ -24,6 +24,7 @@ commas_more first [] text = append_assoc first (codes ", ") text
 commas_more first (second ∷ others) text =
     ap (λ xs. (first ++ codes ", ") ++ xs) (commas_more second others text) ∙ sym (append_assoc (first ++ codes ", ") (with_commas (second ∷ others)) (codes ", " ++ text))
 
+-- a value behind the first has a separator
 not_first : (n : ℕ) → (suc n == 0) ≡ false
 not_first n = search rules
 
@@ -40,6 +41,7 @@ abbrev pub joined : List plain.Value → Result (List plain.Value × ℕ) Stop �
 joined values (Ok others) = Ok (values ++ others.0, others.1)
 joined values (Err stop) = Err stop
 
+-- one value more
 joined_more : (values : List plain.Value) (value : plain.Value) (given : Result (List plain.Value × ℕ) Stop)
     → joined values (before value given) ≡ joined (values ++ value ∷ []) given
 joined_more values value (Ok others) =
@@ -61,6 +63,7 @@ rest_is : (operands : List Operand) (index : ℕ) (operand : Operand) → index 
 rest_is operands index operand within is =
     rw add-one (drop-cons operands index operand within) ∙ ap (λ o. o ∷ drop (index + 1) operands) (sym is)
 
+-- One operand more gave its value.
 pub line_goes_on : (time : Moment) (args : List Value) (budget : ℕ) (operands : List Operand) (first : List ℕ) (index : ℕ) (operand : Operand) (line between longer : List ℕ) (units fewer : ℕ)
     → IsLineSoFar time args budget operands first index line units → index < length operands → operand ≡ get_or operands index operand
     → between ≡ line ++ separator index → Gives (evaluated time args units operand) between longer fewer
@@ -84,6 +87,7 @@ line_goes_on time args budget operands first index operand line between longer u
           ∙ ap (λ xs. first ++ xs) (sym (line_more far.values value));
     }
 
+-- Where an operand gives no value, the print's values are not given either.
 pub line_stops : (time : Moment) (args : List Value) (budget : ℕ) (operands : List Operand) (first : List ℕ) (index : ℕ) (operand : Operand) (line : List ℕ) (units : ℕ) (place : Place) (halt : Halt)
     → IsLineSoFar time args budget operands first index line units → index < length operands → operand ≡ get_or operands index operand
     → Stops place (evaluated time args units operand) halt → Stops place (evaluated_all time args budget operands) halt

@@ -1,5 +1,5 @@
 -- The code of a program.
-use Rattle.std.specs.Prelude.{List, map}
+use Rattle.std.specs.Prelude.{map}
 use Rattle.zk_typed.specs.declared.program.Program.{Program}
 use Rattle.zk_typed.specs.declared.program.Handler.{Handler}
 use Rattle.zk_typed.specs.declared.program.Statement.{Statement}

@@ -1,8 +1,14 @@
 //! One handler's body at a time: code that runs in a world.
 #![tactic(auto)]
 
+mod halt;
 mod machine;
+mod prints;
+mod texts;
 
 pub use machine::Machine;
 pub use zk_tree::Place;
 pub use zk_typed::{BodyEnd, FaultKind};
+
+#[cfg(test)]
+mod tests;

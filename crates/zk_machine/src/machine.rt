@@ -4,13 +4,15 @@ ghost use Rattle.zk_typed.specs.declared.program.Handler.{Handler};
 ghost use Rattle.zk_typed.specs.Exec.{exec_body, end_of};
 ghost use Rattle.zk_typed.specs.World.{World, first_world, at_time};
 ghost use Rattle.zk_value.specs.Plain.{value_of, line_in};
-ghost use Rattle.zk_machine.specs.Lowered.{lowered};
+ghost use Rattle.zk_machine.specs.Lowered.{lowered, print_of};
 
+use crate::halt::Halt;
+use crate::prints::do_prints;
 use std::alloc::Global;
 use std::collections::VecDeque;
 use zk_base::{Bytes, HandlerNo, Mem, Moment};
 use zk_typed::BodyEnd;
-use zk_value::{Code, Out, Value};
+use zk_value::{Code, Out, Print, Value};
 
 /// Code that runs, one handler's body at a time, and the world that it has come to. Once a call has
 /// answered `Mem` the machine has failed: `body` goes on answering `Mem`, and `out` gives nothing.
@@ -47,7 +49,7 @@ impl Machine {
         &self.code
     }
 
-    /// Sets network time.
+    /// Sets network time, which a call of `network_time` gives (Zeek manual, functions, network_time).
     pub fn set_time(&mut self, t: Moment)
         ensures stands { (program : Program) (given : List (List ℕ)) (world : World) → StandsFor self.old program given world
             → StandsFor self.new program given (at_time t world) }
@@ -57,13 +59,11 @@ impl Machine {
         self.time = t;
     }
 
-    /// Runs the body of a handler, given its arguments and so many units.
-    pub fn body(
-        &mut self,
-        handler: HandlerNo,
-        args: &[Value],
-        budget: u64,
-    ) -> Result<BodyEnd, Mem>
+    /// Runs the body of a handler, given its arguments and so many units (Zeek manual, statements,
+    /// event handlers). Each statement that is begun takes a unit, and each call another; a print that
+    /// is spent or at fault prints nothing. Printed lines wait for `out`. `Mem`: memory was wanting, now
+    /// or at an earlier call, and the machine has failed.
+    pub fn body(&mut self, handler: HandlerNo, args: &[Value], budget: u64) -> Result<BodyEnd, Mem>
         requires { handler.0 < length (code_of self.old).handlers }
         // It ends as the meaning of the program says, and so the world becomes.
         ensures ended { IfOk result (λ end. (program : Program) (given : List (List ℕ)) (world : World) (of : Handler) → StandsFor self.old program given world
@@ -74,10 +74,22 @@ impl Machine {
         ensures fails { OnErr result (HasFailed self.new) }
         ensures failed { HasFailed self.old → IsErr result }
     {
-        Err(Mem)
+        if self.failed {
+            return Err(Mem);
+        }
+        let prints = prints_of(&self.code, handler);
+        match do_prints(self.alloc, &mut self.lines, prints, self.time, args, budget) {
+            Ok(_) => Ok(BodyEnd::Done),
+            Err(Halt::Ends(end)) => Ok(end),
+            Err(Halt::NoMemory) => {
+                self.failed = true;
+                Err(Mem)
+            }
+        }
     }
 
-    /// The next line that was not yet given, or none where all were.
+    /// The next printed line that was not yet given, or none where all were or the machine has failed.
+    /// Lines come in the order in which they were printed (Zeek manual, statements, print).
     pub fn out(&mut self) -> Option<Out>
         ensures some { IfSome result (λ out. (program : Program) (given : List (List ℕ)) (world : World) → StandsFor self.old program given world
             → StandsFor self.new program (given ++ line_in out ∷ []) world) }
@@ -92,4 +104,15 @@ impl Machine {
         }
         self.lines.pop_front().map(Out::Line)
     }
+}
+
+/// The prints of a handler, lent.
+fn prints_of(code: &Code, handler: HandlerNo) -> &[Print]
+    requires { handler.0 < length code.now.handlers }
+    ensures { (program : Program) (of : Handler) → code.now ≡ lowered program → slice_get program.handlers handler.0 ≡ Some of
+        → result.now ≡ map print_of of.body }
+{
+    code.handlers.as_slice()[handler.0 as usize]
+        .prints
+        .as_slice()
 }

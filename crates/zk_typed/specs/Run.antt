@@ -1,5 +1,5 @@
 -- A run of a program over the items of a capture (Zeek manual, events zeek_init and zeek_done).
-use Rattle.std.specs.Prelude.{ℕ, ◌==◌, List, [], ◌∷◌, filter, fold}
+use Rattle.std.specs.Prelude.{ℕ, ◌==◌, List, [], filter, fold}
 use Rattle.zk_base.specs.declared.numbers.EventNo.{EventNo}
 use Rattle.zk_base.specs.declared.time.Moment.{Moment}
 use Rattle.zk_tree.specs.Value.{Value}

@@ -1,5 +1,5 @@
 -- The text of a value as `print` writes it (Zeek manual, print): times in seconds with six decimals.
-use Rattle.std.specs.Prelude.{ℕ, Bool, List, [], ◌∷◌, ◌++◌, map, codes, decimal, if◌then◌else◌}
+use Rattle.std.specs.Prelude.{ℕ, List, [], ◌∷◌, ◌++◌, map, codes, decimal, if◌then◌else◌}
 use Rattle.zk_tree.specs.Value.{Value, Truth, Count, Text, Time}
 use Rattle.zk_text.specs.Span.{span_decimal}
 

@@ -1,13 +1,14 @@
 use zk_base::{Bytes, EventNo, Sequence};
 use zk_tree::Place;
 
-/// The code of a program: its handlers, in load order.
+/// The code of a program: its handlers, in load order. A handler's number is its place there.
 #[derive(Debug, Drop)]
 pub struct Code {
     pub handlers: Sequence<HandlerCode>,
 }
 
-/// The code of a handler: its prints, one after another.
+/// The code of a handler: the event that it handles, and its prints, one after another (Zeek manual,
+/// statements, event handlers and print).
 #[derive(Debug, Drop)]
 pub struct HandlerCode {
     pub event: EventNo,
@@ -24,11 +25,14 @@ pub struct Print {
 /// Where a value comes from.
 #[derive(Debug, Drop)]
 pub enum Operand {
+    /// `T` or `F`.
     Bool(bool),
+    /// A number.
     Count(u64),
+    /// A string.
     String(Bytes),
     /// An argument of the handler, by its number from 0.
     Parameter(usize),
-    /// Network time. It costs a unit.
+    /// What a call of `network_time` gives. The call costs a unit.
     NetworkTime,
 }

@@ -10,3 +10,6 @@ pub use code::{Code, HandlerCode, Operand, Print};
 pub use out::Out;
 pub use texts::{push_count, push_span};
 pub use value::Value;
+
+#[cfg(test)]
+mod tests;

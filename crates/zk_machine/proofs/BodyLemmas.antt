@@ -1,0 +1,121 @@
+-- The body of a handler in any world that the machine stands for.
+use Rattle.std.proofs.Common.{◌≡◌, ℕ, zero, suc, Bool, true, false, List, [], ◌∷◌, ◌++◌, map, Some, slice_get, Result, Ok, Err, if◌then◌else◌, refl, sym, ap, ◌∙◌, append_assoc}
+use Rattle.std.specs.Option.{option_map}
+use Rattle.std.proofs.lemmas.Option.{slice_get-map}
+use Rattle.zk_base.specs.declared.time.Moment.{Moment}
+use Rattle.zk_tree.specs.declared.place.Place.{Place}
+use Rattle.zk_tree.specs.Value as plain
+use Rattle.zk_typed.specs.declared.program.Program.{Program}
+use Rattle.zk_typed.specs.declared.program.Handler.{Handler}
+use Rattle.zk_typed.specs.declared.program.Statement.{Statement}
+use Rattle.zk_typed.specs.declared.program.Statement.TheVariants as statement
+use Rattle.zk_typed.specs.declared.program.Expression.{Expression}
+use Rattle.zk_typed.specs.declared.program.Expression.TheVariants as expression
+use Rattle.zk_typed.specs.Exec.{Stop, Faults, Spends, Left, is_normal, evaluate_all, printed, exec, exec_all, exec_body}
+use Rattle.zk_typed.specs.Text.{line_of}
+use Rattle.zk_typed.specs.World.{World}
+use Rattle.zk_value.specs.declared.value.Value.{Value}
+use Rattle.zk_value.specs.declared.code.Code.{Code}
+use Rattle.zk_value.specs.declared.code.HandlerCode.{HandlerCode}
+use Rattle.zk_value.specs.declared.code.Print.{Print}
+use Rattle.zk_value.specs.Plain.{value_of}
+use Rattle.zk_machine.specs.declared.machine.Machine.{Machine}
+use Rattle.zk_machine.specs.Lowered.{operand_of, print_of, handler_code, lowered}
+use Rattle.zk_machine.specs.Meant.{expression_of, statement_of, world_of, executed_all}
+use Rattle.zk_machine.specs.Standing.{StandsFor}
+
+-- Lines that were printed before ---------------------------------------------------------------------------------------
+
+-- the same with lines before
+abbrev pub behind : List (List ℕ) → Left → Left
+behind given left = record { outcome = left.outcome; world = world_of left.world.time (given ++ left.world.lines); units = left.units }
+
+-- a print behind such lines
+printed_behind : (given lines : List (List ℕ)) (time : Moment) (place : Place) (values : Result (List plain.Value × ℕ) Stop)
+    → printed place (world_of time (given ++ lines)) values ≡ behind given (printed place (world_of time lines) values)
+printed_behind given lines time place (Ok values) =
+    let left : List (List ℕ) → Left = λ ls. record { outcome = (printed place (world_of time lines) (Ok values)).outcome; world = world_of time ls; units = values.1 } in
+    ap left (append_assoc given lines (line_of values.0 ∷ []))
+printed_behind given lines time place (Err (Faults kind units)) = refl
+printed_behind given lines time place (Err Spends) = refl
+
+-- a statement behind such lines
+exec_behind : (given lines : List (List ℕ)) (time : Moment) (args : List plain.Value) (statement : Statement) (left : ℕ)
+    → exec args statement (world_of time (given ++ lines)) left ≡ behind given (exec args statement (world_of time lines) left)
+exec_behind given lines time args (statement.Print place values) zero = refl
+exec_behind given lines time args (statement.Print place values) (suc left) =
+    printed_behind given lines time place (evaluate_all (world_of time lines) args values left)
+
+-- statements after one that came out so
+abbrev after_one : List plain.Value → List Statement → Left → Left
+after_one args others after = if is_normal after.outcome then exec_all args others after.world after.units else after
+
+-- going on or stopping behind such lines
+chosen_behind : (given : List (List ℕ)) (normal : Bool) (one two after : Left) → one ≡ behind given two
+    → (if normal then one else behind given after) ≡ behind given (if normal then two else after)
+chosen_behind given true one two after same = same
+chosen_behind given false one two after same = refl
+
+-- Lines that were printed before change nothing of what statements do.
+exec_all_behind : (given lines : List (List ℕ)) (time : Moment) (args : List plain.Value) (statements : List Statement) (left : ℕ)
+    → exec_all args statements (world_of time (given ++ lines)) left ≡ behind given (exec_all args statements (world_of time lines) left)
+exec_all_behind given lines time args [] left = refl
+exec_all_behind given lines time args (first ∷ others) left =
+    let after : Left = exec args first (world_of time lines) left in
+    ap (after_one args others) (exec_behind given lines time args first left)
+    ∙ chosen_behind given (is_normal after.outcome)
+    (exec_all args others (world_of after.world.time (given ++ after.world.lines)) after.units) (exec_all args others after.world after.units) after
+    (exec_all_behind given after.world.lines after.world.time args others after.units)
+
+-- Code and program -------------------------------------------------------------------------------------------------
+
+-- code means what it was made from
+expression_back : (expression : Expression) → expression_of (operand_of expression) ≡ expression
+expression_back (expression.Bool truth) = refl
+expression_back (expression.Count count) = refl
+expression_back (expression.String bytes) = refl
+expression_back (expression.Parameter number) = refl
+expression_back expression.NetworkTime = refl
+
+expressions_back : (expressions : List Expression) → map expression_of (map operand_of expressions) ≡ expressions
+expressions_back [] = refl
+expressions_back (first ∷ others) = ap (λ e. e ∷ map expression_of (map operand_of others)) (expression_back first) ∙ ap (λ es. first ∷ es) (expressions_back others)
+
+statement_back : (statement : Statement) → statement_of (print_of statement) ≡ statement
+statement_back (statement.Print place values) = ap (λ es. statement.Print place es) (expressions_back values)
+
+statements_back : (statements : List Statement) → map statement_of (map print_of statements) ≡ statements
+statements_back [] = refl
+statements_back (first ∷ others) = ap (λ s. s ∷ map statement_of (map print_of others)) (statement_back first) ∙ ap (λ ss. first ∷ ss) (statements_back others)
+
+-- the code of a handler
+pub code_is : (program : Program) (of : Handler) (code : Code) (number : ℕ) (item : HandlerCode)
+    → code ≡ lowered program → slice_get program.handlers number ≡ Some of → slice_get code.handlers number ≡ Some item → item.prints ≡ map print_of of.body
+code_is program of code number item is found read =
+    let lookup : Some (handler_code of) ≡ Some item =
+    sym (slice_get-map handler_code program.handlers number ∙ ap (option_map handler_code) found) ∙ sym (ap (λ c. slice_get c.handlers number) is) ∙ read in
+    let same : handler_code of ≡ item = cc in
+    sym (ap (λ c. c.prints) same)
+
+-- What the prints of a handler do in the machine is what the body of the handler does in the world.
+pub body_is : (machine : Machine) (program : Program) (given : List (List ℕ)) (world : World) (of : Handler) (prints : List Print) (args : List Value) (budget : ℕ)
+    → StandsFor machine program given world → prints ≡ map print_of of.body
+    → exec_body of (map value_of args) world budget ≡ behind given (executed_all machine.time args machine.lines.items budget prints)
+body_is machine program given world of prints args budget stands is =
+    let values : List plain.Value = map value_of args in
+    let statements : List Statement = map statement_of prints in
+    ap (λ ss. exec_all values ss world budget) (sym (statements_back of.body) ∙ ap (λ ps. map statement_of ps) (sym is))
+    ∙ ap (λ t. exec_all values statements (world_of t world.lines) budget) (sym stands.time)
+    ∙ ap (λ ls. exec_all values statements (world_of machine.time ls) budget) stands.lines
+    ∙ exec_all_behind given machine.lines.items machine.time values statements budget
+
+-- Where the prints leave the machine's own world so, it stands for the world that the body leaves.
+pub stands_after : (machine after : Machine) (program : Program) (given : List (List ℕ)) (world : World) (whole inner : Left)
+    → StandsFor machine program given world → whole ≡ behind given inner → inner.world ≡ world_of after.time after.lines.items
+    → after.code ≡ machine.code → after.failed ≡ machine.failed → StandsFor after program given whole.world
+stands_after machine after program given world whole inner stands is left code failed = record {
+  code = code ∙ stands.code;
+  time = sym (ap (λ l. l.world.time) is ∙ ap (λ w. w.time) left);
+  lines = ap (λ l. l.world.lines) is ∙ ap (λ w. given ++ w.lines) left;
+  works = failed ∙ stands.works;
+}

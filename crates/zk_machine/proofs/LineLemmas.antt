@@ -1,0 +1,101 @@
+-- The line of a print, value by value.
+use Rattle.std.proofs.Common.{◌≡◌, ◌==◌, ℕ, suc, ◌+◌, ◌<◌, false, List, [], ◌∷◌, ◌++◌, map, length, drop, get_or, codes, Result, Ok, Err, if◌then◌else◌, refl, sym, ap, ◌∙◌, append_assoc, add-one, drop-cons, rules}
+use Rattle.std.proofs.lemmas.List.{map-append, length-append}
+use Rattle.zk_base.specs.declared.time.Moment.{Moment}
+use Rattle.zk_tree.specs.declared.place.Place.{Place}
+use Rattle.zk_tree.specs.Value as plain
+use Rattle.zk_typed.specs.Exec.{Evaluated, Stop, and_then, before}
+use Rattle.zk_typed.specs.Text.{text_of, with_commas, line_of}
+use Rattle.zk_value.specs.declared.value.Value.{Value}
+use Rattle.zk_value.specs.declared.code.Operand.{Operand}
+use Rattle.zk_machine.specs.declared.halt.Halt.{Halt}
+use Rattle.zk_machine.specs.declared.halt.Halt.TheVariants.{Ends, NoMemory}
+use Rattle.zk_machine.specs.Meant.{evaluated, evaluated_all}
+use Rattle.zk_machine.specs.Steps.{Gives, Stops}
+
+-- what stands before a value of this number
+abbrev pub separator : ℕ → List ℕ
+separator number = if number == 0 then [] else codes ", "
+
+-- a text behind others
+commas_more : (first : List ℕ) (others : List (List ℕ)) (text : List ℕ)
+    → with_commas ((first ∷ others) ++ text ∷ []) ≡ with_commas (first ∷ others) ++ (codes ", " ++ text)
+commas_more first [] text = append_assoc first (codes ", ") text
+commas_more first (second ∷ others) text =
+    ap (λ xs. (first ++ codes ", ") ++ xs) (commas_more second others text) ∙ sym (append_assoc (first ++ codes ", ") (with_commas (second ∷ others)) (codes ", " ++ text))
+
+-- a value behind the first has a separator
+not_first : (n : ℕ) → (suc n == 0) ≡ false
+not_first n = search rules
+
+-- a value behind others
+line_more : (values : List plain.Value) (value : plain.Value) → line_of (values ++ value ∷ []) ≡ line_of values ++ (separator (length values) ++ text_of value)
+line_more [] value = refl
+line_more (first ∷ others) value =
+    ap with_commas (map-append text_of (first ∷ others) (value ∷ []))
+    ∙ commas_more (text_of first) (map text_of others) (text_of value)
+    ∙ ap (λ b. line_of (first ∷ others) ++ ((if b then [] else codes ", ") ++ text_of value)) (sym (not_first (length others)))
+
+-- values before what others give
+abbrev pub joined : List plain.Value → Result (List plain.Value × ℕ) Stop → Result (List plain.Value × ℕ) Stop
+joined values (Ok others) = Ok (values ++ others.0, others.1)
+joined values (Err stop) = Err stop
+
+-- one value more
+joined_more : (values : List plain.Value) (value : plain.Value) (given : Result (List plain.Value × ℕ) Stop)
+    → joined values (before value given) ≡ joined (values ++ value ∷ []) given
+joined_more values value (Ok others) =
+    let R : Type 0 = Result (List plain.Value × ℕ) Stop in
+    let pair : List plain.Value → R = λ xs. Ok (xs, others.1) in
+    ap pair (sym (append_assoc values (value ∷ []) others.0))
+joined_more values value (Err stop) = refl
+
+-- these of a print's values stand in its line, and so many units are left
+pub record IsLineSoFar (time : Moment) (args : List Value) (budget : ℕ) (operands : List Operand) (first : List ℕ) (index : ℕ) (line : List ℕ) (units : ℕ) : Type 0 where
+  pub values : List plain.Value
+  pub counted : length values ≡ index
+  pub given : evaluated_all time args budget operands ≡ joined values (evaluated_all time args units (drop index operands))
+  pub longer : line ≡ first ++ line_of values
+
+-- the operand that is next
+rest_is : (operands : List Operand) (index : ℕ) (operand : Operand) → index < length operands → operand ≡ get_or operands index operand
+    → drop index operands ≡ operand ∷ drop (index + 1) operands
+rest_is operands index operand within is =
+    rw add-one (drop-cons operands index operand within) ∙ ap (λ o. o ∷ drop (index + 1) operands) (sym is)
+
+-- One operand more gave its value.
+pub line_goes_on : (time : Moment) (args : List Value) (budget : ℕ) (operands : List Operand) (first : List ℕ) (index : ℕ) (operand : Operand) (line between longer : List ℕ) (units fewer : ℕ)
+    → IsLineSoFar time args budget operands first index line units → index < length operands → operand ≡ get_or operands index operand
+    → between ≡ line ++ separator index → Gives (evaluated time args units operand) between longer fewer
+    → IsLineSoFar time args budget operands first (index + 1) longer fewer
+line_goes_on time args budget operands first index operand line between longer units fewer far within is parted gives =
+    let value : plain.Value = gives.0 in
+    let others : List Operand = drop (index + 1) operands in
+    record {
+      values = far.values ++ value ∷ [];
+      counted = length-append far.values (value ∷ []) ∙ ap (λ n. n + 1) far.counted;
+      given =
+          far.given
+          ∙ ap (λ os. joined far.values (evaluated_all time args units os)) (rest_is operands index operand within is)
+          ∙ ap (λ (g : Evaluated). joined far.values (and_then g (λ n. evaluated_all time args n others))) gives.1
+          ∙ joined_more far.values value (evaluated_all time args fewer others);
+      longer =
+          gives.2
+          ∙ ap (λ xs. xs ++ text_of value) (parted ∙ ap (λ xs. xs ++ separator index) far.longer ∙ ap (λ n. (first ++ line_of far.values) ++ separator n) (sym far.counted))
+          ∙ append_assoc (first ++ line_of far.values) (separator (length far.values)) (text_of value)
+          ∙ append_assoc first (line_of far.values) (separator (length far.values) ++ text_of value)
+          ∙ ap (λ xs. first ++ xs) (sym (line_more far.values value));
+    }
+
+-- Where an operand gives no value, the print's values are not given either.
+pub line_stops : (time : Moment) (args : List Value) (budget : ℕ) (operands : List Operand) (first : List ℕ) (index : ℕ) (operand : Operand) (line : List ℕ) (units : ℕ) (place : Place) (halt : Halt)
+    → IsLineSoFar time args budget operands first index line units → index < length operands → operand ≡ get_or operands index operand
+    → Stops place (evaluated time args units operand) halt → Stops place (evaluated_all time args budget operands) halt
+line_stops time args budget operands first index operand line units place NoMemory far within is stops = tt
+line_stops time args budget operands first index operand line units place (Ends «end») far within is stops = (
+  stops.0,
+  far.given
+      ∙ ap (λ os. joined far.values (evaluated_all time args units os)) (rest_is operands index operand within is)
+      ∙ ap (λ (g : Evaluated). joined far.values (and_then g (λ n. evaluated_all time args n (drop (index + 1) operands)))) stops.1,
+  stops.2,
+)

@@ -6,8 +6,11 @@ mod complaint;
 mod entry;
 mod line;
 mod listing;
+mod lowering;
+mod mapping;
 mod reading;
 mod stop;
+mod typing;
 
 pub use command::command_line;
 pub use entry::run;

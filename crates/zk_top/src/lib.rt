@@ -7,6 +7,7 @@ mod entry;
 mod line;
 mod listing;
 mod lowering;
+mod mapping;
 mod opening;
 mod output;
 mod playing;

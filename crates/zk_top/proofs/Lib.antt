@@ -6,3 +6,5 @@ mod ListingLemmas
 mod Rows
 mod Said
 mod SoFar
+mod TokenRows
+mod TokensLemmas

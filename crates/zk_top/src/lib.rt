@@ -7,6 +7,7 @@ mod entry;
 mod line;
 mod listing;
 mod reading;
+mod splitter;
 mod stop;
 
 pub use command::command_line;

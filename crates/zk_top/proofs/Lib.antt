@@ -11,3 +11,5 @@ mod PlayingLemmas
 mod Rows
 mod Said
 mod SoFar
+mod TokenRows
+mod TokensLemmas

@@ -1,0 +1,11 @@
+use Rattle.std.proofs.Common.{◌-◌, ◌≤◌, length}
+use Rattle.zk_top.specs.Tokens.{found_at, spelled_at, StandBetween}
+use Rattle.zk_top.proofs.splitter.string_bytes.Given as goal
+
+abbrev pub invariant-loop-byte : goal.invariant-loop-byte
+invariant-loop-byte l =
+    (l.place ≤ length l.text) × (length l.bytes.items ≤ l.place)
+    × StandBetween (found_at spelled_at l.text) 0 l.bytes.items l.place
+
+abbrev pub decreases-loop-byte : goal.decreases-loop-byte
+decreases-loop-byte l = length l.text - l.place

@@ -1,8 +1,9 @@
 //! The syntax tree of a script, from its tokens.
 #![tactic(auto)]
 
+mod exprs;
 mod fault;
-mod parse;
+mod lists;
+mod tokens;
 
 pub use fault::ParseFault;
-pub use parse::parse;

@@ -136,3 +136,10 @@ listed_again spell read P one a list tokens rest all ended calm p =
     let first = one a tokens q.0 all.0 (calm_before (begins sign.Comma) (behind spell) IsCalm (behind_goes_on spell) list q.0 rest q.2 calm) q.1 in
     let others = repeated_again (begins sign.Comma) (behind spell) (behind_comma read) P IsCalm (behind_again spell read P IsCalm one) (behind_goes_on spell) (length q.0) list q.0 rest (omega arith) all.1 ended calm q.2 in
     rw (first, others) refl
+
+-- the first of a list begins it
+pub listed_first : {A : Type 0} (spell : A → List Spelled) (a : A) (list : List A) (tokens rest : List Token) → Starts (with_commas (map spell (a ∷ list))) tokens rest
+    → (mid : List Token) × Starts (spell a) tokens mid
+listed_first spell a list tokens rest p =
+    let q = Starts-parts (spell a) (flat_map (behind spell) list) tokens rest (subst (λ (s : List Spelled). Starts s tokens rest) (with_commas-cons spell a list) p) in
+    (q.0, q.1)

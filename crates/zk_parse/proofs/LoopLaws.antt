@@ -1,11 +1,15 @@
 -- Reading one form after another, as a loop does.
-use Rattle.std.proofs.Common.{◌≡◌, ℕ, zero, suc, ◌≤◌, ◌<◌, Bool, true, false, List, [], ◌∷◌, ◌++◌, length, Option, Some, None, refl, sym, ap, ◌∙◌, append_assoc, arith}
+use Rattle.std.proofs.Common.{◌≡◌, ℕ, zero, suc, ◌≤◌, ◌<◌, Bool, true, false, List, [], ◌∷◌, ◌++◌, length, Option, Some, None, Result, Ok, Err, refl, sym, ap, ◌∙◌, append_assoc, arith}
+use Rattle.std.specs.Prelude.{IfOk}
 use Rattle.std.proofs.lemmas.List.{append-nil}
 use Rattle.zk_tree.specs.declared.token.Token.{Token}
 use Rattle.zk_tree.specs.declared.token.Sign.TheVariants.{Comma}
 use Rattle.zk_parse.specs.declared.fault.Unread.{Unread}
 use Rattle.zk_parse.specs.declared.fault.Unread.TheVariants as unread
-use Rattle.zk_parse.specs.Reading.{◌>>=◌, Fails, begins, repeated, behind_comma, listed}
+use Rattle.zk_parse.specs.Reading.{◌>>=◌, Fails, Gives, begins, repeated, behind_comma, listed}
+use Rattle.zk_tree.specs.Grammar.{Spelled}
+use Rattle.zk_parse.proofs.TokenLaws.{Starts-length}
+use Rattle.zk_parse.proofs.ListLaws.{IsTaken}
 
 -- what was read before, and what is still read
 abbrev pub with_front : {A : Type 0} → List A → Option (List A × List Token) → Option (List A × List Token)
@@ -69,8 +73,25 @@ pub fails : {Y Z : Type 0} (e : Unread) (part : Option Y) (whole : Option Z) →
 fails unread.NoForm part whole none h = none h
 fails unread.NoMemory part whole none h = tt
 
+with_none : {A : Type 0} (read : Option (List A × List Token)) → with_front [] read ≡ read
+with_none (Some x) = refl
+with_none None = refl
+
+-- nothing is read yet
+pub begin_so_far : {A : Type 0} (goes_on : List Token → Bool) (read : List Token → Option (A × List Token)) (tokens : List Token)
+    → IsSoFar goes_on read [] tokens (repeated goes_on read (length tokens) tokens)
+begin_so_far goes_on read tokens = (length tokens, omega arith, with_none (repeated goes_on read (length tokens) tokens))
+
 -- a list of which the first is read
 pub listed_begins : {A : Type 0} (read : List Token → Option (A × List Token)) (tokens : List Token) (first : A) (rest : List Token)
     → read tokens ≡ Some (first, rest) → IsSoFar (begins Comma) (behind_comma read) (first ∷ []) rest (listed read tokens)
 unfolding listed
 listed_begins read tokens first rest e = (length rest, omega arith, rw e refl)
+
+-- the tokens behind what is read are no more than there were
+pub gives_shorter : {A X : Type 0} (spell : A → List Spelled) (read : List Token → Option (A × List Token)) → IsTaken spell read → (view : X → A × List Token) (result : Result X Unread) (tokens : List Token)
+    → Gives view result (read tokens) → IfOk result (λ x. length (view x).1 ≤ length tokens)
+gives_shorter spell read one view (Ok x) tokens gives =
+    let long = Starts-length (spell (view x).0) tokens (view x).1 (one tokens (view x) gives) in
+    omega arith
+gives_shorter spell read one view (Err e) tokens gives = tt

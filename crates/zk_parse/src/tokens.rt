@@ -1,6 +1,6 @@
 ghost use Rattle.std.specs.Prelude.{◌≡◌};
 ghost use Rattle.std.specs.Option.{option_map};
-ghost use Rattle.zk_parse.specs.Reading.{Gives, is_sign, begins, sign_at, name_of, name_at, word_at};
+ghost use Rattle.zk_parse.specs.Reading.{Gives, is_sign, begins, sign_at, name_of, name_at, word_at, place_of};
 
 use crate::fault::Unread;
 use zk_tree::{Sign, Token, TokenKind};
@@ -74,5 +74,15 @@ pub fn word<'a>(word: &[u8], tokens: &'a [Token]) -> Result<(u64, &'a [Token]), 
         Ok((place, rest))
     } else {
         Err(Unread::NoForm)
+    }
+}
+
+/// The place of the first token.
+pub fn place_of(tokens: &[Token]) -> u64
+    ensures { result ≡ place_of tokens.now }
+{
+    match tokens {
+        [] => 0,
+        [first, ..] => first.place,
     }
 }

@@ -1,5 +1,5 @@
 -- Declarations: what is read is spelled so, and what is spelled so is read.
-use Rattle.std.proofs.Common.{◌≡◌, ℕ, Bool, true, false, cond, List, [], ◌∷◌, ◌++◌, length, map, codes, Option, Some, None, refl, sym, ap, subst, ◌∙◌, arith}
+use Rattle.std.proofs.Common.{◌≡◌, ℕ, Bool, true, false, cond, List, [], ◌∷◌, ◌++◌, map, codes, Some, None, refl, sym, ap, subst, ◌∙◌}
 use Rattle.std.specs.List.{AllByRecursion}
 use Rattle.std.specs.Str.{bytes_eq}
 use Rattle.std.proofs.lemmas.Option.{cond_some}
@@ -14,7 +14,7 @@ use Rattle.zk_tree.specs.declared.tree.«Type».TheVariants as of
 use Rattle.zk_tree.specs.Forms.{is_decl}
 use Rattle.zk_tree.specs.Grammar.{Spelled, word, follows, with_commas, spelled_type, spelled_param, spelled_params, spelled_block, spelled_decl}
 use Rattle.zk_tree.specs.Grammar as grammar
-use Rattle.zk_parse.specs.Reading.{begins, type_named, type_at, param_at, listed, listed_params_at, params_at, handler_at, decl_at}
+use Rattle.zk_parse.specs.Reading.{begins, type_at, param_at, listed, listed_params_at, params_at, handler_at, decl_at}
 use Rattle.zk_parse.proofs.TokenLaws.{Starts, Starts-then, Starts-parts, bind_some, some_same, sign_taken, sign_first, sign_other, name_other, name_taken, name_first, name_follows, name_first_anywhere, word_taken, word_first, bytes_eq-same}
 use Rattle.zk_parse.proofs.ListLaws.{IsTaken, IsAgain, IsCalm, listed_taken, listed_again, listed_first}
 use Rattle.zk_parse.proofs.StmtLaws.{IsPlainStmt, Anything, block_taken, block_again}

@@ -1,5 +1,5 @@
 -- What the forms of declarations say of names.
-use Rattle.std.proofs.Common.{◌≡◌, ℕ, Bool, true, false, ◌&&◌, ◌||◌, ◌==◌, not, List, [], ◌∷◌, length, map, codes, refl, sym, ap, subst, ◌∙◌, arith, inl, inr, ◌⊎◌}
+use Rattle.std.proofs.Common.{◌≡◌, ℕ, Bool, true, false, ◌&&◌, ◌||◌, ◌==◌, not, List, [], ◌∷◌, length, map, codes, refl, sym, ap, subst, arith, inl, inr, ◌⊎◌}
 use Rattle.std.specs.List.{list_any, list_all, AllByRecursion}
 use Rattle.std.specs.Str.{bytes_eq}
 use Rattle.std.proofs.lemmas.Bool.{and_parts, ne_eqb}
@@ -87,7 +87,7 @@ names_of-head name params e =
         | inl done ↦ no_names params (and_parts (bytes_eq name (codes "zeek_done")) (are_params params []) done).1
         | inr seen ↦ elim (or_parts (bytes_eq name (codes "packet_seen") && are_params params packet_params) false seen) [
           | inl is ↦ subst AreNoTruths (sym (names_of-params params packet_params (and_parts (bytes_eq name (codes "packet_seen")) (are_params params packet_params) is).1))
-            packet_no_truths
+              packet_no_truths
           | inr none ↦ absurd cc
         ]
       ]

@@ -1,10 +1,9 @@
 -- Statements and blocks: what is read is spelled so, and what is spelled so is read.
-use Rattle.std.proofs.Common.{◌≡◌, ℕ, ◌<◌, ◌≤◌, Bool, true, false, not, List, [], ◌∷◌, ◌++◌, length, map, codes, Option, Some, None, refl, sym, ap, subst, ◌∙◌, arith}
+use Rattle.std.proofs.Common.{◌≡◌, ℕ, ◌<◌, Bool, false, not, List, [], ◌∷◌, ◌++◌, length, map, codes, Some, None, refl, ap, subst, arith}
 use Rattle.std.specs.List.{flat_map, AllByRecursion}
 use Rattle.zk_tree.specs.declared.token.Token.{Token}
 use Rattle.zk_tree.specs.declared.token.TokenKind.{TokenKind}
 use Rattle.zk_tree.specs.declared.token.TokenKind.TheVariants as token
-use Rattle.zk_tree.specs.declared.token.Sign.{Sign}
 use Rattle.zk_tree.specs.declared.token.Sign.TheVariants as sign
 use Rattle.zk_tree.specs.declared.tree.Block.{Block}
 use Rattle.zk_tree.specs.declared.tree.Stmt.{Stmt}
@@ -12,12 +11,10 @@ use Rattle.zk_tree.specs.declared.tree.Stmt.TheVariants as stmt
 use Rattle.zk_tree.specs.declared.tree.Expr.{Expr}
 use Rattle.zk_tree.specs.Grammar.{Spelled, word, follows, with_commas, spelled_expr, spelled_stmt, spelled_block}
 use Rattle.zk_tree.specs.Grammar as grammar
-use Rattle.zk_parse.specs.Reading.{◌>>=◌, begins, sign_at, repeated, listed, expr_at, stmt_at, stmts_at, place_of, block_at}
+use Rattle.zk_parse.specs.Reading.{begins, sign_at, repeated, listed, expr_at, stmt_at, stmts_at, place_of, block_at}
 use Rattle.zk_parse.proofs.TokenLaws.{Starts, Starts-then, Starts-parts, Starts-length, bind_some, some_same, sign_taken, sign_first, sign_other, name_other, word_taken, word_first}
 use Rattle.zk_parse.proofs.ListLaws.{IsTaken, IsAgain, IsCalm, GoesOn, listed_taken, listed_again, repeated_taken, repeated_again}
 use Rattle.zk_parse.proofs.ExprLaws.{IsPlain, expr_taken, expr_again}
-
-
 
 pub stmt_taken : IsTaken spelled_stmt stmt_at
 unfolding stmt_at

@@ -1,6 +1,6 @@
 -- Trees: what is read is spelled so, what is spelled so is read, and what is refused.
-use Rattle.std.proofs.Common.{◌≡◌, ◌≢◌, ℕ, zero, suc, ◌+◌, ◌-◌, ◌<◌, ◌≤◌, Bool, true, false, List, [], ◌∷◌, ◌++◌, length, take, drop, codes, Option, Some, None, Result, Ok, Err, refl, sym, ap, subst, ◌∙◌, append_assoc, arith, inl, inr, ◌⊎◌}
-use Rattle.std.specs.Prelude.{IfOk, IsTrue}
+use Rattle.std.proofs.Common.{◌≡◌, ◌≢◌, ℕ, zero, suc, ◌+◌, ◌-◌, ◌<◌, ◌≤◌, true, List, [], ◌∷◌, ◌++◌, length, take, drop, codes, Option, Some, None, Result, Ok, Err, refl, sym, ap, subst, ◌∙◌, append_assoc, arith, inl, inr, ◌⊎◌}
+use Rattle.std.specs.Prelude.{IfOk}
 use Rattle.std.specs.List.{flat_map, list_all}
 use Rattle.std.proofs.lemmas.Bool.{and_parts}
 use Rattle.std.proofs.lemmas.List.{append-nil, take-append-drop}
@@ -14,7 +14,7 @@ use Rattle.zk_tree.specs.Grammar.{Spelled, word, follows, AreSpelled, spelled_pa
 use Rattle.zk_tree.specs.Grammar as grammar
 use Rattle.zk_tree.specs.Reading.{Reads, IsRefusedAt}
 use Rattle.zk_parse.specs.declared.fault.ParseFault.{ParseFault}
-use Rattle.zk_parse.specs.declared.fault.ParseFault.TheVariants.{NoTree, NoMemory}
+use Rattle.zk_parse.specs.declared.fault.ParseFault.TheVariants.{NoTree}
 use Rattle.zk_parse.specs.Reading.{decl_at, with_first, decls_from, as_tree, tree_of, UnlessNoMemory}
 use Rattle.zk_parse.proofs.TokenLaws.{Starts, Starts-then, Starts-parts, Starts-length, Starts-spelled, spelled-Starts}
 use Rattle.zk_parse.proofs.DeclLaws.{decl_taken, decl_again}
@@ -92,12 +92,12 @@ decls_taken zero all (t ∷ tokens) decls e =
     absurd cc
 decls_taken (suc n) all (t ∷ tokens) decls e = elim (option_cases (decl_at (t ∷ tokens))) [
   | inl none ↦
-    let never : ◌≡◌ {A = Result (List Decl) ℕ} (Err (all - length (t ∷ tokens))) (Ok decls) = sym (decls_unread n all t tokens none) ∙ e in
-    absurd cc
+      let never : ◌≡◌ {A = Result (List Decl) ℕ} (Err (all - length (t ∷ tokens))) (Ok decls) = sym (decls_unread n all t tokens none) ∙ e in
+      absurd cc
   | inr found ↦
-    let others = with_first-ok found.0.0 (decls_from n all found.0.1) decls (sym (decls_read n all t tokens found.0 found.1) ∙ e) in
-    subst (λ (ds : List Decl). AreDecls ds (t ∷ tokens) []) others.2
-    (AreDecls-cons (t ∷ tokens) found.0 others.0 [] found.1 (decls_taken n all found.0.1 others.0 others.1))
+      let others = with_first-ok found.0.0 (decls_from n all found.0.1) decls (sym (decls_read n all t tokens found.0 found.1) ∙ e) in
+      subst (λ (ds : List Decl). AreDecls ds (t ∷ tokens) []) others.2
+      (AreDecls-cons (t ∷ tokens) found.0 others.0 [] found.1 (decls_taken n all found.0.1 others.0 others.1))
 ]
 
 -- the first of declarations is read
@@ -131,21 +131,21 @@ decls_refused n all [] at le inside e =
 decls_refused zero all (t ∷ tokens) at le inside e = absurd (omega arith)
 decls_refused (suc n) all (t ∷ tokens) at le inside e = elim (option_cases (decl_at (t ∷ tokens))) [
   | inl none ↦
-    let here : ◌≡◌ {A = Result (List Decl) ℕ} (Err (all - length (t ∷ tokens))) (Err at) = sym (decls_unread n all t tokens none) ∙ e in
-    let same : all - length (t ∷ tokens) ≡ at = cc in
-    record { before = []; rest = t ∷ tokens; are = (refl, refl); place = omega arith; more = omega arith; none = none }
+      let here : ◌≡◌ {A = Result (List Decl) ℕ} (Err (all - length (t ∷ tokens))) (Err at) = sym (decls_unread n all t tokens none) ∙ e in
+      let same : all - length (t ∷ tokens) ≡ at = cc in
+      record { before = []; rest = t ∷ tokens; are = (refl, refl); place = omega arith; more = omega arith; none = none }
   | inr found ↦
-    let later = with_first-err found.0.0 (decls_from n all found.0.1) at (sym (decls_read n all t tokens found.0 found.1) ∙ e) in
-    let short = decl_at-shorter (t ∷ tokens) found.0 found.1 in
-    let stuck = decls_refused n all found.0.1 at (omega arith) (omega arith) later in
-    record {
-      before = found.0.0 ∷ stuck.before;
-      rest = stuck.rest;
-      are = AreDecls-cons (t ∷ tokens) found.0 stuck.before stuck.rest found.1 stuck.are;
-      place = stuck.place;
-      more = stuck.more;
-      none = stuck.none;
-    }
+      let later = with_first-err found.0.0 (decls_from n all found.0.1) at (sym (decls_read n all t tokens found.0 found.1) ∙ e) in
+      let short = decl_at-shorter (t ∷ tokens) found.0 found.1 in
+      let stuck = decls_refused n all found.0.1 at (omega arith) (omega arith) later in
+      record {
+        before = found.0.0 ∷ stuck.before;
+        rest = stuck.rest;
+        are = AreDecls-cons (t ∷ tokens) found.0 stuck.before stuck.rest found.1 stuck.are;
+        place = stuck.place;
+        more = stuck.more;
+        none = stuck.none;
+      }
 ]
 
 as_tree-ok : (r : Result (List Decl) ℕ) (tree : Tree) → as_tree r ≡ Ok tree → r ≡ Ok tree.decls

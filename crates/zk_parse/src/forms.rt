@@ -101,7 +101,10 @@ pub fn is_decl(decl: &Decl) -> bool
 {
     match decl {
         Decl::Event {
-            name, params, body, ..
+            name,
+            params,
+            body,
+            ..
         } => is_handler(name.as_slice(), params.as_slice(), body.stmts.as_slice()),
     }
 }

@@ -21,10 +21,7 @@ pub trait Item: Sized {
 
 /// One, and others behind commas.
 #[tactic(auto, unfolding(crate::specs::Reading::listed))]
-pub fn listed<T: Item + Drop>(
-    alloc: Global,
-    tokens: &[Token],
-) -> Result<(Vec<T>, &[Token]), Unread>
+pub fn listed<T: Item + Drop>(alloc: Global, tokens: &[Token]) -> Result<(Vec<T>, &[Token]), Unread>
     ensures { Gives (λ x. (x.0.items, x.1.now)) result (listed T.at tokens.now) }
 {
     let (first, mut rest) = T::read(alloc, tokens)?;
@@ -40,10 +37,7 @@ pub fn listed<T: Item + Drop>(
 
 /// One behind a comma.
 #[tactic(auto, unfolding(crate::specs::Reading::behind_comma))]
-fn behind_comma<T: Item + Drop>(
-    alloc: Global,
-    tokens: &[Token],
-) -> Result<(T, &[Token]), Unread>
+fn behind_comma<T: Item + Drop>(alloc: Global, tokens: &[Token]) -> Result<(T, &[Token]), Unread>
     ensures gives { Gives (λ x. (x.0, x.1.now)) result (behind_comma T.at tokens.now) }
     ensures shorter { IfOk result (λ x. length x.1.now < length tokens.now) }
 {

@@ -1,8 +1,8 @@
-use Rattle.std.proofs.Common.{◌≡◌, List, [], ◌∷◌, ◌++◌, sym, ◌∙◌}
+use Rattle.std.proofs.Common.{sym, ◌∙◌}
 use Rattle.std.proofs.lemmas.Result.{err_from_is_err_and}
 use Rattle.zk_tree.specs.declared.token.Sign.TheVariants.{Comma}
 use Rattle.zk_parse.specs.Reading.{begins, behind_comma, listed}
-use Rattle.zk_parse.proofs.LoopLaws.{IsSoFar, fails, listed_begins, goes_further, breaks_off, is_done}
+use Rattle.zk_parse.proofs.LoopLaws.{fails, listed_begins, goes_further, breaks_off, is_done}
 use Rattle.zk_parse.proofs.lists.listed.Goals as goal
 
 pub others-init : goal.others-init

@@ -1,8 +1,8 @@
-use Rattle.std.proofs.Common.{◌≡◌, ℕ, true, false, not, List, [], length, refl, sym, ap, ◌∙◌, rules, arith}
+use Rattle.std.proofs.Common.{◌≡◌, true, false, not, length, sym, ap, ◌∙◌}
 use Rattle.std.proofs.lemmas.Result.{err_from_is_err_and}
 use Rattle.zk_tree.specs.declared.token.Sign.TheVariants.{CloseBrace}
-use Rattle.zk_parse.specs.Reading.{◌>>=◌, repeated, sign_at, stmt_at, stmts_at}
-use Rattle.zk_parse.proofs.LoopLaws.{IsSoFar, fails, begin_so_far, goes_further, breaks_off, is_done}
+use Rattle.zk_parse.specs.Reading.{repeated, sign_at, stmt_at, stmts_at}
+use Rattle.zk_parse.proofs.LoopLaws.{fails, begin_so_far, goes_further, breaks_off, is_done}
 use Rattle.zk_parse.proofs.StmtLaws.{no_end, stmt_shorter, stmts_break, stmts_end, stmts_open}
 use Rattle.zk_parse.proofs.stmts.stmts.Goals as goal
 

@@ -6,3 +6,4 @@ pub mod StmtLaws
 pub mod FormLaws
 pub mod DeclLaws
 pub mod TreeLaws
+pub mod Rows

@@ -12,3 +12,6 @@ mod tokens;
 
 pub use fault::ParseFault;
 pub use parsing::parse;
+
+#[cfg(test)]
+mod tests;

@@ -18,6 +18,14 @@ pub enum ParseFault {
     NoMemory,
 }
 
+impl From<Mem> for ParseFault {
+    ghost from_gives = { λ _ e. e ≡ fault.NoMemory };
+
+    fn from(_: Mem) -> ParseFault {
+        ParseFault::NoMemory
+    }
+}
+
 impl<T: Drop> From<AllocFailed<T>> for ParseFault {
     ghost from_gives = { λ _ e. e ≡ fault.NoMemory };
 
@@ -27,7 +35,7 @@ impl<T: Drop> From<AllocFailed<T>> for ParseFault {
 }
 
 /// Why a form was not read from the front of tokens.
-#[derive(Clone, Copy, Debug, PartialEq, Eq)]
+#[derive(Clone, Copy)]
 pub enum Unread {
     /// The tokens don't begin with it.
     NoForm,

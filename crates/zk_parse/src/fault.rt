@@ -1,4 +1,8 @@
-use std::alloc::{AllocError, AllocFailed};
+ghost use Rattle.std.specs.Prelude.{◌≡◌};
+ghost use Rattle.zk_parse.specs.declared.fault.ParseFault.TheVariants as fault;
+ghost use Rattle.zk_parse.specs.declared.fault.Unread.TheVariants as unread;
+
+use std::alloc::AllocFailed;
 use thiserror::Error;
 use zk_base::Mem;
 
@@ -12,4 +16,45 @@ pub enum ParseFault {
     /// Memory ran out.
     #[error("out of memory")]
     NoMemory,
+}
+
+impl From<Mem> for ParseFault {
+    ghost from_gives = { λ _ e. e ≡ fault.NoMemory };
+
+    fn from(_: Mem) -> ParseFault {
+        ParseFault::NoMemory
+    }
+}
+
+impl<T: Drop> From<AllocFailed<T>> for ParseFault {
+    ghost from_gives = { λ _ e. e ≡ fault.NoMemory };
+
+    fn from(_: AllocFailed<T>) -> ParseFault {
+        ParseFault::NoMemory
+    }
+}
+
+/// Why a form was not read from the front of tokens.
+#[derive(Clone, Copy)]
+pub enum Unread {
+    /// The tokens don't begin with it.
+    NoForm,
+    /// Memory ran out.
+    NoMemory,
+}
+
+impl From<Mem> for Unread {
+    ghost from_gives = { λ _ e. e ≡ unread.NoMemory };
+
+    fn from(_: Mem) -> Unread {
+        Unread::NoMemory
+    }
+}
+
+impl<T: Drop> From<AllocFailed<T>> for Unread {
+    ghost from_gives = { λ _ e. e ≡ unread.NoMemory };
+
+    fn from(_: AllocFailed<T>) -> Unread {
+        Unread::NoMemory
+    }
 }

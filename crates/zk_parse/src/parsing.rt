@@ -3,6 +3,12 @@ ghost use Rattle.zk_tree.specs.declared.tree.Tree.{Tree as Syntax};
 ghost use Rattle.zk_tree.specs.Reading.{Reads, IsRefusedAt};
 ghost use Rattle.zk_parse.specs.Reading.{tree_of, UnlessNoMemory};
 
+use crate::decls::decl;
+use crate::fault::{ParseFault, Unread};
+use std::alloc::Global;
+use zk_base::Sequence;
+use zk_tree::{Token, Tree};
+
 /// The syntax tree whose tokens these are (Zeek manual, Script Reference). The forms that are read so
 /// far are handlers of `zeek_init`, `zeek_done` and `packet_seen` whose bodies print.
 ///
@@ -18,4 +24,29 @@ pub fn parse(alloc: Global, tokens: &[Token]) -> Result<Tree, ParseFault>
     // Which tree or token it is.
     ensures exact { UnlessNoMemory result (tree_of tokens.now) }
 {
+    tree(alloc, tokens)
+}
+
+/// The tree, of which declarations are read from the front.
+fn tree(alloc: Global, tokens: &[Token]) -> Result<Tree, ParseFault>
+    ensures { UnlessNoMemory result (tree_of tokens.now) }
+{
+    let mut decls = Vec::new(alloc);
+    let mut rest = tokens;
+    'decls: while !rest.is_empty() {
+        match decl(alloc, rest) {
+            Ok((decl, after)) => {
+                decls.push(decl)?;
+                rest = after;
+            }
+            Err(Unread::NoForm) => {
+                return Err(ParseFault::NoTree {
+                    at: tokens.len() - rest.len(),
+                });
+            }
+            Err(Unread::NoMemory) => return Err(ParseFault::NoMemory),
+        }
+    }
+    let decls = Sequence::from(decls);
+    Ok(Tree { decls })
 }

@@ -1,0 +1,77 @@
+-- What small token lists are as trees, computed.
+use Rattle.std.proofs.Common.{◌≡◌, ℕ, suc, ◌+◌, List, [], ◌∷◌, ◌++◌, codes, Result, Ok, Err, refl}
+use Rattle.zk_tree.specs.declared.token.Token.{Token}
+use Rattle.zk_tree.specs.declared.token.TokenKind.{TokenKind}
+use Rattle.zk_tree.specs.declared.token.TokenKind.TheVariants as token
+use Rattle.zk_tree.specs.declared.token.Sign.TheVariants as sign
+use Rattle.zk_tree.specs.declared.tree.Decl.TheVariants as decl
+use Rattle.zk_tree.specs.declared.tree.«Type».TheVariants as of
+use Rattle.zk_tree.specs.declared.tree.Stmt.TheVariants as stmt
+use Rattle.zk_tree.specs.declared.tree.Expr.TheVariants as expr
+use Rattle.zk_tree.specs.Grammar.{word}
+use Rattle.zk_parse.specs.Reading.{sign_at, name_at, word_at, repeated, behind_comma, listed, call_at, named_at, expr_at, stmt_at, stmts_at, block_at, type_at, param_at, listed_params_at, params_at, handler_at, decl_at, decls_from, tree_of}
+
+-- tokens at places 0, 1, ..
+abbrev at_places : ℕ → List TokenKind → List Token
+at_places place [] = []
+at_places place (kind ∷ kinds) = record { kind = kind; place = place } ∷ at_places (place + 1) kinds
+
+abbrev comma : TokenKind
+comma = token.Sign sign.Comma
+
+abbrev colon : TokenKind
+colon = token.Sign sign.Colon
+
+-- (){
+abbrev no_params : List TokenKind
+no_params = token.Sign sign.OpenParenthesis ∷ token.Sign sign.CloseParenthesis ∷ token.Sign sign.OpenBrace ∷ []
+
+-- ;}
+abbrev ended : List TokenKind
+ended = token.Sign sign.Semicolon ∷ token.Sign sign.CloseBrace ∷ []
+
+-- event zeek_init(){print 1;}
+abbrev one_handler : List TokenKind
+one_handler = word (codes "event") ∷ word (codes "zeek_init") ∷ no_params ++ word (codes "print") ∷ token.Number 1 ∷ ended
+
+one_handler_is_read : tree_of (at_places 0 one_handler) ≡ Ok (record {
+  decls = decl.Event 0 (codes "zeek_init") [] (record { place = 4; stmts = stmt.Print 5 (expr.Number 6 1 ∷ []) ∷ [] }) ∷ [];
+})
+unfolding sign_at name_at word_at repeated behind_comma listed call_at named_at expr_at stmt_at stmts_at block_at type_at param_at listed_params_at params_at handler_at decl_at decls_from tree_of
+one_handler_is_read = refl
+
+-- what follows it begins no declaration
+a_word_behind_it_is_refused : tree_of (at_places 0 (one_handler ++ word (codes "if") ∷ [])) ≡ Err 9
+unfolding sign_at name_at word_at repeated behind_comma listed call_at named_at expr_at stmt_at stmts_at block_at type_at param_at listed_params_at params_at handler_at decl_at decls_from tree_of
+a_word_behind_it_is_refused = refl
+
+-- no tokens are those of the tree of no declarations
+nothing_is_read : tree_of [] ≡ Ok (record { decls = [] })
+unfolding decls_from tree_of
+nothing_is_read = refl
+
+-- event packet_seen(t: time, caplen: count, len: count){print t, T, network_time();}
+packet_handler : tree_of (at_places 0 (
+    word (codes "event") ∷ word (codes "packet_seen") ∷ token.Sign sign.OpenParenthesis ∷ word (codes "t") ∷ colon ∷ word (codes "time") ∷ comma
+    ∷ word (codes "caplen") ∷ colon ∷ word (codes "count") ∷ comma ∷ word (codes "len") ∷ colon ∷ word (codes "count")
+    ∷ token.Sign sign.CloseParenthesis ∷ token.Sign sign.OpenBrace ∷ word (codes "print") ∷ word (codes "t") ∷ comma ∷ word (codes "T") ∷ comma
+    ∷ word (codes "network_time") ∷ token.Sign sign.OpenParenthesis ∷ token.Sign sign.CloseParenthesis ∷ ended
+    )) ≡ Ok (record {
+      decls = decl.Event 0 (codes "packet_seen") (
+          record { place = 3; name = codes "t"; of = of.Time 5 }
+          ∷ record { place = 7; name = codes "caplen"; of = of.Count 9 }
+          ∷ record { place = 11; name = codes "len"; of = of.Count 13 } ∷ []
+          ) (record { place = 15; stmts = stmt.Print 16 (expr.Name 17 (codes "t") ∷ expr.True 19 ∷ expr.Call 21 (codes "network_time") ∷ []) ∷ [] }) ∷ [];
+    })
+unfolding sign_at name_at word_at repeated behind_comma listed call_at named_at expr_at stmt_at stmts_at block_at type_at param_at listed_params_at params_at handler_at decl_at decls_from tree_of
+packet_handler = refl
+
+-- event zeek_init(){print t;}
+an_unknown_name_is_refused : tree_of (at_places 0 (word (codes "event") ∷ word (codes "zeek_init") ∷ no_params ++ word (codes "print") ∷ word (codes "t") ∷ ended)) ≡ Err 0
+unfolding sign_at name_at word_at repeated behind_comma listed call_at named_at expr_at stmt_at stmts_at block_at type_at param_at listed_params_at params_at handler_at decl_at decls_from tree_of
+an_unknown_name_is_refused = refl
+
+-- event zeek_init(){print;}
+a_statement_without_values_is_refused : tree_of (at_places 0 (word (codes "event") ∷ word (codes "zeek_init") ∷ no_params ++ word (codes "print") ∷ ended)) ≡ Err 0
+unfolding sign_at name_at word_at repeated behind_comma listed call_at named_at expr_at stmt_at stmts_at block_at type_at param_at listed_params_at params_at handler_at decl_at decls_from tree_of
+a_statement_without_values_is_refused = refl

@@ -1,0 +1,58 @@
+ghost use Rattle.std.specs.Prelude.{◌≤◌, ◌<◌, length, IfOk};
+ghost use Rattle.zk_parse.specs.Reading.{Gives, expr_at, stmt_at, stmts_at, place_of, block_at};
+
+use crate::exprs::expr;
+use crate::fault::Unread;
+use crate::lists::{Item, listed};
+use crate::tokens::{begins, place_of, sign, word};
+use std::alloc::Global;
+use zk_base::Sequence;
+use zk_tree::{Block, Expr, Sign, Stmt, Token};
+
+impl Item for Expr {
+    ghost at = { expr_at };
+
+    fn read(alloc: Global, tokens: &[Token]) -> Result<(Expr, &[Token]), Unread> {
+        expr(alloc, tokens)
+    }
+}
+
+/// A statement.
+#[tactic(auto, unfolding(crate::specs::Reading::stmt_at))]
+fn stmt(alloc: Global, tokens: &[Token]) -> Result<(Stmt, &[Token]), Unread>
+    ensures { Gives (λ x. (x.0, x.1.now)) result (stmt_at tokens.now) }
+{
+    let (place, rest) = word(b"print".as_slice(), tokens)?;
+    let (values, rest) = listed(alloc, rest)?;
+    let rest = sign(Sign::Semicolon, rest)?;
+    let values = Sequence::from(values);
+    Ok((Stmt::Print { place, values }, rest))
+}
+
+/// Statements up to a closing brace.
+#[tactic(auto, unfolding(crate::specs::Reading::stmts_at))]
+fn stmts(alloc: Global, tokens: &[Token]) -> Result<(Vec<Stmt>, &[Token]), Unread>
+    ensures { Gives (λ x. (x.0.items, x.1.now)) result (stmts_at tokens.now) }
+{
+    let mut stmts = Vec::new(alloc);
+    let mut rest = tokens;
+    'stmts: while !begins(Sign::CloseBrace, rest) {
+        let (stmt, after) = stmt(alloc, rest)?;
+        stmts.push(stmt)?;
+        rest = after;
+    }
+    let rest = sign(Sign::CloseBrace, rest)?;
+    Ok((stmts, rest))
+}
+
+/// Statements between braces.
+#[tactic(auto, unfolding(crate::specs::Reading::block_at))]
+pub fn block(alloc: Global, tokens: &[Token]) -> Result<(Block, &[Token]), Unread>
+    ensures { Gives (λ x. (x.0, x.1.now)) result (block_at tokens.now) }
+{
+    let within = sign(Sign::OpenBrace, tokens)?;
+    let (stmts, rest) = stmts(alloc, within)?;
+    let place = place_of(tokens);
+    let stmts = Sequence::from(stmts);
+    Ok((Block { place, stmts }, rest))
+}

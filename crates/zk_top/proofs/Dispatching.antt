@@ -22,12 +22,14 @@ handler_at handlers codes index code are within is =
           let of : Handler = found.0 in
           let inside : index < length handlers = found.1 in
           let coded : code ≡ handler_code of =
-          is ∙ (ap (λ cs. get_or cs index code) are ∙ (get_or-map handler_code handlers index of code inside ∙ ap handler_code found.3)) in
-          (of, record {
-            rest = rw add-one (drop-cons handlers index of inside) ∙ ap (λ h. h ∷ drop (index + 1) handlers) found.3;
-            here = found.2;
-            event = ap (λ (c : HandlerCode). c.event) coded;
-          })
+          is ∙ (ap (λ cs. get_or cs index code) are ∙ (get_or-map handler_code handlers index of code inside ∙ ap handler_code found.3)) in (
+            of,
+            record {
+              rest = rw add-one (drop-cons handlers index of inside) ∙ ap (λ h. h ∷ drop (index + 1) handlers) found.3;
+              here = found.2;
+              event = ap (λ (c : HandlerCode). c.event) coded;
+            },
+          )
       | inr none ↦ absurd (omega arith)
     ]
 

@@ -64,7 +64,6 @@ not_absent file (Cut place) name same = let never : ⊥ = cc in never
 
 -- What is wanted over a capture -----------------------------------------------------------------------------------
 
-
 asked : (said_of : Capture → List ℕ) (names : List (List ℕ)) (file : List ℕ) (found : Result Capture Ending) → (over_capture said_of names file found).asked ≡ names
 asked said_of names file (Ok capture) = refl
 asked said_of names file (Err e) = refl

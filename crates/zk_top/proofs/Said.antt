@@ -9,6 +9,7 @@ use Rattle.zk_top.specs.declared.stop.Stop.{Stop}
 use Rattle.zk_top.specs.Item.{items_of, items_after, item_after, seen_at}
 use Rattle.zk_top.specs.Line.{line_of, lines_of}
 use Rattle.zk_top.specs.Run.{DoesAll, DoesPart, HandsOver}
+use Rattle.zk_top.proofs.Packets.{next_now, next_item}
 use Rattle.zk_top.proofs.Doing.{does_both_all, does_both_part, does_part_of, front_all}
 
 -- what was said, and the lines that wait, are the lines of the packets so far
@@ -35,24 +36,17 @@ pub line_more : (first outside : Outside) (packets : List Packet) (index : ℕ) 
     → IsSaidSoFar first packets index time piece outside → index < length packets → packet ≡ get_or packets index packet
     → after ≡ later time packet.moment → longer ≡ piece ++ line_of (seen_at after packet) → IsSaidSoFar first packets (index + 1) after longer outside
 line_more first outside packets index time after packet piece longer far within is when joined =
-    let before : List Packet = take index packets in
-    let others : List Packet = drop (index + 1) packets in
-    let next : take (index + 1) packets ≡ before ++ packet ∷ [] = take_more packets index packet within ∙ ap (λ p. before ++ p ∷ []) (sym is) in
-    let rest : drop index packets ≡ packet ∷ others =
-    rw add-one (drop-cons packets index packet within) ∙ ap (λ p. p ∷ others) (sym is) in
-    let moment : after ≡ now (before ++ packet ∷ []) = when ∙ ap (λ t. later t packet.moment) far.is_now ∙ sym (now-append before packet) in
-    let line : line_of (item_after before packet) ≡ line_of (seen_at after packet) = ap (λ t. line_of (seen_at t packet)) (sym moment) in
+    let rest : List ℕ = lines_of (items_after (take (index + 1) packets) (drop (index + 1) packets)) in
+    let line : List ℕ = line_of (seen_at after packet) in
     record {
-      is_now = moment ∙ ap now (sym next);
+      is_now = next_now packets index time after packet within is far.is_now when;
       said = far.said;
       does = far.does;
       lines =
           far.lines
-          ∙ ap (λ ps. (far.said ++ piece) ++ lines_of (items_after before ps)) rest
-          ∙ ap (λ text. (far.said ++ piece) ++ (text ++ lines_of (items_after (before ++ packet ∷ []) others))) line
-          ∙ sym (append_assoc (far.said ++ piece) (line_of (seen_at after packet)) (lines_of (items_after (before ++ packet ∷ []) others)))
-          ∙ ap (λ text. text ++ lines_of (items_after (before ++ packet ∷ []) others)) (append_assoc far.said piece (line_of (seen_at after packet)) ∙ ap (λ text. far.said ++ text) (sym joined))
-          ∙ ap (λ ps. (far.said ++ longer) ++ lines_of (items_after ps others)) (sym next);
+          ∙ (ap (λ items. (far.said ++ piece) ++ lines_of items) (next_item packets index time after packet within is far.is_now when)
+          ∙ (sym (append_assoc (far.said ++ piece) line rest)
+          ∙ ap (λ text. text ++ rest) (append_assoc far.said piece line ∙ ap (λ text. far.said ++ text) (sym joined))));
     }
 
 -- stopped while a piece is said

@@ -3,10 +3,10 @@ ghost use Rattle.zk_text.specs.Span.{span_decimal};
 ghost use Rattle.zk_top.specs.Complaint.{complaint_of, kind_name, line};
 ghost use Rattle.zk_top.specs.Run.{DoesAll, DoesPart};
 
-use crate::line::{push_count, push_span};
 use crate::stop::Stop;
 use std::alloc::{AllocError, Global};
 use zk_base::{Ending, ScriptKind, Shelf, Wrote};
+use zk_value::{push_count, push_span};
 
 /// Complains of an ending on standard error, where there is something to complain of.
 pub fn complain<S: Shelf>(alloc: Global, shelf: &mut S, ending: &Ending) -> Result<(), Stop>

@@ -6,29 +6,7 @@ ghost use Rattle.zk_top.specs.Item.{seen_at, what_seen};
 use std::alloc::AllocError;
 use zk_base::Moment;
 use zk_pcap::Packet;
-use zk_text::{COUNT_TEXT_MAX, SPAN_TEXT_MAX, count_text, span_text};
-
-/// Adds the decimal digits of a number.
-pub fn push_count(out: &mut Vec<u8>, n: u64) -> Result<(), AllocError>
-    ensures ok { OnOk result (out.new.items ≡ out.old.items ++ decimal n) }
-{
-    let mut text = [0; COUNT_TEXT_MAX];
-    let Ok(len) = count_text(n, &mut text) else {
-        unreachable!()
-    };
-    out.extend_from_slice(&text[..len])
-}
-
-/// Adds a number of microseconds as seconds with six decimals.
-pub fn push_span(out: &mut Vec<u8>, n: i64) -> Result<(), AllocError>
-    ensures ok { OnOk result (out.new.items ≡ out.old.items ++ span_decimal n) }
-{
-    let mut text = [0; SPAN_TEXT_MAX];
-    let Ok(len) = span_text(n, &mut text) else {
-        unreachable!()
-    };
-    out.extend_from_slice(&text[..len])
-}
+use zk_value::{push_count, push_span};
 
 /// Adds a tab and the decimal digits of a number.
 fn push_count_field(out: &mut Vec<u8>, n: u64) -> Result<(), AllocError>

@@ -27,11 +27,7 @@ pub fn read_capture<S: Shelf>(
 }
 
 /// The capture that the bytes of a file are, or how a run ends where they are none.
-fn judge_capture(
-    alloc: Global,
-    name: Bytes,
-    bytes: &Bytes,
-) -> Result<Result<Capture, Ending>, Mem>
+fn judge_capture(alloc: Global, name: Bytes, bytes: &Bytes) -> Result<Result<Capture, Ending>, Mem>
     ensures { IfOk result (λ capture. capture ≡ judged name (capture_of bytes.now)) }
 {
     match packets(alloc, bytes.as_slice()) {

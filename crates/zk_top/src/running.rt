@@ -31,12 +31,7 @@ pub fn run_script<S: Shelf>(
 }
 
 /// Runs a program over the capture in a file.
-fn replay<S: Shelf>(
-    alloc: Global,
-    shelf: &mut S,
-    file: &[u8],
-    code: Code,
-) -> Result<Ending, Stop>
+fn replay<S: Shelf>(alloc: Global, shelf: &mut S, file: &[u8], code: Code) -> Result<Ending, Stop>
     ensures done { IfOk result (λ ending. (program : Program) → code ≡ lowered program
         → Fulfils (λ inputs. over_capture (λ capture. printed program capture.packets) (file.now ∷ []) file.now (opened file.now (inputs file.now))) [] (S.outside shelf.old) ending (S.outside shelf.new)) }
     ensures command { IfOk result IsOfCommand }

@@ -35,22 +35,31 @@ fn words(alloc: Global, line: &[u8]) -> Result<Vec<Word>, Mem> {
     Ok(words)
 }
 
-/// One input, `c.pcap`, with these bytes.
-fn inputs(alloc: Global, file: &[u8]) -> Result<Vec<(Bytes, Bytes)>, Mem> {
+/// Two inputs, `c.pcap` and `s.zeek`, with these bytes.
+fn inputs(alloc: Global, capture: &[u8], script: &[u8]) -> Result<Vec<(Bytes, Bytes)>, Mem> {
     let mut inputs = Vec::new(alloc);
     inputs.push((
         Bytes::copy_of(alloc, b"c.pcap")?,
-        Bytes::copy_of(alloc, file)?,
+        Bytes::copy_of(alloc, capture)?,
+    ))?;
+    inputs.push((
+        Bytes::copy_of(alloc, b"s.zeek")?,
+        Bytes::copy_of(alloc, script)?,
     ))?;
     Ok(inputs)
 }
 
-/// A command line, the bytes of `c.pcap`, the status, and what is said and complained.
-const ROWS: [(&[u8], &[u8], u8, &str, &str); 9] = [
-    (b"list c.pcap", &HEADER, 0, "", ""),
+/// The words of a run of `s.zeek` over `c.pcap`.
+const RUN: &[u8] = b"run -b -r c.pcap s.zeek";
+
+/// A command line, the bytes of `c.pcap`, the text of `s.zeek`, the status, and what is said and
+/// complained.
+const ROWS: [(&[u8], &[u8], &str, u8, &str, &str); 27] = [
+    (b"list c.pcap", &HEADER, "", 0, "", ""),
     (
         b"list c.pcap",
         &BACKWARDS,
+        "",
         0,
         "5.000000\tpacket\t5.000000\t0\t0\n5.000000\tpacket\t3.000000\t0\t0\n",
         "",
@@ -58,6 +67,7 @@ const ROWS: [(&[u8], &[u8], u8, &str, &str); 9] = [
     (
         b"list c.pcap",
         &NANOSECONDS,
+        "",
         0,
         "1.999999\tpacket\t1.999999\t0\t60\n",
         "",
@@ -65,6 +75,7 @@ const ROWS: [(&[u8], &[u8], u8, &str, &str); 9] = [
     (
         b"list c.pcap",
         &CUT,
+        "",
         4,
         "1.000000\tpacket\t1.000000\t2\t2\n",
         "zeekoff: c.pcap cut at byte 42\n",
@@ -72,15 +83,24 @@ const ROWS: [(&[u8], &[u8], u8, &str, &str); 9] = [
     (
         b"list c.pcap",
         b"",
+        "",
         3,
         "",
         "zeekoff: c.pcap refused at byte 0\n",
     ),
-    (b"list x.pcap", b"", 9, "", "zeekoff: no file x.pcap\n"),
-    (b"list", b"", 1, "", "zeekoff: word 1 is not understood\n"),
+    (b"list x.pcap", b"", "", 9, "", "zeekoff: no file x.pcap\n"),
+    (
+        b"list",
+        b"",
+        "",
+        1,
+        "",
+        "zeekoff: word 1 is not understood\n",
+    ),
     (
         b"list a b",
         b"",
+        "",
         1,
         "",
         "zeekoff: word 2 is not understood\n",
@@ -88,17 +108,164 @@ const ROWS: [(&[u8], &[u8], u8, &str, &str); 9] = [
     (
         b"list -x",
         b"",
+        "",
         1,
         "",
         "zeekoff: word 1 is not understood\n",
     ),
+    // A script without handlers says nothing, and one may be empty.
+    (RUN, &HEADER, "", 0, "", ""),
+    (
+        RUN,
+        &HEADER,
+        "event zeek_init() { print network_time(); }\nevent zeek_done() { print network_time(); }\n",
+        0,
+        "0.000000\n0.000000\n",
+        "",
+    ),
+    (
+        RUN,
+        &CUT,
+        "event packet_seen(t: time, caplen: count, len: count) { print t, caplen, len, \"x\"; }",
+        4,
+        "1.000000, 2, 2, x\n",
+        "zeekoff: c.pcap cut at byte 42\n",
+    ),
+    // Network time is the greatest so far, and the end has the last one.
+    (
+        RUN,
+        &BACKWARDS,
+        "event packet_seen(t: time, caplen: count, len: count) { print t, network_time(); } \
+         event zeek_done() { print network_time(); }",
+        0,
+        "5.000000, 5.000000\n3.000000, 5.000000\n5.000000\n",
+        "",
+    ),
+    // Handlers of one event run in load order, and those of the beginning before those of the end.
+    (
+        RUN,
+        &HEADER,
+        "event zeek_done() { print 1; } event zeek_init() { print 2; } # print 9;\r\n\
+         event zeek_init() { print 3; print 4; } event zeek_done() { }",
+        0,
+        "2\n3\n4\n1\n",
+        "",
+    ),
+    (
+        RUN,
+        &HEADER,
+        "event zeek_init() { print \"\\n\\t\\r\\\"\\\\\\x41\\x6a\", T, F, 18446744073709551615, \"\"; }",
+        0,
+        "\n\t\r\"\\Aj, T, F, 18446744073709551615, \n",
+        "",
+    ),
+    // A declaration that does not read is refused at its first byte.
+    (
+        RUN,
+        &HEADER,
+        "event zeek_init() { print 1; } if",
+        2,
+        "",
+        "zeekoff: s.zeek, byte 31: NoTree\n",
+    ),
+    (
+        RUN,
+        &HEADER,
+        "print 1;",
+        2,
+        "",
+        "zeekoff: s.zeek, byte 0: NoTree\n",
+    ),
+    (
+        RUN,
+        &HEADER,
+        "\n  event zeek_init() { print 1; } event zeek_done() { print 1",
+        2,
+        "",
+        "zeekoff: s.zeek, byte 34: NoTree\n",
+    ),
+    (
+        RUN,
+        &HEADER,
+        "event zeek_init() { print caplen; }",
+        2,
+        "",
+        "zeekoff: s.zeek, byte 0: NoTree\n",
+    ),
+    (
+        RUN,
+        &HEADER,
+        "event zeek_init() { print 1; }@",
+        2,
+        "",
+        "zeekoff: s.zeek, byte 30: NoTree\n",
+    ),
+    (
+        RUN,
+        &HEADER,
+        "event zeek_init() { } event zeek_done() { print \"a; }",
+        2,
+        "",
+        "zeekoff: s.zeek, byte 22: NoTree\n",
+    ),
+    // The script is judged before the capture is asked for.
+    (
+        b"run -b -r x.pcap s.zeek",
+        &HEADER,
+        "if",
+        2,
+        "",
+        "zeekoff: s.zeek, byte 0: NoTree\n",
+    ),
+    (
+        b"run -b -r x.pcap x.zeek",
+        &HEADER,
+        "",
+        9,
+        "",
+        "zeekoff: no file x.zeek\n",
+    ),
+    (
+        b"run -b -r x.pcap s.zeek",
+        &HEADER,
+        "",
+        9,
+        "",
+        "zeekoff: no file x.pcap\n",
+    ),
+    // A header that is refused is judged before anything runs.
+    (
+        RUN,
+        b"",
+        "event zeek_init() { print 1; }",
+        3,
+        "",
+        "zeekoff: c.pcap refused at byte 0\n",
+    ),
+    (
+        b"run -r c.pcap s.zeek",
+        &HEADER,
+        "",
+        1,
+        "",
+        "zeekoff: word 1 is not understood\n",
+    ),
+    (
+        b"run -b -r c.pcap s.zeek t.zeek",
+        &HEADER,
+        "",
+        1,
+        "",
+        "zeekoff: word 5 is not understood\n",
+    ),
 ];
 
 #[test]
-fn a_listing_says_its_lines_and_complains_of_its_ending(rt: HostRuntime) -> Result<(), Fail> {
-    for (line, file, status, said, complained) in ROWS {
+fn each_run_says_its_lines_and_complains_of_its_ending(rt: HostRuntime) -> Result<(), Fail> {
+    for (line, capture, script, status, said, complained) in ROWS {
         let alloc = rt.alloc();
-        let mut shelf = SureShelf::new(alloc, inputs(alloc, file)?)?;
+        let files = inputs(alloc, capture, script.as_bytes())?;
+        let mut shelf = SureShelf::new(alloc, files)?;
         let ending = run(alloc, &words(alloc, line)?, &mut shelf);
         assert_eq!(rt; ending.status(), status);
         assert_eq!(rt; shelf.said(), said.as_bytes());
@@ -107,11 +274,32 @@ fn a_listing_says_its_lines_and_complains_of_its_ending(rt: HostRuntime) -> Resu
     Ok(())
 }
 
+#[test]
+fn a_script_may_have_a_mebibyte_and_no_byte_more(rt: HostRuntime) -> Result<(), Fail> {
+    let alloc = rt.alloc();
+    let rows = [
+        (1_048_576, 0, ""),
+        (1_048_577, 2, "zeekoff: s.zeek, byte 1048576: TooLarge\n"),
+    ];
+    for (len, status, complained) in rows {
+        let blanks = vec![in alloc; b' '; len]?;
+        let mut shelf = SureShelf::new(alloc, inputs(alloc, &HEADER, &blanks)?)?;
+        let ending = run(alloc, &words(alloc, RUN)?, &mut shelf);
+        assert_eq!(rt; ending.status(), status);
+        assert_eq!(rt; shelf.complained(), complained.as_bytes());
+    }
+    Ok(())
+}
+
 /// Enough records for several pieces of output.
 const MANY: usize = 5000;
 
+/// Each packet makes this script print 40 bytes.
+const WIDE: &[u8] =
+    b"event packet_seen(t: time, caplen: count, len: count) { print \"0123456789012345678901234567890123456789\"; }";
+
 #[test]
-fn a_listing_over_a_failing_shelf_stops_with_the_fault_of_the_failed_call(
+fn a_run_over_a_failing_shelf_stops_with_the_fault_of_the_failed_call(
     rt: HostRuntime,
 ) -> Result<(), Fail> {
     let alloc = rt.alloc();
@@ -119,22 +307,27 @@ fn a_listing_over_a_failing_shelf_stops_with_the_fault_of_the_failed_call(
     for _ in 0..MANY {
         file.extend_from_slice(&[0; 16])?;
     }
-    let list = words(alloc, b"list c.pcap")?;
-    let mut sure = SureShelf::new(alloc, inputs(alloc, &file)?)?;
-    assert_eq!(rt; run(alloc, &list, &mut sure).status(), 0);
-    // start, two reads, and then a piece at a time
-    let kinds = [5, 5, 5, 6, 6, 6, 0];
-    for (n, status) in kinds.iter().enumerate() {
-        let mut fails = Vec::new(alloc);
-        fails.push(n as u64 + 1)?;
-        let mut shelf = MemShelf::new(alloc, inputs(alloc, &file)?, fails)?;
-        let ending = run(alloc, &list, &mut shelf);
-        assert_eq!(rt; ending.status(), *status, "call {n} fails");
-        assert!(rt; sure.said().starts_with(shelf.said()), "call {n} fails");
-        assert!(rt;
-            *status == 0 || shelf.said().len() < sure.said().len(),
-            "call {n} fails"
-        );
+    // start, two reads, and then a piece at a time; a script is started and read twice before
+    let rows: [(&[u8], &[u8]); 2] = [
+        (b"list c.pcap", &[5, 5, 5, 6, 6, 6, 0]),
+        (RUN, &[5, 5, 5, 5, 5, 5, 6, 6, 6, 6, 0]),
+    ];
+    for (line, statuses) in rows {
+        let line = words(alloc, line)?;
+        let mut sure = SureShelf::new(alloc, inputs(alloc, &file, WIDE)?)?;
+        assert_eq!(rt; run(alloc, &line, &mut sure).status(), 0);
+        for (n, status) in statuses.iter().enumerate() {
+            let mut fails = Vec::new(alloc);
+            fails.push(n as u64 + 1)?;
+            let mut shelf = MemShelf::new(alloc, inputs(alloc, &file, WIDE)?, fails)?;
+            let ending = run(alloc, &line, &mut shelf);
+            assert_eq!(rt; ending.status(), *status, "call {n} fails");
+            assert!(rt; sure.said().starts_with(shelf.said()), "call {n} fails");
+            assert!(rt;
+                *status == 0 || shelf.said().len() < sure.said().len(),
+                "call {n} fails"
+            );
+        }
     }
     Ok(())
 }

@@ -11,7 +11,7 @@ pub returns-in_err-capture-clause-stopped : goal.returns-in_err-capture-clause-s
 returns-in_err-capture-clause-stopped g c =
     let p = err_from_is_err_and c.from_residual.result c.from_residual.ensures.1 in
     rw (p.1, p.2) (λ program are. broken_before (λ (capture : Capture). printed program capture.packets) c.args.file.now (g.S.Shelf.outside c.args.shelf.now) c.in_err-capture.field-0.0
-        (g.S.Shelf.outside c.read_capture.new.shelf) c.in_err-capture.ensures.stopped)
+    (g.S.Shelf.outside c.read_capture.new.shelf) c.in_err-capture.ensures.stopped)
 
 pub returns-in_err-play-in-Ok-clause-stopped : goal.returns-in_err-play-in-Ok-clause-stopped
 returns-in_err-play-in-Ok-clause-stopped g c =
@@ -24,7 +24,7 @@ returns-in_err-play-in-Ok-clause-stopped g c =
     let stop = c.in_err-play-in-Ok.field-0.0 in
     let found : Finds file (opened file) old (Ok c.in-Ok.capture) mid = subst (λ r. Finds file (opened file) old r mid) c.in-Ok.is c.in_ok-capture.ensures.found in
     rw (p.1, p.2) (λ program are. broken_within (λ (capture : Capture). printed program capture.packets) file c.in-Ok.capture old mid stop new found
-        (subst (λ packets. DoesPart [] (printed program packets) [] mid stop new) c.as_slice.ensures (c.in_err-play-in-Ok.ensures.stopped program are)))
+    (subst (λ packets. DoesPart [] (printed program packets) [] mid stop new) c.as_slice.ensures (c.in_err-play-in-Ok.ensures.stopped program are)))
 
 pub returns-in_ok-play-in-Ok-clause-done : goal.returns-in_ok-play-in-Ok-clause-done
 returns-in_ok-play-in-Ok-clause-done g c = λ program are.

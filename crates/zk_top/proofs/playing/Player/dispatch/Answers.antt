@@ -41,12 +41,12 @@ returns-in_err-run_body-clause-stopped g c =
     let stop = c.in_err-run_body.field-0.0 in
     let p = err_from_is_err_and c.from_residual.result c.from_residual.ensures.1 in
     rw (p.1, p.2) (λ first program world of are come.
-        let far = c.loop-handler.invariant.came first program world of are come in
-        let whole : World = bodies args budget world of in
-        let left : IsLeft args program (number ∷ drop (index + 1) numbers) far.0 far.1 whole = subst (λ ns. IsLeft args program ns far.0 far.1 whole) rest far.3 in
-        let next = left_first args program number (drop (index + 1) numbers) far.0 far.1 whole left in
-        stopped_within first stop new (exec_body next.0 args far.0 budget).world whole (left_front args program (drop (index + 1) numbers) (exec_body next.0 args far.0 budget).world next.1 whole next.3)
-        (c.in_err-run_body.ensures.stopped first program far.0 next.0 next.2 far.2))
+    let far = c.loop-handler.invariant.came first program world of are come in
+    let whole : World = bodies args budget world of in
+    let left : IsLeft args program (number ∷ drop (index + 1) numbers) far.0 far.1 whole = subst (λ ns. IsLeft args program ns far.0 far.1 whole) rest far.3 in
+    let next = left_first args program number (drop (index + 1) numbers) far.0 far.1 whole left in
+    stopped_within first stop new (exec_body next.0 args far.0 budget).world whole (left_front args program (drop (index + 1) numbers) (exec_body next.0 args far.0 budget).world next.1 whole next.3)
+    (c.in_err-run_body.ensures.stopped first program far.0 next.0 next.2 far.2))
 
 pub returns-clause-came : goal.returns-clause-came
 returns-clause-came g c = λ first program world of are come.

@@ -23,9 +23,11 @@ loop-packet-preserved g c =
       is_now = next_now packets index c.loop-packet.now after packet c.loop-packet-test.true c.packet-item.is c.loop-packet.invariant.is_now c.later-now.ensures;
       came = λ first program world are come.
           let far = c.loop-packet.invariant.came first program world are come in
-          let item = next_item packets index c.loop-packet.now after packet c.loop-packet-test.true c.packet-item.is c.loop-packet.invariant.is_now c.later-now.ensures in
-          (turn program budget far.0 (turn_of (seen_at after packet)), c.in_ok-see.ensures.came first program far.0 are far.1,
-          ap (λ items. fold (turn program budget) far.0 (map turn_of items)) (sym item) ∙ far.2);
+          let item = next_item packets index c.loop-packet.now after packet c.loop-packet-test.true c.packet-item.is c.loop-packet.invariant.is_now c.later-now.ensures in (
+            turn program budget far.0 (turn_of (seen_at after packet)),
+            c.in_ok-see.ensures.came first program far.0 are far.1,
+            ap (λ items. fold (turn program budget) far.0 (map turn_of items)) (sym item) ∙ far.2,
+          );
       code = c.see.ensures.code ∙ c.loop-packet.invariant.code;
     }
 
@@ -39,15 +41,15 @@ returns-in_err-see-clause-stopped g c =
     let stop = c.in_err-see.field-0.0 in
     let p = err_from_is_err_and c.from_residual.result c.from_residual.ensures.1 in
     rw (p.1, p.2) (λ first program world are come.
-        let far = c.loop-packet.invariant.came first program world are come in
-        let item = next_item packets index c.loop-packet.now after packet c.loop-packet-test.true c.packet-item.is c.loop-packet.invariant.is_now c.later-now.ensures in
-        let here : World = turn program budget far.0 (turn_of (seen_at after packet)) in
-        let rest = map turn_of (items_after (take (index + 1) packets) (drop (index + 1) packets)) in
-        let whole : World = fold (turn program budget) world (map turn_of (items_of packets)) in
-        let comes : fold (turn program budget) here rest ≡ whole = ap (λ items. fold (turn program budget) far.0 (map turn_of items)) (sym item) ∙ far.2 in
-        stopped_within first stop new here whole
-        (subst (λ (w : World). IsFront (text_of here.lines) (text_of w.lines)) comes (text_front here.lines (fold (turn program budget) here rest).lines (turns_add program budget here rest).front))
-        (c.in_err-see.ensures.stopped first program far.0 are far.1))
+    let far = c.loop-packet.invariant.came first program world are come in
+    let item = next_item packets index c.loop-packet.now after packet c.loop-packet-test.true c.packet-item.is c.loop-packet.invariant.is_now c.later-now.ensures in
+    let here : World = turn program budget far.0 (turn_of (seen_at after packet)) in
+    let rest = map turn_of (items_after (take (index + 1) packets) (drop (index + 1) packets)) in
+    let whole : World = fold (turn program budget) world (map turn_of (items_of packets)) in
+    let comes : fold (turn program budget) here rest ≡ whole = ap (λ items. fold (turn program budget) far.0 (map turn_of items)) (sym item) ∙ far.2 in
+    stopped_within first stop new here whole
+    (subst (λ (w : World). IsFront (text_of here.lines) (text_of w.lines)) comes (text_front here.lines (fold (turn program budget) here rest).lines (turns_add program budget here rest).front))
+    (c.in_err-see.ensures.stopped first program far.0 are far.1))
 
 pub returns-clause-last : goal.returns-clause-last
 returns-clause-last g c = c.loop-packet.invariant.is_now ∙ ap network_time (take_all c.loop-packet.packet-index c.args.packets.now (omega arith))

@@ -13,9 +13,9 @@ returns-in_err-push_line-clause-stopped g c =
     let new = g.S.Shelf.outside c.push_line.new.shelf in
     let p = err_from_is_err_and c.from_residual.result c.from_residual.ensures.1 in
     rw (p.1, p.2) (λ first program taken world come.
-        let far = c.loop-out.invariant.came first program taken world come in
-        stopped_in first program far.0 world c.loop-out.self mid (text_of world.lines) c.in_err-push_line.field-0.0 new far.1
-        (taken_front first program far.0 world c.loop-out.self mid far.1) c.in_err-push_line.ensures.stopped)
+    let far = c.loop-out.invariant.came first program taken world come in
+    stopped_in first program far.0 world c.loop-out.self mid (text_of world.lines) c.in_err-push_line.field-0.0 new far.1
+    (taken_front first program far.0 world c.loop-out.self mid far.1) c.in_err-push_line.ensures.stopped)
 
 pub loop-out-preserved : goal.loop-out-preserved
 loop-out-preserved g c =

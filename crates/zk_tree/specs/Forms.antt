@@ -11,9 +11,6 @@ use Rattle.zk_tree.specs.declared.tree.Stmt.{Stmt}
 use Rattle.zk_tree.specs.declared.tree.Stmt.TheVariants as stmt
 use Rattle.zk_tree.specs.declared.tree.Expr.{Expr}
 use Rattle.zk_tree.specs.declared.tree.Expr.TheVariants as expr
-use Rattle.zk_tree.specs.declared.tree.Tree.{Tree}
-use Rattle.zk_tree.specs.declared.token.Token.{Token}
-use Rattle.zk_tree.specs.Grammar.{AreSpelled, spelled_tree}
 
 -- an event and its parameters, each with the name of its type
 pub record Event : Type 0 where

@@ -1,5 +1,5 @@
 -- What it is for tokens to read as a tree.
-use Rattle.std.specs.Prelude.{◌≡◌, ℕ, ◌<◌, List, take, drop, length, IsTrue}
+use Rattle.std.specs.Prelude.{ℕ, ◌<◌, List, take, drop, length, IsTrue}
 use Rattle.std.specs.List.{list_all}
 use Rattle.zk_tree.specs.declared.token.Token.{Token}
 use Rattle.zk_tree.specs.declared.tree.Decl.{Decl}

@@ -228,21 +228,9 @@ pub record IsReadTo (tokens : List Token) (front : List Decl) (rest : List Token
   pub within : length rest ≤ length tokens
   pub whole : with_decls front (decls_from fuel (length tokens) rest) ≡ decls_from (length tokens) (length tokens) tokens
 
-with_decls-none : (r : Result (List Decl) ℕ) → with_decls [] r ≡ r
-with_decls-none (Ok decls) = refl
-with_decls-none (Err at) = refl
-
 with_decls-first : (front : List Decl) (d : Decl) (r : Result (List Decl) ℕ) → with_decls front (with_first d r) ≡ with_decls (front ++ d ∷ []) r
 with_decls-first front d (Ok decls) = ap (λ (ds : List Decl). Ok ds) (sym (append_assoc front (d ∷ []) decls))
 with_decls-first front d (Err at) = refl
-
-pub read_to_begin : (tokens : List Token) → IsReadTo tokens [] tokens
-read_to_begin tokens = record {
-  fuel = length tokens;
-  enough = omega arith;
-  within = omega arith;
-  whole = with_decls-none (decls_from (length tokens) (length tokens) tokens);
-}
 
 further : (tokens : List Token) (front : List Decl) (t : Token) (rest : List Token) (x : Decl × List Token) (n : ℕ) → length (t ∷ rest) ≤ n → length (t ∷ rest) ≤ length tokens
     → with_decls front (decls_from n (length tokens) (t ∷ rest)) ≡ decls_from (length tokens) (length tokens) tokens → decl_at (t ∷ rest) ≡ Some x

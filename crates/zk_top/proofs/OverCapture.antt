@@ -12,7 +12,7 @@ use Rattle.zk_pcap.specs.Capture.{capture_of, UnlessNoMemory}
 use Rattle.zk_typed.specs.declared.program.Program.{Program}
 use Rattle.zk_top.specs.declared.stop.Stop.{Stop}
 use Rattle.zk_top.specs.Script.{Refusal, script_of}
-use Rattle.zk_top.specs.Outcome.{Outcome, over_capture, judged, opened, accepted, loaded, end_of_capture}
+use Rattle.zk_top.specs.Outcome.{over_capture, judged, opened, accepted, loaded, end_of_capture}
 use Rattle.zk_top.specs.Run.{IsWhole, IsRefusal, IsOfCommand, IsFront, DoesAll, DoesPart, Finds, Fulfils, BreaksOff}
 use Rattle.zk_top.proofs.Doing.{front_none, front_trans, does_both_all, does_both_part}
 

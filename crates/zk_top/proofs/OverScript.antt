@@ -1,5 +1,5 @@
 -- What is done for a script and a capture.
-use Rattle.std.proofs.Common.{◌≡◌, ℕ, ◌≤◌, List, [], ◌∷◌, ◌++◌, Option, Some, None, Result, Ok, Err, refl, sym, ap, subst, ◌∙◌, arith}
+use Rattle.std.proofs.Common.{◌≡◌, ℕ, ◌≤◌, List, [], ◌∷◌, Some, Result, Ok, Err, refl, sym, ap, subst, ◌∙◌, arith}
 use Rattle.zk_base.specs.declared.endings.Ending.{Ending}
 use Rattle.zk_base.specs.Shelf.{Files, Outside, HasRisen}
 use Rattle.zk_pcap.specs.declared.captures.Capture.{Capture}
@@ -8,9 +8,9 @@ use Rattle.zk_top.specs.declared.stop.Stop.{Stop}
 use Rattle.zk_value.specs.declared.code.Code.{Code}
 use Rattle.zk_machine.specs.Lowered.{lowered}
 use Rattle.zk_top.specs.Lowering.{code_or_ending}
-use Rattle.zk_top.specs.Outcome.{Outcome, over_capture, opened, loaded, replay, running}
+use Rattle.zk_top.specs.Outcome.{Outcome, over_capture, opened, loaded, running}
 use Rattle.zk_top.specs.Replay.{printed}
-use Rattle.zk_top.specs.Run.{IsFront, DoesAll, DoesPart, Finds, Fulfils, BreaksOff}
+use Rattle.zk_top.specs.Run.{IsFront, DoesPart, Finds, Fulfils, BreaksOff}
 use Rattle.zk_top.proofs.Doing.{front_none, front_all, front_trans, front_behind, cause_since, does_both, does_both_all}
 use Rattle.zk_top.proofs.OverCapture.{whole_refusal}
 

@@ -1,10 +1,10 @@
 -- Packets one after another, and their items.
-use Rattle.std.proofs.Common.{◌≡◌, ℕ, ◌+◌, ◌<◌, List, [], ◌∷◌, ◌++◌, take, drop, length, get_or, refl, sym, ap, ◌∙◌, add-one, drop-cons}
+use Rattle.std.proofs.Common.{◌≡◌, ℕ, ◌+◌, ◌<◌, List, [], ◌∷◌, ◌++◌, take, drop, length, get_or, sym, ap, ◌∙◌, add-one, drop-cons}
 use Rattle.std.proofs.lemmas.List.{take_more}
 use Rattle.zk_base.specs.declared.time.Moment.{Moment}
 use Rattle.zk_pcap.specs.declared.records.Packet.{Packet}
 use Rattle.zk_pcap.specs.NetworkTime.{later, now, now-append}
-use Rattle.zk_top.specs.Item.{items_after, item_after, seen_at}
+use Rattle.zk_top.specs.Item.{items_after, seen_at}
 
 -- the packets before, and one more
 pub next_taken : (packets : List Packet) (index : ℕ) (packet : Packet) → index < length packets → packet ≡ get_or packets index packet

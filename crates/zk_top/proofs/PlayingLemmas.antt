@@ -22,7 +22,7 @@ use Rattle.zk_top.specs.Playing.{HasCome}
 use Rattle.zk_top.specs.Replay.{budget, printed, text_of, turn_of}
 use Rattle.zk_top.specs.Run.{IsFront, DoesAll, DoesPart, HandsOver}
 use Rattle.zk_top.proofs.Doing.{front_all, front_trans, does_both_all, does_both_part, does_part_of, out_of_memory}
-use Rattle.zk_top.proofs.Growth.{GoesOn, bodies_add, turns_add, text-append, text_front}
+use Rattle.zk_top.proofs.Growth.{bodies_add, turns_add, text-append, text_front}
 
 -- stopped while a front of what is to be said waits
 pub stopped_in : (first : Outside) (program : Program) (taken : List (List ℕ)) (world : World) (player : Player) (mid : Outside) (whole : List ℕ) (stop : Stop) (new : Outside)

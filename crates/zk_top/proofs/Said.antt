@@ -1,12 +1,11 @@
 -- The lines of packets that are said so far.
-use Rattle.std.proofs.Common.{◌≡◌, ℕ, ◌+◌, ◌<◌, List, [], ◌∷◌, ◌++◌, take, drop, length, get_or, sym, ap, ◌∙◌, append_assoc, add-one, drop-cons}
-use Rattle.std.proofs.lemmas.List.{take_more}
+use Rattle.std.proofs.Common.{◌≡◌, ℕ, ◌+◌, ◌<◌, List, [], ◌++◌, take, drop, length, get_or, sym, ap, ◌∙◌, append_assoc}
 use Rattle.zk_base.specs.declared.time.Moment.{Moment}
 use Rattle.zk_base.specs.Shelf.{Outside}
 use Rattle.zk_pcap.specs.declared.records.Packet.{Packet}
-use Rattle.zk_pcap.specs.NetworkTime.{later, now, now-append}
+use Rattle.zk_pcap.specs.NetworkTime.{later, now}
 use Rattle.zk_top.specs.declared.stop.Stop.{Stop}
-use Rattle.zk_top.specs.Item.{items_of, items_after, item_after, seen_at}
+use Rattle.zk_top.specs.Item.{items_of, items_after, seen_at}
 use Rattle.zk_top.specs.Line.{line_of, lines_of}
 use Rattle.zk_top.specs.Run.{DoesAll, DoesPart, HandsOver}
 use Rattle.zk_top.proofs.Packets.{next_now, next_item}

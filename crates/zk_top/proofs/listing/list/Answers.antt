@@ -1,4 +1,4 @@
-use Rattle.std.proofs.Common.{[], ◌∷◌, Ok, subst}
+use Rattle.std.proofs.Common.{[], Ok, subst}
 use Rattle.std.proofs.lemmas.Result.{err_from_is_err_and}
 use Rattle.zk_pcap.specs.declared.captures.Capture.{Capture}
 use Rattle.zk_top.specs.Item.{items_of}

@@ -1,4 +1,4 @@
-use Rattle.std.proofs.Common.{◌≡◌, ◌+◌, ◌<◌, ◌==◌, ◌++◌, [], ◌∷◌, List, Bool, true, false, map, filter, drop, Some, Option, slice_get, length, get_or, refl, sym, ap, subst, ◌∙◌, All}
+use Rattle.std.proofs.Common.{◌≡◌, ◌+◌, ◌<◌, ◌==◌, ◌++◌, [], ◌∷◌, List, Bool, true, false, map, filter, drop, Some, Option, slice_get, length, get_or, sym, ap, subst, ◌∙◌, All}
 use Rattle.std.proofs.lemmas.List.Elements.{All-append, All-cons, All-nil}
 use Rattle.zk_base.specs.declared.numbers.HandlerNo.{HandlerNo}
 use Rattle.zk_typed.specs.declared.program.Handler.{Handler}

@@ -1,4 +1,4 @@
-use Rattle.std.proofs.Common.{◌≡◌, ◌<◌, List, map, filter, ◌==◌, ◌++◌, drop, Some, slice_get, length, All}
+use Rattle.std.proofs.Common.{◌≡◌, ◌<◌, map, filter, ◌==◌, ◌++◌, drop, Some, slice_get, length, All}
 use Rattle.zk_machine.specs.Lowered.{lowered}
 use Rattle.zk_typed.specs.declared.program.Program.{Program}
 use Rattle.zk_typed.specs.Run.{handlers_of}

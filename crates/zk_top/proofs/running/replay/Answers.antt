@@ -1,10 +1,10 @@
-use Rattle.std.proofs.Common.{[], ◌∷◌, Ok, subst}
+use Rattle.std.proofs.Common.{[], Ok, subst}
 use Rattle.std.proofs.lemmas.Result.{err_from_is_err_and}
 use Rattle.zk_pcap.specs.declared.captures.Capture.{Capture}
 use Rattle.zk_top.specs.Outcome.{opened}
 use Rattle.zk_top.specs.Replay.{printed}
 use Rattle.zk_top.specs.Run.{DoesAll, DoesPart, Finds}
-use Rattle.zk_top.proofs.OverCapture.{broken_before, broken_within, fulfilled, fulfilled_refused}
+use Rattle.zk_top.proofs.OverCapture.{broken_before, broken_within, fulfilled}
 use Rattle.zk_top.proofs.running.replay.Goals as goal
 
 pub returns-in_err-capture-clause-stopped : goal.returns-in_err-capture-clause-stopped

@@ -1,4 +1,4 @@
-use Rattle.std.proofs.Common.{◌≡◌, Ok, sym, subst, ◌∙◌}
+use Rattle.std.proofs.Common.{Ok, sym, subst, ◌∙◌}
 use Rattle.std.proofs.lemmas.Result.{err_from_is_err_and, IfOk-weaker, IfErr-weaker}
 use Rattle.zk_top.specs.Outcome.{loaded}
 use Rattle.zk_top.specs.Run.{Finds}

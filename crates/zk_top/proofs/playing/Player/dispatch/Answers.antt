@@ -1,4 +1,4 @@
-use Rattle.std.proofs.Common.{◌≡◌, ◌+◌, List, [], ◌∷◌, map, take, drop, get_or, subst, sym, ap, ◌∙◌, arith, add-one, drop-cons}
+use Rattle.std.proofs.Common.{◌≡◌, ◌+◌, [], ◌∷◌, map, drop, get_or, subst, ◌∙◌, arith, add-one, drop-cons}
 use Rattle.std.proofs.lemmas.List.{drop_all}
 use Rattle.std.proofs.lemmas.Result.{err_from_is_err_and}
 use Rattle.zk_base.specs.declared.numbers.HandlerNo.{HandlerNo}
@@ -7,9 +7,7 @@ use Rattle.zk_typed.specs.Run.{bodies}
 use Rattle.zk_typed.specs.World.{World}
 use Rattle.zk_value.specs.Plain.{value_of}
 use Rattle.zk_top.specs.Playing.{HasCome}
-use Rattle.zk_top.specs.Replay.{budget, text_of}
-use Rattle.zk_top.specs.Run.{DoesPart}
-use Rattle.zk_top.proofs.Doing.{does_part_of, front_all}
+use Rattle.zk_top.specs.Replay.{budget}
 use Rattle.zk_top.proofs.PlayingLemmas.{stopped_within, IsLeft, left_front, left_first, left_none}
 use Rattle.zk_top.proofs.playing.Player.dispatch.Goals as goal
 

@@ -1,18 +1,13 @@
-use Rattle.std.proofs.Common.{◌≡◌, List, [], map, fold, Some, Option, slice_get, sym, ap, subst, ◌∙◌}
+use Rattle.std.proofs.Common.{[], map, slice_get, ap, subst, ◌∙◌}
 use Rattle.std.proofs.lemmas.Result.{err_from_is_err_and, on_ok_weaker, IfErr-weaker}
 use Rattle.zk_base.specs.declared.numbers.HandlerNo.{HandlerNo}
-use Rattle.zk_base.specs.Shelf.{Outside}
 use Rattle.zk_pcap.specs.NetworkTime.{now as network_time}
-use Rattle.zk_typed.specs.declared.program.Handler.{Handler}
-use Rattle.zk_typed.specs.declared.program.Program.{Program}
-use Rattle.zk_typed.specs.Run.{Turn, handlers_of, begun, replayed}
+use Rattle.zk_typed.specs.Run.{handlers_of, begun, replayed}
 use Rattle.zk_typed.specs.Typed.{zeek_init, zeek_done}
 use Rattle.zk_typed.specs.World.{World, first_world, at_time}
-use Rattle.zk_top.specs.declared.playing.Player.{Player}
-use Rattle.zk_top.specs.Handlers.{AreHandlers}
 use Rattle.zk_top.specs.Item.{items_of}
 use Rattle.zk_top.specs.Playing.{HasCome}
-use Rattle.zk_top.specs.Replay.{budget, printed, text_of, turn_of}
+use Rattle.zk_top.specs.Replay.{budget, text_of, turn_of}
 use Rattle.zk_top.specs.Run.{DoesAll, DoesPart}
 use Rattle.zk_top.proofs.Doing.{front_all}
 use Rattle.zk_top.proofs.PlayingLemmas.{stopped_within, stopped_in, whole_run, whole_printed, ended_whole, stopped_whole, begun_front, replayed_front, all_said}

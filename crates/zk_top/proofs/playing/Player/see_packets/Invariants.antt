@@ -1,4 +1,4 @@
-use Rattle.std.proofs.Common.{◌≡◌, ℕ, List, map, fold, take, drop, Some, slice_get}
+use Rattle.std.proofs.Common.{◌≡◌, map, fold, take, drop, Some, slice_get}
 use Rattle.zk_base.specs.Shelf.{Outside}
 use Rattle.zk_machine.specs.Standing.{code_of}
 use Rattle.zk_pcap.specs.NetworkTime.{now}

@@ -1,6 +1,5 @@
-use Rattle.std.proofs.Common.{◌≡◌, ℕ, List, [], ◌∷◌, ◌++◌, subst, sym, refl, ◌∙◌}
+use Rattle.std.proofs.Common.{[], ◌∷◌, ◌++◌, subst, sym, refl, ◌∙◌}
 use Rattle.std.proofs.lemmas.Result.{err_from_is_err_and}
-use Rattle.zk_base.specs.Shelf.{Outside}
 use Rattle.zk_machine.specs.Standing.{StandsFor}
 use Rattle.zk_top.specs.declared.playing.Player.{Player}
 use Rattle.zk_top.specs.Replay.{text_of}

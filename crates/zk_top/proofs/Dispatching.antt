@@ -1,6 +1,8 @@
 -- The handlers of an event, found one after another.
 use Rattle.std.proofs.Common.{◌≡◌, ℕ, ◌+◌, ◌<◌, Bool, true, false, cond, inl, inr, List, [], ◌∷◌, ◌++◌, map, filter, drop, length, get_or, slice_get, Option, Some, sym, ap, ◌∙◌, arith, append_assoc, add-one, drop-cons}
 use Rattle.std.proofs.lemmas.List.{get_or-map, map-append, length-map}
+use Rattle.std.specs.List.{filter_map, cons_option}
+use Rattle.std.proofs.lemmas.List.Elements.{filter_map-append}
 use Rattle.std.proofs.lemmas.Option.{slice_get_cases}
 use Rattle.zk_base.specs.declared.numbers.HandlerNo.{HandlerNo}
 use Rattle.zk_typed.specs.declared.program.Handler.{Handler}
@@ -35,14 +37,14 @@ handler_at handlers codes index code are within is =
 
 -- a handler of the event is found
 pub one_found : (get : HandlerNo → Option Handler) (test : Handler → Bool) (numbers : List HandlerNo) (number : HandlerNo) (of : Handler) (rest : List Handler) → get number ≡ Some of → test of ≡ true
-    → map get (numbers ++ number ∷ []) ++ map Some (filter test rest) ≡ map get numbers ++ map Some (filter test (of ∷ rest))
+    → filter_map get (numbers ++ number ∷ []) ++ filter test rest ≡ filter_map get numbers ++ filter test (of ∷ rest)
 one_found get test numbers number of rest is holds =
-    ap (λ xs. xs ++ map Some (filter test rest)) (map-append get numbers (number ∷ []))
-    ∙ (append_assoc (map get numbers) (get number ∷ []) (map Some (filter test rest))
-    ∙ (ap (λ x. map get numbers ++ (x ∷ map Some (filter test rest))) is
-    ∙ ap (λ b. map get numbers ++ map Some (cond b (of ∷ filter test rest) (filter test rest))) (sym holds)))
+    ap (λ xs. xs ++ filter test rest) (filter_map-append get numbers (number ∷ []))
+    ∙ (append_assoc (filter_map get numbers) (cons_option (get number) []) (filter test rest)
+    ∙ (ap (λ x. filter_map get numbers ++ (cons_option x [] ++ filter test rest)) is
+    ∙ ap (λ b. filter_map get numbers ++ cond b (of ∷ filter test rest) (filter test rest)) (sym holds)))
 
 -- another handler is passed
 pub one_passed : (get : HandlerNo → Option Handler) (test : Handler → Bool) (numbers : List HandlerNo) (of : Handler) (rest : List Handler) → test of ≡ false
-    → map get numbers ++ map Some (filter test rest) ≡ map get numbers ++ map Some (filter test (of ∷ rest))
-one_passed get test numbers of rest fails = ap (λ b. map get numbers ++ map Some (cond b (of ∷ filter test rest) (filter test rest))) (sym fails)
+    → filter_map get numbers ++ filter test rest ≡ filter_map get numbers ++ filter test (of ∷ rest)
+one_passed get test numbers of rest fails = ap (λ b. filter_map get numbers ++ cond b (of ∷ filter test rest) (filter test rest)) (sym fails)

@@ -1,28 +1,36 @@
 -- How far a program has come.
-use Rattle.std.proofs.Common.{◌≡◌, ℕ, List, [], ◌∷◌, ◌++◌, map, slice_get, Some, refl, sym, ap, subst, ◌∙◌, append_assoc}
-use Rattle.std.proofs.lemmas.List.{append-nil}
+use Rattle.std.proofs.Common.{◌≡◌, ℕ, ◌<◌, List, [], ◌∷◌, ◌++◌, length, map, fold, slice_get, Some, inl, inr, arith, refl, sym, ap, subst, ◌∙◌, append_assoc}
+use Rattle.std.specs.List.{filter_map, cons_option}
+use Rattle.std.proofs.lemmas.List.{append-nil, length-map}
+use Rattle.std.proofs.lemmas.List.Elements.{filter_map-append}
+use Rattle.std.proofs.lemmas.List.Sums.{fold-append}
+use Rattle.std.proofs.lemmas.Option.{slice_get_cases}
 use Rattle.zk_base.specs.declared.numbers.HandlerNo.{HandlerNo}
 use Rattle.zk_base.specs.Shelf.{Outside}
 use Rattle.zk_pcap.specs.declared.records.Packet.{Packet}
 use Rattle.zk_pcap.specs.NetworkTime.{now}
+use Rattle.zk_base.specs.declared.time.Moment.{Moment}
+use Rattle.zk_machine.specs.Lowered.{handler_code, lowered}
 use Rattle.zk_machine.specs.Standing.{StandsFor}
+use Rattle.zk_value.specs.declared.code.Code.{Code}
 use Rattle.zk_typed.specs.declared.program.Program.{Program}
 use Rattle.zk_typed.specs.declared.program.Handler.{Handler}
 use Rattle.zk_tree.specs.Value.{Value}
 use Rattle.zk_typed.specs.Exec.{exec_body}
-use Rattle.zk_typed.specs.Run.{Turn, handlers_of, bodies, begun, replayed, run}
-use Rattle.zk_typed.specs.Typed.{zeek_done}
-use Rattle.zk_typed.specs.World.{World, at_time}
+use Rattle.zk_typed.specs.Run.{Turn, handlers_of, bodies, begun, replayed, run, turn}
+use Rattle.zk_typed.specs.Typed.{zeek_init, zeek_done, packet_seen}
+use Rattle.zk_typed.specs.World.{World, first_world, at_time}
 use Rattle.zk_top.specs.declared.playing.Player.{Player}
 use Rattle.zk_top.specs.declared.stop.Stop.{Stop}
 use Rattle.zk_top.specs.declared.stop.Stop.TheVariants.{NoMemory}
-use Rattle.zk_top.specs.Item.{items_of}
+use Rattle.zk_top.specs.Item.{Item, What, Seen, items_of}
 use Rattle.zk_top.specs.Line.{line_end}
-use Rattle.zk_top.specs.Playing.{HasCome}
-use Rattle.zk_top.specs.Replay.{budget, printed, text_of, turn_of}
+use Rattle.zk_top.specs.Named.{named}
+use Rattle.zk_top.specs.Playing.{HasCome, after_item}
+use Rattle.zk_top.specs.Replay.{budget, event_of, printed, text_of, turn_of}
 use Rattle.zk_top.specs.Run.{IsFront, DoesAll, DoesPart, HandsOver}
 use Rattle.zk_top.proofs.Doing.{front_all, front_trans, does_both_all, does_both_part, does_part_of, out_of_memory}
-use Rattle.zk_top.proofs.Growth.{bodies_add, turns_add, text-append, text_front}
+use Rattle.zk_top.proofs.Growth.{GoesOn, goes_on_same, goes_on_trans, bodies_add, turns_add, text-append, text_front}
 
 -- stopped while a front of what is to be said waits
 pub stopped_in : (first : Outside) (program : Program) (taken : List (List ℕ)) (world : World) (player : Player) (mid : Outside) (whole : List ℕ) (stop : Stop) (new : Outside)
@@ -82,33 +90,69 @@ pub stopped_within : (first : Outside) (stop : Stop) (new : Outside) (at whole :
 stopped_within first stop new at whole front part =
     does_part_of [] [] (text_of at.lines) (text_of whole.lines) [] [] first stop new (front_all []) front (front_all []) part
 
--- Handlers one after another --------------------------------------------------------------------------------------
+-- Handlers by their numbers ---------------------------------------------------------------------------------------
 
--- What is left of the handlers, from the world that the others left.
-pub record IsLeft (args : List Value) (program : Program) (numbers : List HandlerNo) (at : World) (rest : List Handler) (whole : World) : Type 0 where
-  pub are : map (λ n. slice_get program.handlers n.0) numbers ≡ map Some rest
-  pub comes : bodies args budget at rest ≡ whole
+-- the handler of one number
+pub named_one : (program : Program) (number : HandlerNo) (of : Handler) → slice_get program.handlers number.0 ≡ Some of → named (number ∷ []) program ≡ of ∷ []
+named_one program number of is = ap (λ o. cons_option o []) is
+
+-- each number of the code's handlers names one of the program
+pub named_there : (program : Program) (code : Code) (number : HandlerNo) → code ≡ lowered program → number.0 < length code.handlers
+    → (of : Handler) × (slice_get program.handlers number.0 ≡ Some of)
+named_there program code number is within =
+    let same : length code.handlers ≡ length program.handlers = ap (λ (c : Code). length c.handlers) is ∙ length-map program.handlers handler_code in
+    elim (slice_get_cases program.handlers number.0).1 [
+      | inl found ↦ (found.0, found.2)
+      | inr none ↦ absurd (omega arith)
+    ]
+
+-- a number, and those behind it
+pub bodies-first : (args : List Value) (world : World) (program : Program) (number : HandlerNo) (others : List HandlerNo)
+    → bodies args budget world (named (number ∷ others) program) ≡ bodies args budget (bodies args budget world (named (number ∷ []) program)) (named others program)
+bodies-first args world program number others =
+    ap (bodies args budget world) (filter_map-append (λ (n : HandlerNo). slice_get program.handlers n.0) (number ∷ []) others)
+    ∙ fold-append (λ (before : World) (handler : Handler). (exec_body handler args before budget).world) world (named (number ∷ []) program) (named others program)
+
+-- What is left of the handlers from a world: it leads to the world after all of them.
+pub record IsLeft (args : List Value) (program : Program) (numbers : List HandlerNo) (at whole : World) : Type 0 where
+  pub comes : bodies args budget at (named numbers program) ≡ whole
+
+-- the next handler ran
+pub left_more : (args : List Value) (program : Program) (number : HandlerNo) (numbers others : List HandlerNo) (at whole : World) → numbers ≡ number ∷ others
+    → IsLeft args program numbers at whole → IsLeft args program others (bodies args budget at (named (number ∷ []) program)) whole
+left_more args program number numbers others at whole is left = record {
+  comes = sym (bodies-first args at program number others) ∙ (ap (λ ns. bodies args budget at (named ns program)) (sym is) ∙ left.comes);
+}
 
 -- the lines so far are a front of those in the end
-pub left_front : (args : List Value) (program : Program) (numbers : List HandlerNo) (at : World) (rest : List Handler) (whole : World)
-    → IsLeft args program numbers at rest whole → IsFront (text_of at.lines) (text_of whole.lines)
-left_front args program numbers at rest whole left =
+pub left_front : (args : List Value) (program : Program) (numbers : List HandlerNo) (at whole : World) → IsLeft args program numbers at whole → IsFront (text_of at.lines) (text_of whole.lines)
+left_front args program numbers at whole left =
     subst (λ (w : World). IsFront (text_of at.lines) (text_of w.lines)) left.comes
-    (text_front at.lines (bodies args budget at rest).lines (bodies_add args budget at rest).front)
+    (text_front at.lines (bodies args budget at (named numbers program)).lines (bodies_add args budget at (named numbers program)).front)
 
--- the next handler, and what is left behind it
-pub left_first : (args : List Value) (program : Program) (number : HandlerNo) (numbers : List HandlerNo) (at : World) (rest : List Handler) (whole : World)
-    → IsLeft args program (number ∷ numbers) at rest whole
-    → (of : Handler) × (others : List Handler) × (slice_get program.handlers number.0 ≡ Some of) × IsLeft args program numbers (exec_body of args at budget).world others whole
-left_first args program number numbers at [] whole left = absurd (let no : slice_get program.handlers number.0 ∷ map (λ n. slice_get program.handlers n.0) numbers ≡ [] = left.are in let never : ⊥ = cc in never)
-left_first args program number numbers at (of ∷ others) whole left =
-    let both : slice_get program.handlers number.0 ∷ map (λ n. slice_get program.handlers n.0) numbers ≡ Some of ∷ map Some others = left.are in
-    (of, others, cc, record { are = cc; comes = left.comes })
+-- Items one after another -----------------------------------------------------------------------------------------
 
--- no handler is left
-pub left_none : (args : List Value) (program : Program) (at : World) (rest : List Handler) (whole : World) → IsLeft args program [] at rest whole → at ≡ whole
-left_none args program at [] whole left = left.comes
-left_none args program at (of ∷ others) whole left = absurd (let no : [] ≡ Some of ∷ map Some others = left.are in let never : ⊥ = cc in never)
+-- an item's handlers only add lines
+pub item_adds : (handlers : List Handler) (world : World) (item : Item) → GoesOn world (after_item handlers world item)
+item_adds handlers world item =
+    let args : List Value = (event_of item.what).args in
+    record { front = (bodies_add args budget (at_time item.moment world) handlers).front }
+
+pub items_add : (handlers : List Handler) (world : World) (items : List Item) → GoesOn world (fold (after_item handlers) world items)
+items_add handlers world [] = goes_on_same world
+items_add handlers world (item ∷ items) =
+    let after : World = after_item handlers world item in
+    goes_on_trans world after (fold (after_item handlers) after items) (item_adds handlers world item) (items_add handlers after items)
+
+-- an item's turn
+turn_of_item : (program : Program) (world : World) (moment : Moment) (what : What) → after_item (handlers_of program packet_seen) world (record { moment = moment; what = what }) ≡ turn program budget world (turn_of (record { moment = moment; what = what }))
+turn_of_item program world moment (Seen own captured original) = refl
+
+pub turns_of_items : (program : Program) (world : World) (items : List Item) → fold (after_item (handlers_of program packet_seen)) world items ≡ fold (turn program budget) world (map turn_of items)
+turns_of_items program world [] = refl
+turns_of_items program world (item ∷ items) =
+    ap (λ (w : World). fold (after_item (handlers_of program packet_seen)) w items) (turn_of_item program world item.moment item.what)
+    ∙ turns_of_items program (turn program budget world (turn_of item)) items
 
 -- From the beginning to the end -----------------------------------------------------------------------------------
 
@@ -133,18 +177,25 @@ begun_front program packets =
     (text_front (begun program budget).lines (replayed program budget turns).lines (turns_add program budget (begun program budget) turns).front)
     (replayed_front program packets)
 
--- the end was handled
-pub ended_whole : (first : Outside) (program : Program) (packets : List Packet) (player : Player) (last : Outside)
-    → HasCome first program (run program budget (map turn_of (items_of packets)) (now packets)).lines (run program budget (map turn_of (items_of packets)) (now packets)) player last
-    → HasCome first program (whole_run program packets).lines (whole_run program packets) player last
-unfolding whole_run
-ended_whole first program packets player last come = come
+-- the same world
+pub at_world : (first : Outside) (program : Program) (a b : World) (player : Player) (now : Outside) → a ≡ b → HasCome first program a.lines a player now → HasCome first program b.lines b player now
+at_world first program a b player now same come = subst (λ (w : World). HasCome first program w.lines w player now) same come
 
-pub stopped_whole : (first : Outside) (program : Program) (packets : List Packet) (stop : Stop) (new : Outside)
-    → DoesPart [] (text_of (run program budget (map turn_of (items_of packets)) (now packets)).lines) [] first stop new
-    → DoesPart [] (text_of (whole_run program packets).lines) [] first stop new
+pub part_at_world : (first : Outside) (a b : World) (stop : Stop) (new : Outside) → a ≡ b → DoesPart [] (text_of a.lines) [] first stop new → DoesPart [] (text_of b.lines) [] first stop new
+part_at_world first a b stop new same part = subst (λ (w : World). DoesPart [] (text_of w.lines) [] first stop new) same part
+
+-- the worlds of a run, by the handlers that the numbers name
+pub begun_by : (program : Program) (init : List HandlerNo) → named init program ≡ handlers_of program zeek_init → bodies [] budget first_world (named init program) ≡ begun program budget
+begun_by program init are = ap (bodies [] budget first_world) are
+
+pub replayed_by : (program : Program) (seen : List HandlerNo) (items : List Item) → named seen program ≡ handlers_of program packet_seen
+    → fold (after_item (named seen program)) (begun program budget) items ≡ replayed program budget (map turn_of items)
+replayed_by program seen items are = ap (λ hs. fold (after_item hs) (begun program budget) items) are ∙ turns_of_items program (begun program budget) items
+
+pub run_by : (program : Program) (done : List HandlerNo) (packets : List Packet) → named done program ≡ handlers_of program zeek_done
+    → bodies [] budget (at_time (now packets) (replayed program budget (map turn_of (items_of packets)))) (named done program) ≡ whole_run program packets
 unfolding whole_run
-stopped_whole first program packets stop new part = part
+run_by program done packets are = ap (bodies [] budget (at_time (now packets) (replayed program budget (map turn_of (items_of packets))))) are
 
 -- the last piece is said
 pub all_said : (first : Outside) (program : Program) (world : World) (player : Player) (mid new : Outside) → HasCome first program world.lines world player mid

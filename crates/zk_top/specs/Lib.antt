@@ -5,8 +5,9 @@ pub mod Tokens
 pub mod Script
 pub mod Lowering
 pub mod Replay
-pub mod Handlers
+pub mod Named
 pub mod Playing
+pub mod Handlers
 pub mod Complaint
 pub mod Outcome
 pub mod Run

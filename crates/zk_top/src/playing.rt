@@ -1,17 +1,15 @@
-ghost use Rattle.std.specs.Prelude.{◌≡◌, ◌<◌, ℕ, List, [], map, fold, Some, slice_get, length, All, IfOk, OnOk, IfErr};
+ghost use Rattle.std.specs.Prelude.{◌≡◌, ◌<◌, ℕ, List, [], ◌∷◌, map, fold, length, IfOk, OnOk, IfErr};
 ghost use Rattle.zk_base.specs.Shelf.{Outside};
 ghost use Rattle.zk_machine.specs.Lowered.{lowered};
 ghost use Rattle.zk_machine.specs.Standing.{code_of};
 ghost use Rattle.zk_pcap.specs.NetworkTime.{now as network_time};
 ghost use Rattle.zk_typed.specs.declared.program.Program.{Program};
-ghost use Rattle.zk_typed.specs.declared.program.Handler.{Handler};
-ghost use Rattle.zk_typed.specs.Exec.{exec_body};
-ghost use Rattle.zk_typed.specs.Run.{handlers_of, bodies, turn};
-ghost use Rattle.zk_typed.specs.Typed.{packet_seen};
+ghost use Rattle.zk_typed.specs.Run.{handlers_of, bodies};
 ghost use Rattle.zk_typed.specs.World.{World, first_world, at_time};
 ghost use Rattle.zk_value.specs.Plain.{value_of, line_in};
 ghost use Rattle.zk_top.specs.Item.{seen_at, items_of};
-ghost use Rattle.zk_top.specs.Replay.{budget, printed, text_of, turn_of};
+ghost use Rattle.zk_top.specs.Named.{named, AreIn};
+ghost use Rattle.zk_top.specs.Replay.{budget, printed, text_of};
 ghost use Rattle.zk_top.specs.Run.{DoesAll, DoesPart};
 
 use crate::opening::later;
@@ -36,7 +34,7 @@ pub struct Player {
 
 impl Player {
     ghost use Rattle.zk_top.specs.Handlers.{AreHandlers, AreWithin};
-    ghost use Rattle.zk_top.specs.Playing.{HasCome};
+    ghost use Rattle.zk_top.specs.Playing.{HasCome, GoesTo, StopsBefore, after_item};
 
     /// A program at its beginning.
     fn new(alloc: Global, code: Code) -> Result<Player, Mem>
@@ -71,32 +69,28 @@ impl Player {
         args: &[Value],
     ) -> Result<(), Stop>
         requires { handler.0 < length (code_of self.old.machine).handlers }
-        ensures came { OnOk result ((first : Outside) (program : Program) (world : World) (of : Handler) → slice_get program.handlers handler.0 ≡ Some of
-            → HasCome first program world.lines world self.old (S.outside shelf.old)
-            → let after = (exec_body of (map value_of args.now) world budget).world in HasCome first program after.lines after self.new (S.outside shelf.new)) }
-        ensures stopped { IfErr result (λ stop. (first : Outside) (program : Program) (world : World) (of : Handler) → slice_get program.handlers handler.0 ≡ Some of
-            → HasCome first program world.lines world self.old (S.outside shelf.old)
-            → DoesPart [] (text_of (exec_body of (map value_of args.now) world budget).world.lines) [] first stop (S.outside shelf.new)) }
+        ensures came { OnOk result (GoesTo (λ program world. bodies (map value_of args.now) budget world (named (handler ∷ []) program))
+            self.old (S.outside shelf.old) self.new (S.outside shelf.new)) }
+        ensures stopped { IfErr result (λ stop. StopsBefore (λ program world. bodies (map value_of args.now) budget world (named (handler ∷ []) program))
+            self.old (S.outside shelf.old) stop (S.outside shelf.new)) }
         ensures code { code_of self.new.machine ≡ code_of self.old.machine }
     {
         self.machine.body(handler, args, BUDGET)?;
         self.take_lines(shelf)
     }
 
-    /// Runs the bodies of an event's handlers, one after another.
+    /// Runs the bodies of handlers, one after another.
     fn dispatch<S: Shelf>(
         &mut self,
         shelf: &mut S,
         handlers: &[HandlerNo],
         args: &[Value],
     ) -> Result<(), Stop>
-        requires { All (λ n. n.0 < length (code_of self.old.machine).handlers) handlers.now }
-        ensures came { OnOk result ((first : Outside) (program : Program) (world : World) (of : List Handler) → map (λ n. slice_get program.handlers n.0) handlers.now ≡ map Some of
-            → HasCome first program world.lines world self.old (S.outside shelf.old)
-            → let after = bodies (map value_of args.now) budget world of in HasCome first program after.lines after self.new (S.outside shelf.new)) }
-        ensures stopped { IfErr result (λ stop. (first : Outside) (program : Program) (world : World) (of : List Handler) → map (λ n. slice_get program.handlers n.0) handlers.now ≡ map Some of
-            → HasCome first program world.lines world self.old (S.outside shelf.old)
-            → DoesPart [] (text_of (bodies (map value_of args.now) budget world of).lines) [] first stop (S.outside shelf.new)) }
+        requires { AreIn (code_of self.old.machine) handlers.now }
+        ensures came { OnOk result (GoesTo (λ program world. bodies (map value_of args.now) budget world (named handlers.now program))
+            self.old (S.outside shelf.old) self.new (S.outside shelf.new)) }
+        ensures stopped { IfErr result (λ stop. StopsBefore (λ program world. bodies (map value_of args.now) budget world (named handlers.now program))
+            self.old (S.outside shelf.old) stop (S.outside shelf.new)) }
         ensures code { code_of self.new.machine ≡ code_of self.old.machine }
     {
         for handler in handlers {
@@ -107,8 +101,7 @@ impl Player {
 
     /// Sets network time.
     fn set_time(&mut self, time: Moment)
-        ensures came { (first : Outside) (program : Program) (world : World) (now : Outside) → HasCome first program world.lines world self.old now
-            → HasCome first program (at_time time world).lines (at_time time world) self.new now }
+        ensures came { (now : Outside) → GoesTo (λ program world. at_time time world) self.old now self.new now }
         ensures code { code_of self.new.machine ≡ code_of self.old.machine }
     {
         self.machine.set_time(time);
@@ -122,13 +115,11 @@ impl Player {
         time: Moment,
         packet: &Packet,
     ) -> Result<(), Stop>
-        requires { All (λ n. n.0 < length (code_of self.old.machine).handlers) handlers.now }
-        ensures came { OnOk result ((first : Outside) (program : Program) (world : World) → map (λ n. slice_get program.handlers n.0) handlers.now ≡ map Some (handlers_of program packet_seen)
-            → HasCome first program world.lines world self.old (S.outside shelf.old)
-            → let after = turn program budget world (turn_of (seen_at time packet.now)) in HasCome first program after.lines after self.new (S.outside shelf.new)) }
-        ensures stopped { IfErr result (λ stop. (first : Outside) (program : Program) (world : World) → map (λ n. slice_get program.handlers n.0) handlers.now ≡ map Some (handlers_of program packet_seen)
-            → HasCome first program world.lines world self.old (S.outside shelf.old)
-            → DoesPart [] (text_of (turn program budget world (turn_of (seen_at time packet.now))).lines) [] first stop (S.outside shelf.new)) }
+        requires { AreIn (code_of self.old.machine) handlers.now }
+        ensures came { OnOk result (GoesTo (λ program world. after_item (named handlers.now program) world (seen_at time packet.now))
+            self.old (S.outside shelf.old) self.new (S.outside shelf.new)) }
+        ensures stopped { IfErr result (λ stop. StopsBefore (λ program world. after_item (named handlers.now program) world (seen_at time packet.now))
+            self.old (S.outside shelf.old) stop (S.outside shelf.new)) }
         ensures code { code_of self.new.machine ≡ code_of self.old.machine }
     {
         let args = [
@@ -147,14 +138,12 @@ impl Player {
         handlers: &[HandlerNo],
         packets: &[Packet],
     ) -> Result<Moment, Stop>
-        requires { All (λ n. n.0 < length (code_of self.old.machine).handlers) handlers.now }
+        requires { AreIn (code_of self.old.machine) handlers.now }
         ensures last { IfOk result (λ last. last ≡ network_time packets.now) }
-        ensures came { OnOk result ((first : Outside) (program : Program) (world : World) → map (λ n. slice_get program.handlers n.0) handlers.now ≡ map Some (handlers_of program packet_seen)
-            → HasCome first program world.lines world self.old (S.outside shelf.old)
-            → let after = fold (turn program budget) world (map turn_of (items_of packets.now)) in HasCome first program after.lines after self.new (S.outside shelf.new)) }
-        ensures stopped { IfErr result (λ stop. (first : Outside) (program : Program) (world : World) → map (λ n. slice_get program.handlers n.0) handlers.now ≡ map Some (handlers_of program packet_seen)
-            → HasCome first program world.lines world self.old (S.outside shelf.old)
-            → DoesPart [] (text_of (fold (turn program budget) world (map turn_of (items_of packets.now))).lines) [] first stop (S.outside shelf.new)) }
+        ensures came { OnOk result (GoesTo (λ program world. fold (after_item (named handlers.now program)) world (items_of packets.now))
+            self.old (S.outside shelf.old) self.new (S.outside shelf.new)) }
+        ensures stopped { IfErr result (λ stop. StopsBefore (λ program world. fold (after_item (named handlers.now program)) world (items_of packets.now))
+            self.old (S.outside shelf.old) stop (S.outside shelf.new)) }
         ensures code { code_of self.new.machine ≡ code_of self.old.machine }
     {
         let mut now = Moment(0);
@@ -220,9 +209,8 @@ fn line_in(out: &Out) -> &[u8]
 
 /// The handlers of an event, in load order.
 fn handlers_of(alloc: Global, code: &Code, event: EventNo) -> Result<Vec<HandlerNo>, Mem>
-    ensures handlers { IfOk result (λ numbers. (program : Program) → code.now ≡ lowered program
-        → map (λ n. slice_get program.handlers n.0) numbers.items ≡ map Some (handlers_of program event)) }
-    ensures within { IfOk result (λ numbers. All (λ n. n.0 < length code.now.handlers) numbers.items) }
+    ensures handlers { IfOk result (λ numbers. (program : Program) → code.now ≡ lowered program → named numbers.items program ≡ handlers_of program event) }
+    ensures within { IfOk result (λ numbers. AreIn code.now numbers.items) }
 {
     let mut numbers = Vec::new(alloc);
     for (n, handler) in code.handlers.as_slice().iter().enumerate() {

@@ -1,5 +1,6 @@
-use Rattle.std.proofs.Common.{◌≡◌, ◌+◌, ◌<◌, ◌==◌, ◌++◌, [], ◌∷◌, List, Bool, true, false, map, filter, drop, Some, Option, slice_get, length, get_or, sym, ap, subst, ◌∙◌, All}
+use Rattle.std.proofs.Common.{◌≡◌, ◌+◌, ◌<◌, ◌==◌, ◌++◌, [], ◌∷◌, List, Bool, true, false, filter, drop, Some, Option, slice_get, length, get_or, sym, ap, subst, ◌∙◌, All}
 use Rattle.std.proofs.lemmas.List.Elements.{All-append, All-cons, All-nil}
+use Rattle.std.specs.List.{filter_map}
 use Rattle.zk_base.specs.declared.numbers.HandlerNo.{HandlerNo}
 use Rattle.zk_typed.specs.declared.program.Handler.{Handler}
 use Rattle.zk_value.specs.declared.code.HandlerCode.{HandlerCode}
@@ -27,9 +28,9 @@ loop-n-preserved c =
                 let at = handler_at program.handlers codes index code are inside is in
                 let here : get number ≡ Some at.0 = ap (slice_get program.handlers) w.in_ok-handler_number.ensures ∙ at.1.here in
                 let holds : test at.0 ≡ true = ap (λ e. e.0 == event) (sym at.1.event) ∙ (sym c.eq.ensures ∙ w.if-eq.true) in
-                ap (λ ns. map get ns ++ map Some (filter test (drop (index + 1) program.handlers))) longer
+                ap (λ ns. filter_map get ns ++ filter test (drop (index + 1) program.handlers)) longer
                 ∙ (one_found get test numbers number at.0 (drop (index + 1) program.handlers) here holds
-                ∙ (ap (λ hs. map get numbers ++ map Some (filter test hs)) (sym at.1.rest) ∙ c.loop-n.invariant.found program are));
+                ∙ (ap (λ hs. filter_map get numbers ++ filter test hs) (sym at.1.rest) ∙ c.loop-n.invariant.found program are));
             within = subst (All (λ n. n.0 < length codes)) (sym longer)
                 (All-append (λ n. n.0 < length codes) numbers (number ∷ []) c.loop-n.invariant.within
                 (All-cons (λ n. n.0 < length codes) number [] (subst (λ n. n < length codes) (sym w.in_ok-handler_number.ensures) inside) (All-nil (λ n. n.0 < length codes))));
@@ -41,9 +42,9 @@ loop-n-preserved c =
                 let get : HandlerNo → Option Handler = λ n. slice_get program.handlers n.0 in
                 let at = handler_at program.handlers codes index code are inside is in
                 let fails : test at.0 ≡ false = ap (λ e. e.0 == event) (sym at.1.event) ∙ (sym c.eq.ensures ∙ w.if-eq.false) in
-                ap (λ ns. map get ns ++ map Some (filter test (drop (index + 1) program.handlers))) same
+                ap (λ ns. filter_map get ns ++ filter test (drop (index + 1) program.handlers)) same
                 ∙ (one_passed get test numbers at.0 (drop (index + 1) program.handlers) fails
-                ∙ (ap (λ hs. map get numbers ++ map Some (filter test hs)) (sym at.1.rest) ∙ c.loop-n.invariant.found program are));
+                ∙ (ap (λ hs. filter_map get numbers ++ filter test hs) (sym at.1.rest) ∙ c.loop-n.invariant.found program are));
             within = subst (All (λ n. n.0 < length codes)) (sym same) c.loop-n.invariant.within;
           }
     ]

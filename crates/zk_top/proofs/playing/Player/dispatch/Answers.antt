@@ -1,14 +1,14 @@
-use Rattle.std.proofs.Common.{◌≡◌, ◌+◌, [], ◌∷◌, map, drop, get_or, subst, ◌∙◌, arith, add-one, drop-cons}
+use Rattle.std.proofs.Common.{◌≡◌, ◌+◌, List, [], ◌∷◌, map, drop, get_or, subst, ◌∙◌, arith, add-one, drop-cons}
 use Rattle.std.proofs.lemmas.List.{drop_all}
 use Rattle.std.proofs.lemmas.Result.{err_from_is_err_and}
 use Rattle.zk_base.specs.declared.numbers.HandlerNo.{HandlerNo}
-use Rattle.zk_typed.specs.Exec.{exec_body}
 use Rattle.zk_typed.specs.Run.{bodies}
 use Rattle.zk_typed.specs.World.{World}
 use Rattle.zk_value.specs.Plain.{value_of}
+use Rattle.zk_top.specs.Named.{named}
 use Rattle.zk_top.specs.Playing.{HasCome}
 use Rattle.zk_top.specs.Replay.{budget}
-use Rattle.zk_top.proofs.PlayingLemmas.{stopped_within, IsLeft, left_front, left_first, left_none}
+use Rattle.zk_top.proofs.PlayingLemmas.{stopped_within, IsLeft, left_front, left_more}
 use Rattle.zk_top.proofs.playing.Player.dispatch.Goals as goal
 
 pub loop-handler-preserved : goal.loop-handler-preserved
@@ -19,12 +19,13 @@ loop-handler-preserved g c =
     let number : HandlerNo = get_or numbers index (record { 0 = 0 }) in
     let rest : drop index numbers ≡ number ∷ drop (index + 1) numbers = rw add-one (drop-cons numbers index (record { 0 = 0 }) c.loop-handler-test.true) in
     record {
-      came = λ first program world of are come.
-          let far = c.loop-handler.invariant.came first program world of are come in
-          let whole : World = bodies args budget world of in
-          let left : IsLeft args program (number ∷ drop (index + 1) numbers) far.0 far.1 whole = subst (λ ns. IsLeft args program ns far.0 far.1 whole) rest far.3 in
-          let next = left_first args program number (drop (index + 1) numbers) far.0 far.1 whole left in
-          ((exec_body next.0 args far.0 budget).world, next.1, c.in_ok-run_body.ensures.came first program far.0 next.0 next.2 far.2, next.3);
+      came = λ first program world come.
+          let far = c.loop-handler.invariant.came first program world come in
+          let whole : World = bodies args budget world (named numbers program) in (
+            bodies args budget far.0 (named (number ∷ []) program),
+            c.in_ok-run_body.ensures.came first program far.0 far.1,
+            left_more args program number (drop index numbers) (drop (index + 1) numbers) far.0 whole rest far.2,
+          );
       code = c.run_body.ensures.code ∙ c.loop-handler.invariant.code;
     }
 
@@ -38,21 +39,21 @@ returns-in_err-run_body-clause-stopped g c =
     let new = g.S.Shelf.outside c.run_body.new.shelf in
     let stop = c.in_err-run_body.field-0.0 in
     let p = err_from_is_err_and c.from_residual.result c.from_residual.ensures.1 in
-    rw (p.1, p.2) (λ first program world of are come.
-    let far = c.loop-handler.invariant.came first program world of are come in
-    let whole : World = bodies args budget world of in
-    let left : IsLeft args program (number ∷ drop (index + 1) numbers) far.0 far.1 whole = subst (λ ns. IsLeft args program ns far.0 far.1 whole) rest far.3 in
-    let next = left_first args program number (drop (index + 1) numbers) far.0 far.1 whole left in
-    stopped_within first stop new (exec_body next.0 args far.0 budget).world whole (left_front args program (drop (index + 1) numbers) (exec_body next.0 args far.0 budget).world next.1 whole next.3)
-    (c.in_err-run_body.ensures.stopped first program far.0 next.0 next.2 far.2))
+    rw (p.1, p.2) (λ first program world come.
+    let far = c.loop-handler.invariant.came first program world come in
+    let here : World = bodies args budget far.0 (named (number ∷ []) program) in
+    let whole : World = bodies args budget world (named numbers program) in
+    stopped_within first stop new here whole
+    (left_front args program (drop (index + 1) numbers) here whole (left_more args program number (drop index numbers) (drop (index + 1) numbers) far.0 whole rest far.2))
+    (c.in_err-run_body.ensures.stopped first program far.0 far.1))
 
 pub returns-clause-came : goal.returns-clause-came
-returns-clause-came g c = λ first program world of are come.
+returns-clause-came g c = λ first program world come.
     let args = map value_of c.args.args.now in
     let numbers = c.args.handlers.now in
     let index = c.loop-handler.handler-index in
     let now = g.S.Shelf.outside c.loop-handler.shelf in
-    let far = c.loop-handler.invariant.came first program world of are come in
-    let whole : World = bodies args budget world of in
-    let left : IsLeft args program [] far.0 far.1 whole = subst (λ ns. IsLeft args program ns far.0 far.1 whole) (drop_all index numbers (omega arith)) far.3 in
-    subst (λ (w : World). HasCome first program w.lines w c.loop-handler.self now) (left_none args program far.0 far.1 whole left) far.2
+    let far = c.loop-handler.invariant.came first program world come in
+    let whole : World = bodies args budget world (named numbers program) in
+    let left : IsLeft args program [] far.0 whole = subst (λ ns. IsLeft args program ns far.0 whole) (drop_all index numbers (omega arith)) far.2 in
+    subst (λ (w : World). HasCome first program w.lines w c.loop-handler.self now) left.comes far.1

@@ -1,16 +1,16 @@
-use Rattle.std.proofs.Common.{◌≡◌, ◌+◌, map, fold, take, drop, subst, sym, ap, ◌∙◌, arith}
+use Rattle.std.proofs.Common.{◌≡◌, ◌+◌, List, fold, take, drop, subst, sym, ap, ◌∙◌, arith}
 use Rattle.std.proofs.lemmas.List.{drop_all, take_all}
 use Rattle.std.proofs.lemmas.Result.{err_from_is_err_and}
 use Rattle.zk_pcap.specs.NetworkTime.{now as network_time}
-use Rattle.zk_typed.specs.Run.{turn}
 use Rattle.zk_typed.specs.World.{World}
-use Rattle.zk_top.specs.Item.{items_of, items_after, seen_at}
-use Rattle.zk_top.specs.Playing.{HasCome}
-use Rattle.zk_top.specs.Replay.{budget, text_of, turn_of}
+use Rattle.zk_top.specs.Item.{Item, items_of, items_after, seen_at}
+use Rattle.zk_top.specs.Named.{named}
+use Rattle.zk_top.specs.Playing.{HasCome, after_item}
+use Rattle.zk_top.specs.Replay.{text_of}
 use Rattle.zk_top.specs.Run.{IsFront}
-use Rattle.zk_top.proofs.Growth.{turns_add, text_front}
+use Rattle.zk_top.proofs.Growth.{text_front}
 use Rattle.zk_top.proofs.Packets.{next_now, next_item}
-use Rattle.zk_top.proofs.PlayingLemmas.{stopped_within}
+use Rattle.zk_top.proofs.PlayingLemmas.{stopped_within, items_add}
 use Rattle.zk_top.proofs.playing.Player.see_packets.Goals as goal
 
 pub loop-packet-preserved : goal.loop-packet-preserved
@@ -21,12 +21,13 @@ loop-packet-preserved g c =
     let after = c.later-now.result in
     record {
       is_now = next_now packets index c.loop-packet.now after packet c.loop-packet-test.true c.packet-item.is c.loop-packet.invariant.is_now c.later-now.ensures;
-      came = λ first program world are come.
-          let far = c.loop-packet.invariant.came first program world are come in
+      came = λ first program world come.
+          let handlers = named c.args.handlers.now program in
+          let far = c.loop-packet.invariant.came first program world come in
           let item = next_item packets index c.loop-packet.now after packet c.loop-packet-test.true c.packet-item.is c.loop-packet.invariant.is_now c.later-now.ensures in (
-            turn program budget far.0 (turn_of (seen_at after packet)),
-            c.in_ok-see.ensures.came first program far.0 are far.1,
-            ap (λ items. fold (turn program budget) far.0 (map turn_of items)) (sym item) ∙ far.2,
+            after_item handlers far.0 (seen_at after packet),
+            c.in_ok-see.ensures.came first program far.0 far.1,
+            ap (fold (after_item handlers) far.0) (sym item) ∙ far.2,
           );
       code = c.see.ensures.code ∙ c.loop-packet.invariant.code;
     }
@@ -40,26 +41,28 @@ returns-in_err-see-clause-stopped g c =
     let new = g.S.Shelf.outside c.see.new.shelf in
     let stop = c.in_err-see.field-0.0 in
     let p = err_from_is_err_and c.from_residual.result c.from_residual.ensures.1 in
-    rw (p.1, p.2) (λ first program world are come.
-    let far = c.loop-packet.invariant.came first program world are come in
+    rw (p.1, p.2) (λ first program world come.
+    let handlers = named c.args.handlers.now program in
+    let far = c.loop-packet.invariant.came first program world come in
     let item = next_item packets index c.loop-packet.now after packet c.loop-packet-test.true c.packet-item.is c.loop-packet.invariant.is_now c.later-now.ensures in
-    let here : World = turn program budget far.0 (turn_of (seen_at after packet)) in
-    let rest = map turn_of (items_after (take (index + 1) packets) (drop (index + 1) packets)) in
-    let whole : World = fold (turn program budget) world (map turn_of (items_of packets)) in
-    let comes : fold (turn program budget) here rest ≡ whole = ap (λ items. fold (turn program budget) far.0 (map turn_of items)) (sym item) ∙ far.2 in
+    let here : World = after_item handlers far.0 (seen_at after packet) in
+    let rest : List Item = items_after (take (index + 1) packets) (drop (index + 1) packets) in
+    let whole : World = fold (after_item handlers) world (items_of packets) in
+    let comes : fold (after_item handlers) here rest ≡ whole = ap (fold (after_item handlers) far.0) (sym item) ∙ far.2 in
     stopped_within first stop new here whole
-    (subst (λ (w : World). IsFront (text_of here.lines) (text_of w.lines)) comes (text_front here.lines (fold (turn program budget) here rest).lines (turns_add program budget here rest).front))
-    (c.in_err-see.ensures.stopped first program far.0 are far.1))
+    (subst (λ (w : World). IsFront (text_of here.lines) (text_of w.lines)) comes (text_front here.lines (fold (after_item handlers) here rest).lines (items_add handlers here rest).front))
+    (c.in_err-see.ensures.stopped first program far.0 far.1))
 
 pub returns-clause-last : goal.returns-clause-last
 returns-clause-last g c = c.loop-packet.invariant.is_now ∙ ap network_time (take_all c.loop-packet.packet-index c.args.packets.now (omega arith))
 
 pub returns-clause-came : goal.returns-clause-came
-returns-clause-came g c = λ first program world are come.
+returns-clause-came g c = λ first program world come.
     let packets = c.args.packets.now in
     let index = c.loop-packet.packet-index in
-    let far = c.loop-packet.invariant.came first program world are come in
+    let handlers = named c.args.handlers.now program in
+    let far = c.loop-packet.invariant.came first program world come in
     let here : World = far.0 in
-    let whole : World = fold (turn program budget) world (map turn_of (items_of packets)) in
-    let done : here ≡ whole = ap (λ ps. fold (turn program budget) here (map turn_of (items_after (take index packets) ps))) (sym (drop_all index packets (omega arith))) ∙ far.2 in
+    let whole : World = fold (after_item handlers) world (items_of packets) in
+    let done : here ≡ whole = ap (λ ps. fold (after_item handlers) here (items_after (take index packets) ps)) (sym (drop_all index packets (omega arith))) ∙ far.2 in
     subst (λ (w : World). HasCome first program w.lines w c.loop-packet.self (g.S.Shelf.outside c.loop-packet.shelf)) done far.1

@@ -1,24 +1,21 @@
-use Rattle.std.proofs.Common.{◌≡◌, map, fold, take, drop, Some, slice_get}
+use Rattle.std.proofs.Common.{◌≡◌, ℕ, List, fold, take, drop}
 use Rattle.zk_base.specs.Shelf.{Outside}
 use Rattle.zk_machine.specs.Standing.{code_of}
 use Rattle.zk_pcap.specs.NetworkTime.{now}
 use Rattle.zk_typed.specs.declared.program.Program.{Program}
-use Rattle.zk_typed.specs.Run.{handlers_of, turn}
-use Rattle.zk_typed.specs.Typed.{packet_seen}
 use Rattle.zk_typed.specs.World.{World}
 use Rattle.zk_top.specs.Item.{items_of, items_after}
-use Rattle.zk_top.specs.Playing.{HasCome}
-use Rattle.zk_top.specs.Replay.{budget, turn_of}
+use Rattle.zk_top.specs.Named.{named}
+use Rattle.zk_top.specs.Playing.{HasCome, after_item}
 use Rattle.zk_top.proofs.playing.Player.see_packets.Given as goal
 
 -- what the packets that are left do from here is what all of them do
 abbrev pub invariant-loop-packet : goal.invariant-loop-packet
 invariant-loop-packet g l = record {
   is_now : l.now ≡ now (take l.packet-index l.packets);
-  came : (first : Outside) (program : Program) (world : World) → map (λ n. slice_get program.handlers n.0) l.handlers ≡ map Some (handlers_of program packet_seen)
-      → HasCome first program world.lines world l.initial.self (g.S.Shelf.outside l.initial.shelf)
+  came : (first : Outside) (program : Program) (world : World) → HasCome first program world.lines world l.initial.self (g.S.Shelf.outside l.initial.shelf)
       → (at : World) × HasCome first program at.lines at l.self (g.S.Shelf.outside l.shelf)
-      × (fold (turn program budget) at (map turn_of (items_after (take l.packet-index l.packets) (drop l.packet-index l.packets)))
-      ≡ fold (turn program budget) world (map turn_of (items_of l.packets)));
+      × (fold (after_item (named l.handlers program)) at (items_after (take l.packet-index l.packets) (drop l.packet-index l.packets))
+      ≡ fold (after_item (named l.handlers program)) world (items_of l.packets));
   code : code_of l.self.machine ≡ code_of l.initial.self.machine;
 }

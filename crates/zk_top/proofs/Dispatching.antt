@@ -1,6 +1,6 @@
 -- The handlers of an event, found one after another.
 use Rattle.std.proofs.Common.{◌≡◌, ℕ, ◌+◌, ◌<◌, Bool, true, false, cond, inl, inr, List, [], ◌∷◌, ◌++◌, map, filter, drop, length, get_or, slice_get, Option, Some, sym, ap, ◌∙◌, arith, append_assoc, add-one, drop-cons}
-use Rattle.std.proofs.lemmas.List.{get_or-map, map-append, length-map}
+use Rattle.std.proofs.lemmas.List.{get_or-map, length-map}
 use Rattle.std.specs.List.{filter_map, cons_option}
 use Rattle.std.proofs.lemmas.List.Elements.{filter_map-append}
 use Rattle.std.proofs.lemmas.Option.{slice_get_cases}

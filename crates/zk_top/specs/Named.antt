@@ -1,5 +1,5 @@
 -- Handlers by their numbers.
-use Rattle.std.specs.Prelude.{ℕ, ◌<◌, List, length, slice_get, All}
+use Rattle.std.specs.Prelude.{◌<◌, List, length, slice_get, All}
 use Rattle.std.specs.List.{filter_map}
 use Rattle.zk_base.specs.declared.numbers.HandlerNo.{HandlerNo}
 use Rattle.zk_typed.specs.declared.program.Handler.{Handler}

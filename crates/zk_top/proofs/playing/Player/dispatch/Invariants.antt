@@ -1,4 +1,4 @@
-use Rattle.std.proofs.Common.{◌≡◌, ℕ, List, map, drop}
+use Rattle.std.proofs.Common.{◌≡◌, map, drop}
 use Rattle.zk_base.specs.Shelf.{Outside}
 use Rattle.zk_machine.specs.Standing.{code_of}
 use Rattle.zk_typed.specs.declared.program.Program.{Program}

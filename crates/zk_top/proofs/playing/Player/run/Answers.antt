@@ -1,6 +1,5 @@
-use Rattle.std.proofs.Common.{◌≡◌, List, [], map, fold, ap, subst, ◌∙◌}
+use Rattle.std.proofs.Common.{◌≡◌, [], map, fold, ap, subst, ◌∙◌}
 use Rattle.std.proofs.lemmas.Result.{err_from_is_err_and, on_ok_weaker, IfErr-weaker}
-use Rattle.zk_base.specs.declared.numbers.HandlerNo.{HandlerNo}
 use Rattle.zk_base.specs.Shelf.{Outside}
 use Rattle.zk_pcap.specs.NetworkTime.{now as network_time}
 use Rattle.zk_typed.specs.declared.program.Program.{Program}

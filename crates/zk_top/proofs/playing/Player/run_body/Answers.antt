@@ -1,4 +1,4 @@
-use Rattle.std.proofs.Common.{◌≡◌, [], ◌∷◌, map, sym, ap, refl, subst}
+use Rattle.std.proofs.Common.{[], ◌∷◌, map, sym, refl, subst}
 use Rattle.std.proofs.lemmas.Result.{err_from_is_err_and, on_ok_weaker, IfErr-weaker}
 use Rattle.zk_typed.specs.Exec.{exec_body}
 use Rattle.zk_typed.specs.Run.{bodies}

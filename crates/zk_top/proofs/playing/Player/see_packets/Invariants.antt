@@ -1,4 +1,4 @@
-use Rattle.std.proofs.Common.{◌≡◌, ℕ, List, fold, take, drop}
+use Rattle.std.proofs.Common.{◌≡◌, fold, take, drop}
 use Rattle.zk_base.specs.Shelf.{Outside}
 use Rattle.zk_machine.specs.Standing.{code_of}
 use Rattle.zk_pcap.specs.NetworkTime.{now}

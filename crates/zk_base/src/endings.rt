@@ -28,7 +28,8 @@ pub enum Ending {
         name: Bytes,
         place: u64,
     },
-    /// The capture ends within a record, which begins at this byte of the file.
+    /// The capture is cut: at this byte of the file begins a record that isn't whole, or that says
+    /// more bytes were captured than a record may have.
     CutShort {
         name: Bytes,
         place: u64,

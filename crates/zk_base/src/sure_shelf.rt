@@ -1,4 +1,4 @@
-ghost use Rattle.std.specs.Prelude.{◌≡◌, Some, IfOk};
+ghost use Rattle.std.specs.Prelude.{◌≡◌, ◌≢◌, ◌<◌, Some, IfOk, IsTrue, length};
 ghost use Rattle.std.specs.Option.{option_copied};
 ghost use Rattle.zk_base.specs.Shelf.{lies_under};
 ghost use Rattle.zk_base.specs.Contents.{at_first};
@@ -51,31 +51,53 @@ impl SureShelf {
 }
 
 impl Shelf for SureShelf {
+    ghost use Rattle.zk_base.specs.Shelf.{Starts, is_open, Reads, Creates, IsCreated, Puts, after_append, after_say, after_complaint};
     ghost use Rattle.zk_base.specs.SureShelf.{sure_outside};
 
     ghost outside = { sure_outside };
 
-    fn start(&mut self, name: &[u8]) -> Started {
+    fn start(&mut self, name: &[u8]) -> Started
+        ensures leaves { Starts (sure_outside self.old) name.now result (sure_outside self.new) }
+        ensures sure { result ≢ Started.Failed }
+    {
         self.contents.start(name)
     }
 
-    fn read(&mut self, buf: &mut [u8]) -> Got {
+    fn read(&mut self, buf: &mut [u8]) -> Got
+        requires room { 0 < length buf.old }
+        requires input { IsTrue (is_open (sure_outside self.old).reading) }
+        ensures leaves { Reads (sure_outside self.old) buf.old result buf.new (sure_outside self.new) }
+        ensures sure { result ≢ Got.Failed }
+    {
         self.contents.read(buf)
     }
 
-    fn create(&mut self, name: &[u8]) -> Wrote {
+    fn create(&mut self, name: &[u8]) -> Wrote
+        ensures leaves { Creates (sure_outside self.old) name.now result (sure_outside self.new) }
+        ensures sure { result ≢ Wrote.Failed }
+    {
         self.contents.create(name)
     }
 
-    fn append(&mut self, name: &[u8], bytes: &[u8]) -> Wrote {
+    fn append(&mut self, name: &[u8], bytes: &[u8]) -> Wrote
+        requires { IsCreated (sure_outside self.old) name.now }
+        ensures leaves { Puts (after_append (sure_outside self.old) name.now) (sure_outside self.old) bytes.now result (sure_outside self.new) }
+        ensures sure { result ≢ Wrote.Failed }
+    {
         self.contents.append(name, bytes)
     }
 
-    fn say(&mut self, bytes: &[u8]) -> Wrote {
+    fn say(&mut self, bytes: &[u8]) -> Wrote
+        ensures leaves { Puts (after_say (sure_outside self.old)) (sure_outside self.old) bytes.now result (sure_outside self.new) }
+        ensures sure { result ≢ Wrote.Failed }
+    {
         self.contents.say(bytes)
     }
 
-    fn complain(&mut self, bytes: &[u8]) -> Wrote {
+    fn complain(&mut self, bytes: &[u8]) -> Wrote
+        ensures leaves { Puts (after_complaint (sure_outside self.old)) (sure_outside self.old) bytes.now result (sure_outside self.new) }
+        ensures sure { result ≢ Wrote.Failed }
+    {
         self.contents.complain(bytes)
     }
 }

@@ -1,4 +1,5 @@
-ghost use Rattle.std.specs.Prelude.{◌≡◌, ◌<◌, ◌≤◌, ◌↔◌, ◌++◌, ◌+◌, ◌^◌, drop, length, IfOk, IsErr, IsOk, OnErr, OnOk};
+ghost use Rattle.std.specs.Prelude.{◌≡◌, ◌<◌, ◌≤◌, ◌↔◌, ◌++◌, ◌+◌, ◌^◌, drop, length, ℤ, FitsSigned, IfOk, IsErr, IsOk, OnErr, OnOk};
+ghost use Rattle.std.specs.Int.{w64};
 ghost use Rattle.zk_text.specs.Span.{seconds_decimal, span_decimal};
 
 use crate::Short;
@@ -19,6 +20,7 @@ const ZEROS: [u8; SPAN_TEXT_MAX] = *b"00000000000000.000000";
 /// Writes a time or an interval of `n` microseconds as seconds with six decimals to the front of a
 /// buffer, with `-` before a negative one, and answers the length in bytes.
 /// `Short` comes exactly where the text is longer than the buffer.
+#[tactic(auto, using(crate::proofs::Injective::span_decimal_injective))]
 pub fn span_text(n: i64, out: &mut [u8]) -> Result<usize, Short>
     ensures len { IfOk result (λ len. len ≡ length (span_decimal n)) }
     ensures text { OnOk result (out.new ≡ span_decimal n ++ drop (length (span_decimal n)) out.old) }
@@ -26,6 +28,8 @@ pub fn span_text(n: i64, out: &mut [u8]) -> Result<usize, Short>
     ensures err { OnErr result (out.new ≡ out.old) }
     ensures bound { length (span_decimal n) ≤ SPAN_TEXT_MAX }
     ensures room { SPAN_TEXT_MAX ≤ length out.old → IsOk result }
+    // The text tells the number: no other of 64 bits has the same one.
+    ensures alone { (other : ℤ) → FitsSigned w64 other → span_decimal other ≡ span_decimal n → other ≡ n }
 {
     let mut text = ZEROS;
     let start = write_span(n, &mut text);

@@ -36,6 +36,12 @@ const RESET: &[u8] = &[
     0x5b, 0xa8, 0x00, 0x00,
 ];
 
+/// The browser's FIN.
+const FINISH: &[u8] = &[
+    0xe7, 0xd0, 0x00, 0x50, 0x3e, 0xa8, 0x29, 0x88, 0x8b, 0xc7, 0x31, 0x7a, 0x80, 0x11, 0x00, 0x3f,
+    0x2b, 0xa6, 0x00, 0x00, 0x01, 0x01, 0x08, 0x0a, 0x76, 0x52, 0x0e, 0xb8, 0x88, 0xe9, 0x1a, 0xb4,
+];
+
 /// A DNS reply.
 const REPLY: &[u8] = &[
     0x00, 0x35, 0x9f, 0x54, 0x00, 0x23, 0xd6, 0x78, 0x96, 0x87, 0x81, 0x83, 0x00, 0x01, 0x00, 0x00,
@@ -47,7 +53,7 @@ const REPLY: &[u8] = &[
 type Fields = (u16, u16, u32, u32, u8);
 
 /// Segments without a payload, and their fields.
-const SEGMENTS: [(Addr, Addr, &[u8], Fields); 3] = [
+const SEGMENTS: [(Addr, Addr, &[u8], Fields); 5] = [
     (
         BROWSER,
         SITE,
@@ -72,6 +78,24 @@ const SEGMENTS: [(Addr, Addr, &[u8], Fields); 3] = [
         RESET,
         (81, 60658, 0, 65_490_529, flags::RST | flags::ACK),
     ),
+    (
+        BROWSER,
+        SITE,
+        FINISH,
+        (
+            59344,
+            80,
+            1_051_208_072,
+            2_345_087_354,
+            flags::FIN | flags::ACK,
+        ),
+    ),
+    (
+        CLIENT,
+        SERVER,
+        LONGEST,
+        (1, 2, 3, 4, flags::URG | flags::ACK | flags::FIN),
+    ),
 ];
 
 fn fields_of(tcp: Tcp<'_>) -> Fields {
@@ -93,6 +117,8 @@ fn tcp_fields_are_those_that_tshark_prints(rt: HostRuntime) -> Result<(), L4Faul
         assert_eq!(rt; tcp.full_payload(), 0);
         assert!(rt; tcp.payload().is_empty());
     }
+    let pushed = Tcp::read(CLIENT, SERVER, ODD, 23, true)?;
+    assert_eq!(rt; pushed.flags(), flags::PSH | flags::ACK);
     Ok(())
 }
 

@@ -1,4 +1,4 @@
-ghost use Rattle.std.specs.Prelude.{◌≡◌, ◌<◌, ◌+◌, ℕ, List, [], ◌∷◌, ◌++◌, length, map, Some, IfOk, OnOk, OnErr, IfSome, OnSome, IsErr, IsNone, IfNone, slice_get};
+ghost use Rattle.std.specs.Prelude.{◌≡◌, ◌<◌, ◌+◌, ℕ, List, [], ◌∷◌, ◌++◌, length, map, Some, IfOk, OnOk, OnErr, IfSome, IsErr, IsNone, IfNone, slice_get};
 ghost use Rattle.zk_typed.specs.declared.program.Program.{Program};
 ghost use Rattle.zk_typed.specs.declared.program.Handler.{Handler};
 ghost use Rattle.zk_typed.specs.Exec.{exec_body, end_of};

@@ -129,3 +129,31 @@ a_refused_script_asks_for_no_capture = refl
 a_script_is_asked_for_before_its_capture : (outcome run (two header [])).asked ≡ codes "s.zeek" ∷ codes "c.pcap" ∷ []
 unfolding sign_at name_at word_at repeated behind_comma listed call_at named_at expr_at stmt_at stmts_at block_at type_at param_at listed_params_at params_at handler_at decl_at decls_from tree_of one two run header
 a_script_is_asked_for_before_its_capture = refl
+
+-- neither of these two is there: the script is missed, and the capture is not asked for
+missing : List (List ℕ)
+missing = codes "run" ∷ codes "-b" ∷ codes "-r" ∷ codes "x.pcap" ∷ codes "x.zeek" ∷ []
+
+of_two_missing_files_the_script_is_named : (outcome missing (two header [])).ending ≡ NoInput (codes "x.zeek")
+unfolding one two missing
+of_two_missing_files_the_script_is_named = refl
+
+of_two_missing_files_the_script_alone_is_asked_for : (outcome missing (two header [])).asked ≡ codes "x.zeek" ∷ []
+unfolding one two missing
+of_two_missing_files_the_script_alone_is_asked_for = refl
+
+-- one file that is the script and the capture
+both : List (List ℕ)
+both = codes "run" ∷ codes "-b" ∷ codes "-r" ∷ codes "s.zeek" ∷ codes "s.zeek" ∷ []
+
+a_file_named_twice_is_asked_for_twice : (outcome both (two header [])).asked ≡ codes "s.zeek" ∷ codes "s.zeek" ∷ []
+unfolding sign_at name_at word_at repeated behind_comma listed call_at named_at expr_at stmt_at stmts_at block_at type_at param_at listed_params_at params_at handler_at decl_at decls_from tree_of one two both
+a_file_named_twice_is_asked_for_twice = refl
+
+an_empty_file_is_a_script_and_no_capture : (outcome both (two header [])).ending ≡ CaptureRefused (codes "s.zeek") 0
+unfolding sign_at name_at word_at repeated behind_comma listed call_at named_at expr_at stmt_at stmts_at block_at type_at param_at listed_params_at params_at handler_at decl_at decls_from tree_of one two both
+an_empty_file_is_a_script_and_no_capture = refl
+
+a_refused_capture_lets_nothing_run : (outcome run (two [] (codes "event zeek_init() { print 1; }"))).said ≡ []
+unfolding sign_at name_at word_at repeated behind_comma listed call_at named_at expr_at stmt_at stmts_at block_at type_at param_at listed_params_at params_at handler_at decl_at decls_from tree_of one two run
+a_refused_capture_lets_nothing_run = refl

@@ -1,5 +1,5 @@
 ghost use Rattle.std.specs.Prelude.{◌≡◌, ◌↔◌, ◌++◌, List, ℕ, [], Some, IsTrue, Ok, Err, MatchResult};
-ghost use Rattle.zk_top.specs.Command.{Command as Words, IsCommand, IsFirstNotUnderstood, is_file_name, fits, list_slots, run_slots, begins_with, command_of, begins, understood, understand, command_seen};
+ghost use Rattle.zk_top.specs.Command.{Command as Words, IsCommand, IsFirstNotUnderstood, is_file_name, fits, begins_with, command_of, begins, understood, understand, command_seen};
 
 use zk_base::Word;
 

@@ -37,6 +37,9 @@ pub fn run<S: Shelf>(alloc: Global, words: &[Word], shelf: &mut S) -> Ending
         → HasRisen (S.outside shelf.old).read_faults (S.outside shelf.new).read_faults }
     ensures write_fault { result ≡ Ending.WriteFault
         → HasRisen (S.outside shelf.old).write_faults (S.outside shelf.new).write_faults }
+
+    // A fault is never told as want of memory.
+    ensures no_memory { result ≡ Ending.NoMemory → SameFaults (S.outside shelf.old) (S.outside shelf.new) }
     ensures inputs { (S.outside shelf.new).inputs ≡ (S.outside shelf.old).inputs }
 {
     match attempt(alloc, words, shelf) {

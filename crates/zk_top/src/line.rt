@@ -1,5 +1,4 @@
 ghost use Rattle.std.specs.Prelude.{◌≡◌, ◌++◌, decimal, OnOk};
-ghost use Rattle.zk_text.specs.Span.{span_decimal};
 ghost use Rattle.zk_top.specs.Line.{line_of, fields_of, tab};
 ghost use Rattle.zk_top.specs.Item.{seen_at, what_seen};
 

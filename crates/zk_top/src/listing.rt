@@ -1,4 +1,4 @@
-ghost use Rattle.std.specs.Prelude.{◌≡◌, [], Some, IfOk, OnOk, IfErr};
+ghost use Rattle.std.specs.Prelude.{[], IfOk, OnOk, IfErr};
 ghost use Rattle.zk_top.specs.Item.{items_of};
 ghost use Rattle.zk_top.specs.Line.{lines_of};
 ghost use Rattle.zk_top.specs.Outcome.{listing};

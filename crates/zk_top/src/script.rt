@@ -1,4 +1,4 @@
-ghost use Rattle.std.specs.Prelude.{◌≡◌, ◌+◌, ℕ, List, Result as Either, [], ◌∷◌, length, IfOk, IfErr};
+ghost use Rattle.std.specs.Prelude.{◌≡◌, Result as Either, [], ◌∷◌, IfOk, IfErr};
 ghost use Rattle.zk_base.specs.declared.endings.Ending.{Ending as Ends};
 ghost use Rattle.zk_typed.specs.declared.program.Program.{Program as Typed};
 ghost use Rattle.zk_top.specs.Lowering.{code_or_ending};

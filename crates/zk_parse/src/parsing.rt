@@ -20,7 +20,9 @@ pub fn parse(alloc: Global, tokens: &[Token]) -> Result<Tree, ParseFault>
     ensures alone { IfOk result (λ tree. (other : Syntax) → Reads tokens.now other → other ≡ tree) }
     // Where they are those of a tree, nothing is refused.
     ensures only { (tree : Syntax) → Reads tokens.now tree → UnlessNoMemory result (Ok tree) }
+    // A token is refused exactly where those before it are whole declarations and none reads from it.
     ensures refused { (at : ℕ) → result ≡ Err (ParseFault.NoTree at) → IsRefusedAt tokens.now at }
+    ensures stuck { (at : ℕ) → IsRefusedAt tokens.now at → UnlessNoMemory result (Err at) }
     // Which tree or token it is.
     ensures exact { UnlessNoMemory result (tree_of tokens.now) }
 {

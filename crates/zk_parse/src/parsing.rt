@@ -4,7 +4,7 @@ ghost use Rattle.zk_tree.specs.Reading.{Reads, IsRefusedAt};
 ghost use Rattle.zk_parse.specs.Reading.{tree_of, UnlessNoMemory};
 
 use crate::decls::decl;
-use crate::fault::{ParseFault, Unread};
+use crate::fault::{FormFault, ParseFault};
 use std::alloc::Global;
 use zk_base::Sequence;
 use zk_tree::{Token, Tree};
@@ -41,12 +41,12 @@ fn tree(alloc: Global, tokens: &[Token]) -> Result<Tree, ParseFault>
                 decls.push(decl)?;
                 rest = after;
             }
-            Err(Unread::NoForm) => {
+            Err(FormFault::NoForm) => {
                 return Err(ParseFault::NoTree {
                     at: tokens.len() - rest.len(),
                 });
             }
-            Err(Unread::NoMemory) => return Err(ParseFault::NoMemory),
+            Err(FormFault::NoMemory) => return Err(ParseFault::NoMemory),
         }
     }
     let decls = Sequence::from(decls);

@@ -4,8 +4,8 @@ use Rattle.std.specs.Prelude.{IfOk}
 use Rattle.std.proofs.lemmas.List.{append-nil}
 use Rattle.zk_tree.specs.declared.token.Token.{Token}
 use Rattle.zk_tree.specs.declared.token.Sign.TheVariants.{Comma}
-use Rattle.zk_parse.specs.declared.fault.Unread.{Unread}
-use Rattle.zk_parse.specs.declared.fault.Unread.TheVariants as unread
+use Rattle.zk_parse.specs.declared.fault.FormFault.{FormFault}
+use Rattle.zk_parse.specs.declared.fault.FormFault.TheVariants as form
 use Rattle.zk_parse.specs.Reading.{◌>>=◌, Fails, Gives, begins, repeated, behind_comma, listed}
 use Rattle.zk_tree.specs.Grammar.{Spelled}
 use Rattle.zk_parse.proofs.TokenLaws.{Starts-length}
@@ -69,9 +69,9 @@ pub is_done : {A : Type 0} (goes_on : List Token → Bool) (read : List Token �
 is_done goes_on read front rest whole so_far stops = done goes_on read front rest whole stops so_far.0 so_far.2
 
 -- a form whose part does not read does not read
-pub fails : {Y Z : Type 0} (e : Unread) (part : Option Y) (whole : Option Z) → (part ≡ None → whole ≡ None) → Fails e part → Fails e whole
-fails unread.NoForm part whole none h = none h
-fails unread.NoMemory part whole none h = tt
+pub fails : {Y Z : Type 0} (e : FormFault) (part : Option Y) (whole : Option Z) → (part ≡ None → whole ≡ None) → Fails e part → Fails e whole
+fails form.NoForm part whole none h = none h
+fails form.NoMemory part whole none h = tt
 
 with_none : {A : Type 0} (read : Option (List A × List Token)) → with_front [] read ≡ read
 with_none (Some x) = refl
@@ -89,7 +89,7 @@ unfolding listed
 listed_begins read tokens first rest e = (length rest, omega arith, rw e refl)
 
 -- the tokens behind what is read are no more than there were
-pub gives_shorter : {A X : Type 0} (spell : A → List Spelled) (read : List Token → Option (A × List Token)) → IsTaken spell read → (view : X → A × List Token) (result : Result X Unread) (tokens : List Token)
+pub gives_shorter : {A X : Type 0} (spell : A → List Spelled) (read : List Token → Option (A × List Token)) → IsTaken spell read → (view : X → A × List Token) (result : Result X FormFault) (tokens : List Token)
     → Gives view result (read tokens) → IfOk result (λ x. length (view x).1 ≤ length tokens)
 gives_shorter spell read one view (Ok x) tokens gives =
     let long = Starts-length (spell (view x).0) tokens (view x).1 (one tokens (view x) gives) in

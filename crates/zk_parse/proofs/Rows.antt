@@ -8,7 +8,7 @@ use Rattle.zk_tree.specs.declared.tree.Decl.TheVariants as decl
 use Rattle.zk_tree.specs.declared.tree.«Type».TheVariants as of
 use Rattle.zk_tree.specs.declared.tree.Stmt.TheVariants as stmt
 use Rattle.zk_tree.specs.declared.tree.Expr.TheVariants as expr
-use Rattle.zk_tree.specs.Grammar.{word}
+use Rattle.zk_tree.specs.Grammar.{word, AreSpelled, spelled_tree}
 use Rattle.zk_parse.specs.Reading.{sign_at, name_at, word_at, repeated, behind_comma, listed, call_at, named_at, expr_at, stmt_at, stmts_at, block_at, type_at, param_at, listed_params_at, params_at, handler_at, decl_at, decls_from, tree_of}
 
 -- tokens at places 0, 1, ..
@@ -75,3 +75,45 @@ an_unknown_name_is_refused = refl
 a_statement_without_values_is_refused : tree_of (at_places 0 (word (codes "event") ∷ word (codes "zeek_init") ∷ no_params ++ word (codes "print") ∷ ended)) ≡ Err 0
 unfolding sign_at name_at word_at repeated behind_comma listed call_at named_at expr_at stmt_at stmts_at block_at type_at param_at listed_params_at params_at handler_at decl_at decls_from tree_of
 a_statement_without_values_is_refused = refl
+
+-- event zeek_init(){print VALUES;}
+abbrev printing : List TokenKind → List TokenKind
+printing values = word (codes "event") ∷ word (codes "zeek_init") ∷ no_params ++ word (codes "print") ∷ values ++ ended
+
+-- print 1,;
+a_comma_behind_the_last_value_is_refused : tree_of (at_places 0 (printing (token.Number 1 ∷ comma ∷ []))) ≡ Err 0
+unfolding sign_at name_at word_at repeated behind_comma listed call_at named_at expr_at stmt_at stmts_at block_at type_at param_at listed_params_at params_at handler_at decl_at decls_from tree_of
+a_comma_behind_the_last_value_is_refused = refl
+
+-- print T();
+a_truth_value_is_no_function : tree_of (at_places 0 (printing (word (codes "T") ∷ token.Sign sign.OpenParenthesis ∷ token.Sign sign.CloseParenthesis ∷ []))) ≡ Err 0
+unfolding sign_at name_at word_at repeated behind_comma listed call_at named_at expr_at stmt_at stmts_at block_at type_at param_at listed_params_at params_at handler_at decl_at decls_from tree_of
+a_truth_value_is_no_function = refl
+
+-- print network_time;
+a_function_is_no_value : tree_of (at_places 0 (printing (word (codes "network_time") ∷ []))) ≡ Err 0
+unfolding sign_at name_at word_at repeated behind_comma listed call_at named_at expr_at stmt_at stmts_at block_at type_at param_at listed_params_at params_at handler_at decl_at decls_from tree_of
+a_function_is_no_value = refl
+
+-- event zeek_init(,){}
+a_comma_is_no_parameter_list : tree_of (at_places 0 (
+    word (codes "event") ∷ word (codes "zeek_init") ∷ token.Sign sign.OpenParenthesis ∷ comma ∷ token.Sign sign.CloseParenthesis
+    ∷ token.Sign sign.OpenBrace ∷ token.Sign sign.CloseBrace ∷ []
+    )) ≡ Err 0
+unfolding sign_at name_at word_at repeated behind_comma listed call_at named_at expr_at stmt_at stmts_at block_at type_at param_at listed_params_at params_at handler_at decl_at decls_from tree_of
+a_comma_is_no_parameter_list = refl
+
+-- a byte that begins no token, behind a whole declaration and within one
+what_is_unread_begins_no_declaration : tree_of (at_places 0 (one_handler ++ token.Unread ∷ [])) ≡ Err 9
+unfolding sign_at name_at word_at repeated behind_comma listed call_at named_at expr_at stmt_at stmts_at block_at type_at param_at listed_params_at params_at handler_at decl_at decls_from tree_of
+what_is_unread_begins_no_declaration = refl
+
+nothing_reads_over_what_is_unread : tree_of (at_places 0 (printing (token.Unread ∷ []))) ≡ Err 0
+unfolding sign_at name_at word_at repeated behind_comma listed call_at named_at expr_at stmt_at stmts_at block_at type_at param_at listed_params_at params_at handler_at decl_at decls_from tree_of
+nothing_reads_over_what_is_unread = refl
+
+-- the printer spells the tree that is read, token by token
+a_handler_is_spelled : AreSpelled (spelled_tree (record {
+  decls = decl.Event 0 (codes "zeek_init") [] (record { place = 4; stmts = stmt.Print 5 (expr.Number 6 1 ∷ []) ∷ [] }) ∷ [];
+})) (at_places 0 one_handler)
+a_handler_is_spelled = (refl, refl, (refl, tt, (refl, tt, (refl, tt, (refl, refl, (refl, refl, (refl, refl, (refl, tt, (refl, tt, tt)))))))))

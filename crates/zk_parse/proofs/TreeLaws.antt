@@ -3,7 +3,7 @@ use Rattle.std.proofs.Common.{◌≡◌, ◌≢◌, ℕ, zero, suc, ◌+◌, ◌
 use Rattle.std.specs.Prelude.{IfOk}
 use Rattle.std.specs.List.{flat_map, list_all}
 use Rattle.std.proofs.lemmas.Bool.{and_parts}
-use Rattle.std.proofs.lemmas.List.{append-nil, take-append-drop}
+use Rattle.std.proofs.lemmas.List.{append-nil, length-drop, take-append-drop}
 use Rattle.std.proofs.lemmas.List.Concat.{flat_map-cons}
 use Rattle.zk_tree.specs.declared.token.Token.{Token}
 use Rattle.zk_tree.specs.declared.tree.Decl.{Decl}
@@ -189,6 +189,50 @@ refused_at tokens at stuck =
       none = λ d count is here. no_decl d count (drop at tokens) (ap decl_at behind ∙ stuck.none) is here;
     }
 
+-- the answer where what is left begins no declaration
+abbrev unread_from : ℕ → List Token → Result (List Decl) ℕ
+unread_from all rest = Err (all - length rest)
+
+-- declarations, and then what begins none, are refused at its first token
+decls_stuck : (n all : ℕ) (tokens rest : List Token) (decls : List Decl) → length tokens ≤ n → AreDecls decls tokens rest → 0 < length rest → decl_at rest ≡ None
+    → decls_from n all tokens ≡ Err (all - length rest)
+decls_stuck n all [] rest [] le h more none = absurd (omega (arith, more, ap length h.0))
+decls_stuck n all [] rest (d ∷ decls) le h more none =
+    let q = Starts-parts (spelled_decl d) (flat_map spelled_decl decls) [] rest (rw flat_map-cons at h.0) in
+    absurd (omega (arith, decl_shorter d [] q.0 q.1))
+decls_stuck zero all (t ∷ tokens) rest decls le h more none = absurd (omega arith)
+decls_stuck (suc n) all (t ∷ tokens) rest [] le h more none =
+    decls_unread n all t tokens (ap decl_at h.0 ∙ none) ∙ ap (λ (ts : List Token). unread_from all ts) h.0
+decls_stuck (suc n) all (t ∷ tokens) rest (d ∷ decls) le h more none =
+    let q = Starts-parts (spelled_decl d) (flat_map spelled_decl decls) (t ∷ tokens) rest (rw flat_map-cons at h.0) in
+    let forms = and_parts (is_decl d) (list_all is_decl decls) h.1 in
+    let first = decl_again d (t ∷ tokens) q.0 forms.0 q.1 in
+    let short = decl_shorter d (t ∷ tokens) q.0 q.1 in
+    let others = decls_stuck n all q.0 rest decls (omega arith) (q.2, forms.1) more none in
+    decls_read n all t tokens (d, q.0) first ∙ ap (with_first d) others
+
+-- where no declaration is spelled at the front, none is read
+unspelled : (tokens : List Token) → ((d : Decl) (count : ℕ) → is_decl d ≡ true → AreSpelled (spelled_decl d) (take count tokens) → ⊥) → decl_at tokens ≡ None
+unspelled tokens never = elim (option_cases (decl_at tokens)) [
+  | inl none ↦ none
+  | inr found ↦
+      let taken = decl_taken tokens found.0 found.1 in
+      let front = spelled_decl found.0.0 in
+      absurd (never found.0.0 (length front) taken.1 (Starts-spelled front tokens found.0.1 taken.0).0)
+]
+
+pub tree_stuck : (tokens : List Token) (at : ℕ) → IsRefusedAt tokens at → tree_of tokens ≡ Err at
+unfolding tree_of
+tree_stuck tokens at refused =
+    let all = length tokens in
+    let rest = drop at tokens in
+    let front = spelled-Starts (spelled_tree refused.before) (take at tokens) rest refused.read.spelled in
+    let are = subst (λ (ts : List Token). Starts (spelled_tree refused.before) ts rest) (take-append-drop at tokens) front in
+    let more : 0 < length rest = omega (arith, length-drop at tokens, refused.within) in
+    let place : all - length rest ≡ at = omega (arith, length-drop at tokens, refused.within) in
+    let stuck = decls_stuck all all tokens rest refused.before.decls (omega arith) (are, refused.read.forms) more (unspelled rest refused.none) in
+    ap as_tree stuck ∙ ap (λ (n : ℕ). as_tree (Err n)) place
+
 pub tree_refused : (tokens : List Token) (at : ℕ) → tree_of tokens ≡ Err at → IsRefusedAt tokens at
 unfolding tree_of
 tree_refused tokens at e =
@@ -213,6 +257,10 @@ pub answer_refused : (tokens : List Token) (result : Result Tree ParseFault) →
     → (at : ℕ) → result ≡ Err (NoTree at) → IsRefusedAt tokens at
 answer_refused tokens result exact at e =
     tree_refused tokens at (subst (λ (r : Result Tree ParseFault). UnlessNoMemory r (tree_of tokens)) e exact)
+
+pub answer_stuck : (tokens : List Token) (result : Result Tree ParseFault) → UnlessNoMemory result (tree_of tokens)
+    → (at : ℕ) → IsRefusedAt tokens at → UnlessNoMemory result (Err at)
+answer_stuck tokens result exact at refused = subst (UnlessNoMemory result) (tree_stuck tokens at refused) exact
 
 -- ---- reading one declaration after another, as a loop does
 

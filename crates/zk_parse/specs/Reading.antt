@@ -20,8 +20,8 @@ use Rattle.zk_tree.specs.declared.tree.Expr.TheVariants as expr
 use Rattle.zk_tree.specs.Forms.{is_decl}
 use Rattle.zk_parse.specs.declared.fault.ParseFault.{ParseFault}
 use Rattle.zk_parse.specs.declared.fault.ParseFault.TheVariants.{NoTree, NoMemory}
-use Rattle.zk_parse.specs.declared.fault.Unread.{Unread}
-use Rattle.zk_parse.specs.declared.fault.Unread.TheVariants as unread
+use Rattle.zk_parse.specs.declared.fault.FormFault.{FormFault}
+use Rattle.zk_parse.specs.declared.fault.FormFault.TheVariants as form
 
 -- A form that is read from the front is what it says and the tokens behind it.
 infixl 10 ◌>>=◌
@@ -30,13 +30,13 @@ abbrev pub ◌>>=◌ : {A B : Type 0} → Option A → (A → Option B) → Opti
 None >>= f = None
 
 -- what a function returned, seen by view, is what reading gives, unless memory ran out
-abbrev pub Fails : {Y : Type 0} → Unread → Option Y → Type 0
-Fails unread.NoForm read = read ≡ None
-Fails unread.NoMemory read = Unit {0}
+abbrev pub Fails : {Y : Type 0} → FormFault → Option Y → Type 0
+Fails form.NoForm read = read ≡ None
+Fails form.NoMemory read = Unit {0}
 
-abbrev pub Gives : {X Y : Type 0} → (X → Y) → Result X Unread → Option Y → Type 0
+abbrev pub Gives : {X Y : Type 0} → (X → Y) → Result X FormFault → Option Y → Type 0
 Gives view (Ok x) read = read ≡ Some (view x)
-Gives view (Err unread) read = Fails unread read
+Gives view (Err fault) read = Fails fault read
 
 -- ---- tokens
 

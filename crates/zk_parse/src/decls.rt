@@ -2,7 +2,7 @@ ghost use Rattle.std.specs.Prelude.{◌≡◌, ◌≤◌, length, IfOk};
 ghost use Rattle.std.specs.Option.{option_map};
 ghost use Rattle.zk_parse.specs.Reading.{Gives, type_named, type_at, param_at, listed_params_at, params_at, handler_at, decl_at};
 
-use crate::fault::Unread;
+use crate::fault::FormFault;
 use crate::forms::is_decl;
 use crate::lists::{Item, listed};
 use crate::stmts::block;
@@ -26,19 +26,19 @@ fn type_named(place: u64, name: &[u8]) -> Option<Type>
 
 /// A type.
 #[tactic(auto, unfolding(crate::specs::Reading::type_at))]
-fn type_of(tokens: &[Token]) -> Result<(Type, &[Token]), Unread>
+fn type_of(tokens: &[Token]) -> Result<(Type, &[Token]), FormFault>
     ensures { Gives (λ x. (x.0, x.1.now)) result (type_at tokens.now) }
 {
     let (place, name, rest) = name(tokens)?;
     match type_named(place, name) {
         Some(typed) => Ok((typed, rest)),
-        None => Err(Unread::NoForm),
+        None => Err(FormFault::NoForm),
     }
 }
 
 /// A parameter.
 #[tactic(auto, unfolding(crate::specs::Reading::param_at))]
-fn param(alloc: Global, tokens: &[Token]) -> Result<(Param, &[Token]), Unread>
+fn param(alloc: Global, tokens: &[Token]) -> Result<(Param, &[Token]), FormFault>
     ensures { Gives (λ x. (x.0, x.1.now)) result (param_at tokens.now) }
 {
     let (place, name, rest) = name(tokens)?;
@@ -51,14 +51,14 @@ fn param(alloc: Global, tokens: &[Token]) -> Result<(Param, &[Token]), Unread>
 impl Item for Param {
     ghost at = { param_at };
 
-    fn read(alloc: Global, tokens: &[Token]) -> Result<(Param, &[Token]), Unread> {
+    fn read(alloc: Global, tokens: &[Token]) -> Result<(Param, &[Token]), FormFault> {
         param(alloc, tokens)
     }
 }
 
 /// The parameters before a closing parenthesis.
 #[tactic(auto, unfolding(crate::specs::Reading::listed_params_at))]
-fn listed_params(alloc: Global, tokens: &[Token]) -> Result<(Vec<Param>, &[Token]), Unread>
+fn listed_params(alloc: Global, tokens: &[Token]) -> Result<(Vec<Param>, &[Token]), FormFault>
     ensures { Gives (λ x. (x.0.items, x.1.now)) result (listed_params_at tokens.now) }
 {
     if begins(Sign::CloseParenthesis, tokens) {
@@ -70,7 +70,7 @@ fn listed_params(alloc: Global, tokens: &[Token]) -> Result<(Vec<Param>, &[Token
 
 /// The parameters of a handler, between parentheses.
 #[tactic(auto, unfolding(crate::specs::Reading::params_at))]
-fn params(alloc: Global, tokens: &[Token]) -> Result<(Vec<Param>, &[Token]), Unread>
+fn params(alloc: Global, tokens: &[Token]) -> Result<(Vec<Param>, &[Token]), FormFault>
     ensures { Gives (λ x. (x.0.items, x.1.now)) result (params_at tokens.now) }
 {
     let within = sign(Sign::OpenParenthesis, tokens)?;
@@ -81,7 +81,7 @@ fn params(alloc: Global, tokens: &[Token]) -> Result<(Vec<Param>, &[Token]), Unr
 
 /// A handler, whatever its event and its names are.
 #[tactic(auto, unfolding(crate::specs::Reading::handler_at))]
-fn handler(alloc: Global, tokens: &[Token]) -> Result<(Decl, &[Token]), Unread>
+fn handler(alloc: Global, tokens: &[Token]) -> Result<(Decl, &[Token]), FormFault>
     ensures { Gives (λ x. (x.0, x.1.now)) result (handler_at tokens.now) }
 {
     let (place, rest) = word(b"event".as_slice(), tokens)?;
@@ -103,13 +103,13 @@ fn handler(alloc: Global, tokens: &[Token]) -> Result<(Decl, &[Token]), Unread>
 
 /// A declaration of a form that scripts are made of.
 #[tactic(auto, unfolding(crate::specs::Reading::decl_at))]
-pub fn decl(alloc: Global, tokens: &[Token]) -> Result<(Decl, &[Token]), Unread>
+pub fn decl(alloc: Global, tokens: &[Token]) -> Result<(Decl, &[Token]), FormFault>
     ensures { Gives (λ x. (x.0, x.1.now)) result (decl_at tokens.now) }
 {
     let (decl, rest) = handler(alloc, tokens)?;
     if is_decl(&decl) {
         Ok((decl, rest))
     } else {
-        Err(Unread::NoForm)
+        Err(FormFault::NoForm)
     }
 }

@@ -1,6 +1,6 @@
 ghost use Rattle.zk_parse.specs.Reading.{Gives, call_at, named_at, expr_from, expr_at};
 
-use crate::fault::Unread;
+use crate::fault::FormFault;
 use crate::tokens::{begins, sign};
 use std::alloc::Global;
 use zk_base::Bytes;
@@ -8,11 +8,11 @@ use zk_tree::{Expr, Sign, Token, TokenKind};
 
 /// An expression.
 #[tactic(auto, unfolding(crate::specs::Reading::expr_at))]
-pub fn expr(alloc: Global, tokens: &[Token]) -> Result<(Expr, &[Token]), Unread>
+pub fn expr(alloc: Global, tokens: &[Token]) -> Result<(Expr, &[Token]), FormFault>
     ensures { Gives (λ x. (x.0, x.1.now)) result (expr_at tokens.now) }
 {
     match tokens {
-        [] => Err(Unread::NoForm),
+        [] => Err(FormFault::NoForm),
         [first, rest @ ..] => expr_from(alloc, first.place, &first.kind, rest),
     }
 }
@@ -23,7 +23,7 @@ fn expr_from<'a>(
     place: u64,
     kind: &TokenKind,
     rest: &'a [Token],
-) -> Result<(Expr, &'a [Token]), Unread>
+) -> Result<(Expr, &'a [Token]), FormFault>
     ensures { Gives (λ x. (x.0, x.1.now)) result (expr_from place kind.now rest.now) }
 {
     match kind {
@@ -39,8 +39,7 @@ fn expr_from<'a>(
             let bytes = Bytes::copy_of(alloc, bytes.as_slice())?;
             Ok((Expr::String { place, bytes }, rest))
         }
-        TokenKind::Sign(_) => Err(Unread::NoForm),
-        TokenKind::Unread => Err(Unread::NoForm),
+        TokenKind::Sign(_) | TokenKind::Unread => Err(FormFault::NoForm),
     }
 }
 
@@ -51,7 +50,7 @@ fn named<'a>(
     place: u64,
     name: &[u8],
     rest: &'a [Token],
-) -> Result<(Expr, &'a [Token]), Unread>
+) -> Result<(Expr, &'a [Token]), FormFault>
     ensures { Gives (λ x. (x.0, x.1.now)) result (named_at place name.now rest.now) }
 {
     if name == b"T".as_slice() {
@@ -74,7 +73,7 @@ fn call<'a>(
     place: u64,
     name: &[u8],
     tokens: &'a [Token],
-) -> Result<(Expr, &'a [Token]), Unread>
+) -> Result<(Expr, &'a [Token]), FormFault>
     ensures { Gives (λ x. (x.0, x.1.now)) result (call_at place name.now tokens.now) }
 {
     let within = sign(Sign::OpenParenthesis, tokens)?;

@@ -1,6 +1,6 @@
 ghost use Rattle.std.specs.Prelude.{◌≡◌};
 ghost use Rattle.zk_parse.specs.declared.fault.ParseFault.TheVariants as fault;
-ghost use Rattle.zk_parse.specs.declared.fault.Unread.TheVariants as unread;
+ghost use Rattle.zk_parse.specs.declared.fault.FormFault.TheVariants as form;
 
 use std::alloc::AllocFailed;
 use thiserror::Error;
@@ -36,25 +36,25 @@ impl<T: Drop> From<AllocFailed<T>> for ParseFault {
 
 /// Why a form was not read from the front of tokens.
 #[derive(Clone, Copy)]
-pub enum Unread {
+pub enum FormFault {
     /// The tokens don't begin with it.
     NoForm,
     /// Memory ran out.
     NoMemory,
 }
 
-impl From<Mem> for Unread {
-    ghost from_gives = { λ _ e. e ≡ unread.NoMemory };
+impl From<Mem> for FormFault {
+    ghost from_gives = { λ _ e. e ≡ form.NoMemory };
 
-    fn from(_: Mem) -> Unread {
-        Unread::NoMemory
+    fn from(_: Mem) -> FormFault {
+        FormFault::NoMemory
     }
 }
 
-impl<T: Drop> From<AllocFailed<T>> for Unread {
-    ghost from_gives = { λ _ e. e ≡ unread.NoMemory };
+impl<T: Drop> From<AllocFailed<T>> for FormFault {
+    ghost from_gives = { λ _ e. e ≡ form.NoMemory };
 
-    fn from(_: AllocFailed<T>) -> Unread {
-        Unread::NoMemory
+    fn from(_: AllocFailed<T>) -> FormFault {
+        FormFault::NoMemory
     }
 }

@@ -3,7 +3,7 @@ ghost use Rattle.zk_tree.specs.declared.token.Token.{Token as Word};
 ghost use Rattle.zk_tree.specs.declared.token.Sign.TheVariants.{Comma};
 ghost use Rattle.zk_parse.specs.Reading.{Gives, listed, behind_comma};
 
-use crate::fault::Unread;
+use crate::fault::FormFault;
 use crate::tokens::{begins, sign};
 use std::alloc::Global;
 use zk_tree::{Sign, Token};
@@ -14,14 +14,17 @@ pub trait Item: Sized {
     ghost at: { List Word → Option (Self × List Word) };
 
     /// Reads one.
-    fn read(alloc: Global, tokens: &[Token]) -> Result<(Self, &[Token]), Unread>
+    fn read(alloc: Global, tokens: &[Token]) -> Result<(Self, &[Token]), FormFault>
         ensures gives { Gives (λ x. (x.0, x.1.now)) result (at tokens.now) }
         ensures shorter { IfOk result (λ x. length x.1.now ≤ length tokens.now) };
 }
 
 /// One, and others behind commas.
 #[tactic(auto, unfolding(crate::specs::Reading::listed))]
-pub fn listed<T: Item + Drop>(alloc: Global, tokens: &[Token]) -> Result<(Vec<T>, &[Token]), Unread>
+pub fn listed<T: Item + Drop>(
+    alloc: Global,
+    tokens: &[Token],
+) -> Result<(Vec<T>, &[Token]), FormFault>
     ensures { Gives (λ x. (x.0.items, x.1.now)) result (listed T.at tokens.now) }
 {
     let (first, mut rest) = T::read(alloc, tokens)?;
@@ -37,7 +40,7 @@ pub fn listed<T: Item + Drop>(alloc: Global, tokens: &[Token]) -> Result<(Vec<T>
 
 /// One behind a comma.
 #[tactic(auto, unfolding(crate::specs::Reading::behind_comma))]
-fn behind_comma<T: Item + Drop>(alloc: Global, tokens: &[Token]) -> Result<(T, &[Token]), Unread>
+fn behind_comma<T: Item + Drop>(alloc: Global, tokens: &[Token]) -> Result<(T, &[Token]), FormFault>
     ensures gives { Gives (λ x. (x.0, x.1.now)) result (behind_comma T.at tokens.now) }
     ensures shorter { IfOk result (λ x. length x.1.now < length tokens.now) }
 {

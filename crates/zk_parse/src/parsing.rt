@@ -4,7 +4,7 @@ ghost use Rattle.zk_tree.specs.Reading.{Reads, IsRefusedAt};
 ghost use Rattle.zk_parse.specs.Reading.{tree_of, UnlessNoMemory};
 
 use crate::decls::decl;
-use crate::fault::{ParseFault, Unread};
+use crate::fault::{FormFault, ParseFault};
 use std::alloc::Global;
 use zk_base::Sequence;
 use zk_tree::{Token, Tree};
@@ -20,7 +20,9 @@ pub fn parse(alloc: Global, tokens: &[Token]) -> Result<Tree, ParseFault>
     ensures alone { IfOk result (λ tree. (other : Syntax) → Reads tokens.now other → other ≡ tree) }
     // Where they are those of a tree, nothing is refused.
     ensures only { (tree : Syntax) → Reads tokens.now tree → UnlessNoMemory result (Ok tree) }
+    // A token is refused exactly where those before it are whole declarations and none reads from it.
     ensures refused { (at : ℕ) → result ≡ Err (ParseFault.NoTree at) → IsRefusedAt tokens.now at }
+    ensures stuck { (at : ℕ) → IsRefusedAt tokens.now at → UnlessNoMemory result (Err at) }
     // Which tree or token it is.
     ensures exact { UnlessNoMemory result (tree_of tokens.now) }
 {
@@ -39,12 +41,12 @@ fn tree(alloc: Global, tokens: &[Token]) -> Result<Tree, ParseFault>
                 decls.push(decl)?;
                 rest = after;
             }
-            Err(Unread::NoForm) => {
+            Err(FormFault::NoForm) => {
                 return Err(ParseFault::NoTree {
                     at: tokens.len() - rest.len(),
                 });
             }
-            Err(Unread::NoMemory) => return Err(ParseFault::NoMemory),
+            Err(FormFault::NoMemory) => return Err(ParseFault::NoMemory),
         }
     }
     let decls = Sequence::from(decls);

@@ -2,7 +2,7 @@ ghost use Rattle.std.specs.Prelude.{◌≤◌, ◌<◌, length, IfOk};
 ghost use Rattle.zk_parse.specs.Reading.{Gives, expr_at, stmt_at, stmts_at, place_of, block_at};
 
 use crate::exprs::expr;
-use crate::fault::Unread;
+use crate::fault::FormFault;
 use crate::lists::{Item, listed};
 use crate::tokens::{begins, place_of, sign, word};
 use std::alloc::Global;
@@ -12,14 +12,14 @@ use zk_tree::{Block, Expr, Sign, Stmt, Token};
 impl Item for Expr {
     ghost at = { expr_at };
 
-    fn read(alloc: Global, tokens: &[Token]) -> Result<(Expr, &[Token]), Unread> {
+    fn read(alloc: Global, tokens: &[Token]) -> Result<(Expr, &[Token]), FormFault> {
         expr(alloc, tokens)
     }
 }
 
 /// A statement.
 #[tactic(auto, unfolding(crate::specs::Reading::stmt_at))]
-fn stmt(alloc: Global, tokens: &[Token]) -> Result<(Stmt, &[Token]), Unread>
+fn stmt(alloc: Global, tokens: &[Token]) -> Result<(Stmt, &[Token]), FormFault>
     ensures { Gives (λ x. (x.0, x.1.now)) result (stmt_at tokens.now) }
 {
     let (place, rest) = word(b"print".as_slice(), tokens)?;
@@ -31,7 +31,7 @@ fn stmt(alloc: Global, tokens: &[Token]) -> Result<(Stmt, &[Token]), Unread>
 
 /// Statements up to a closing brace.
 #[tactic(auto, unfolding(crate::specs::Reading::stmts_at))]
-fn stmts(alloc: Global, tokens: &[Token]) -> Result<(Vec<Stmt>, &[Token]), Unread>
+fn stmts(alloc: Global, tokens: &[Token]) -> Result<(Vec<Stmt>, &[Token]), FormFault>
     ensures { Gives (λ x. (x.0.items, x.1.now)) result (stmts_at tokens.now) }
 {
     let mut stmts = Vec::new(alloc);
@@ -47,7 +47,7 @@ fn stmts(alloc: Global, tokens: &[Token]) -> Result<(Vec<Stmt>, &[Token]), Unrea
 
 /// Statements between braces.
 #[tactic(auto, unfolding(crate::specs::Reading::block_at))]
-pub fn block(alloc: Global, tokens: &[Token]) -> Result<(Block, &[Token]), Unread>
+pub fn block(alloc: Global, tokens: &[Token]) -> Result<(Block, &[Token]), FormFault>
     ensures { Gives (λ x. (x.0, x.1.now)) result (block_at tokens.now) }
 {
     let within = sign(Sign::OpenBrace, tokens)?;

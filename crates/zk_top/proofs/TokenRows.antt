@@ -95,3 +95,30 @@ a_number_ends_before_a_letter = refl
 nothing_stands_behind_what_is_unread : tokens_of (codes "@ a") ≡ at 0 token.Unread ∷ []
 unfolding at
 nothing_stands_behind_what_is_unread = refl
+
+zeros_in_front_may_be_many : tokens_of (codes "0000000000000000000000018446744073709551615") ≡ at 0 (token.Number 18446744073709551615) ∷ []
+unfolding at
+zeros_in_front_may_be_many = refl
+
+-- a, and a CR
+a_cr_at_the_end_of_the_text_is_unread : tokens_of (97 ∷ 13 ∷ []) ≡ at 0 (token.Name (codes "a")) ∷ at 1 token.Unread ∷ []
+unfolding at
+a_cr_at_the_end_of_the_text_is_unread = refl
+
+-- #, a CR, a, an LF, and b
+a_cr_alone_ends_no_comment : tokens_of (35 ∷ 13 ∷ 97 ∷ 10 ∷ 98 ∷ []) ≡ at 4 (token.Name (codes "b")) ∷ []
+unfolding at
+a_cr_alone_ends_no_comment = refl
+
+a_zero_byte_is_unread : tokens_of (97 ∷ 0 ∷ []) ≡ at 0 (token.Name (codes "a")) ∷ at 1 token.Unread ∷ []
+unfolding at
+a_zero_byte_is_unread = refl
+
+a_byte_from_128_on_is_no_letter : tokens_of (97 ∷ 233 ∷ []) ≡ at 0 (token.Name (codes "a")) ∷ at 1 token.Unread ∷ []
+unfolding at
+a_byte_from_128_on_is_no_letter = refl
+
+-- "\" and no more
+an_escaped_quote_closes_no_string : tokens_of (34 ∷ 92 ∷ 34 ∷ []) ≡ at 0 token.Unread ∷ []
+unfolding at
+an_escaped_quote_closes_no_string = refl

@@ -31,7 +31,7 @@ abbrev pub found_at : {X : Type 0} → (List ℕ → Option (X × ℕ)) → List
 found_at reader text place = option_map (λ found. (found.0, place + found.1)) (reader (drop place text))
 
 -- A byte that stands between tokens, in front of the rest: a blank (32), a tab (9), an LF (10), or a
--- CR (13) with an LF behind it.
+-- CR (13) with an LF behind it. (`slice_index` is 0 past the end of a text, so no LF and no quote.)
 abbrev pub separates : ℕ → List ℕ → Bool
 separates byte rest = byte == 32 || byte == 9 || byte == 10 || (byte == 13 && slice_index rest 0 == 10)
 

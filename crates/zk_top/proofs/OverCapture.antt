@@ -1,5 +1,7 @@
 -- What is done over a capture, or over none.
-use Rattle.std.proofs.Common.{◌≡◌, ◌≢◌, ℕ, List, [], ◌∷◌, Option, Some, None, Result, Ok, Err, IfErr, IfSome, refl, sym, ap, subst, ◌∙◌}
+use Rattle.std.proofs.Common.{◌≡◌, ◌≢◌, ℕ, ◌^◌, ◌<◌, inl, inr, cond, length, length-append, arith, List, [], ◌∷◌, Option, Some, None, Result, Ok, Err, IfErr, IfSome, refl, sym, ap, subst, ◌∙◌}
+use Rattle.std.proofs.lemmas.Bool.{lt-ltb}
+use Rattle.std.proofs.lemmas.List.{take-append-le}
 use Rattle.zk_base.specs.declared.endings.Ending.{Ending}
 use Rattle.zk_base.specs.declared.endings.Ending.TheVariants as ending
 use Rattle.zk_base.specs.Shelf.{Files, Outside, HasRisen}
@@ -8,12 +10,16 @@ use Rattle.zk_pcap.specs.declared.captures.CaptureEnding.{CaptureEnding}
 use Rattle.zk_pcap.specs.declared.captures.CaptureEnding.TheVariants.{Whole, Cut}
 use Rattle.zk_pcap.specs.declared.faults.CaptureFault.{CaptureFault}
 use Rattle.zk_pcap.specs.declared.faults.CaptureFault.TheVariants as fault
-use Rattle.zk_pcap.specs.Capture.{capture_of, UnlessNoMemory}
+use Rattle.zk_base.specs.declared.endings.ScriptKind.TheVariants.{TooLarge}
+use Rattle.zk_pcap.specs.Capture.{capture_of, capture_after, UnlessNoMemory}
+use Rattle.zk_pcap.specs.Header.{counted, header_of}
 use Rattle.zk_typed.specs.declared.program.Program.{Program}
 use Rattle.zk_top.specs.declared.stop.Stop.{Stop}
-use Rattle.zk_top.specs.Script.{Refusal, script_of}
+use Rattle.zk_parse.specs.Reading.{tree_of}
+use Rattle.zk_top.specs.Script.{Refusal, script_max, program_by, script_of}
+use Rattle.zk_top.specs.Tokens.{tokens_of}
 use Rattle.zk_top.specs.Outcome.{over_capture, judged, opened, accepted, loaded, end_of_capture}
-use Rattle.zk_top.specs.Run.{IsWhole, IsRefusal, IsOfCommand, IsFront, DoesAll, DoesPart, Finds, Fulfils, BreaksOff}
+use Rattle.zk_top.specs.Run.{IsWhole, IsRefusal, IsOfCommand, IsFront, IsReadBeyond, IsReadOf, DoesAll, DoesPart, Finds, Fulfils, BreaksOff}
 use Rattle.zk_top.proofs.Doing.{front_none, front_trans, does_both_all, does_both_part}
 
 -- a refusal that isn't for want of memory
@@ -132,9 +138,9 @@ fulfilled_refused said_of file old e new found = record {
 
 -- What is found in a file -----------------------------------------------------------------------------------------
 
--- what the inputs are told to hold under a name
-pub told : (inputs : Option Files) (files : Files) (name : List ℕ) (found : Option (List ℕ)) → inputs ≡ Some files → IfSome inputs (λ fs. fs name ≡ found) → files name ≡ found
-told inputs files name found is given = subst (λ o. IfSome o (λ fs. fs name ≡ found)) is given
+-- what is read of the input that is told under a name
+pub told : (inputs : Option Files) (files : Files) (name : List ℕ) (found : Option (List ℕ)) (most : ℕ) → inputs ≡ Some files → IfSome inputs (λ fs. IsReadOf most (fs name) found) → IsReadOf most (files name) found
+told inputs files name found most is given = subst (λ o. IfSome o (λ fs. IsReadOf most (fs name) found)) is given
 
 judged_refusal : (file : List ℕ) (read : Result Capture CaptureFault) → IfErr (judged file read) IsRefusal
 judged_refusal file (Ok capture) = tt
@@ -144,14 +150,42 @@ judged_there : (file : List ℕ) (read : Result Capture CaptureFault) (name : Li
 judged_there file (Ok capture) name same = let never : ⊥ = cc in never
 judged_there file (Err why) name same = let never : ⊥ = cc in never
 
+-- of a capture that is read beyond the bytes that count, those that count are read
+counted_read : (whole bytes : List ℕ) → IsReadBeyond (2 ^ 40) whole bytes → counted bytes ≡ counted whole
+counted_read whole bytes read = elim read.enough [
+  | inl same ↦ ap counted same
+  | inr long ↦ sym (ap counted read.front.joined ∙ take-append-le (2 ^ 40) bytes read.front.rest (omega arith))
+]
+
+capture_read : (whole bytes : List ℕ) → IsReadBeyond (2 ^ 40) whole bytes → capture_of bytes ≡ capture_of whole
+capture_read whole bytes read = ap (λ bs. capture_after (header_of bs) bs) (counted_read whole bytes read)
+
+opened_as : (file bytes : List ℕ) (input : Option (List ℕ)) → IsReadOf (2 ^ 40) input (Some bytes) → judged file (capture_of bytes) ≡ opened file input
+opened_as file bytes None read = absurd read
+opened_as file bytes (Some whole) read = ap (judged file) (capture_read whole bytes read)
+
 -- a capture was read
-pub found_capture : (file bytes : List ℕ) (old : Outside) (found : Result Capture Ending) (new : Outside) → DoesAll (file ∷ []) [] [] old new → IfSome old.inputs (λ files. files file ≡ Some bytes)
+pub found_capture : (file bytes : List ℕ) (old : Outside) (found : Result Capture Ending) (new : Outside) → DoesAll (file ∷ []) [] [] old new → IfSome old.inputs (λ files. IsReadOf (2 ^ 40) (files file) (Some bytes))
     → found ≡ judged file (capture_of bytes) → Finds file (opened file) old found new
 found_capture file bytes old found new read holds is = record {
   does = read;
-  told = λ inputs t. is ∙ ap (opened file) (sym (told old.inputs inputs file (Some bytes) t holds));
+  told = λ inputs t. is ∙ opened_as file bytes (inputs file) (told old.inputs inputs file (Some bytes) (2 ^ 40) t holds);
   refusal = subst (λ r. IfErr r IsRefusal) (sym is) (judged_refusal file (capture_of bytes));
   absent = λ name same. absurd (judged_there file (capture_of bytes) name (sym is ∙ same));
+}
+
+-- there is no capture
+lacks_capture : (file : List ℕ) (input : Option (List ℕ)) → IsReadOf (2 ^ 40) input None → Err (ending.NoInput file) ≡ opened file input
+lacks_capture file None read = refl
+lacks_capture file (Some whole) read = absurd read
+
+pub found_no_capture : (file : List ℕ) (old new : Outside) → DoesAll (file ∷ []) [] [] old new → IfSome old.inputs (λ files. IsReadOf (2 ^ 40) (files file) None) → HasRisen old.absences new.absences
+    → Finds file (opened file) old (Err (ending.NoInput file)) new
+found_no_capture file old new read lacks risen = record {
+  does = read;
+  told = λ inputs t. lacks_capture file (inputs file) (told old.inputs inputs file None (2 ^ 40) t lacks);
+  refusal = tt;
+  absent = λ name same. risen;
 }
 
 accepted_refusal : (file : List ℕ) (read : Result Program Refusal) → IfErr (accepted file read) IsRefusal
@@ -162,22 +196,40 @@ accepted_there : (file : List ℕ) (read : Result Program Refusal) (name : List 
 accepted_there file (Ok program) name same = let never : ⊥ = cc in never
 accepted_there file (Err refusal) name same = let never : ⊥ = cc in never
 
+-- a text that is too large
+too_large : (text : List ℕ) → script_max < length text → script_of text ≡ Err (record { place = script_max; kind = TooLarge })
+too_large text long = ap (λ b. cond b (Err (record { place = script_max; kind = TooLarge })) (program_by (tokens_of text) (tree_of (tokens_of text)))) (lt-ltb script_max (length text) long)
+
+script_read : (whole text : List ℕ) → IsReadBeyond script_max whole text → script_of text ≡ script_of whole
+script_read whole text read = elim read.enough [
+  | inl same ↦ ap script_of same
+  | inr long ↦ too_large text long ∙ sym (too_large whole (omega (arith, ap length read.front.joined, length-append text read.front.rest)))
+]
+
+loaded_as : (file text : List ℕ) (input : Option (List ℕ)) → IsReadOf script_max input (Some text) → accepted file (script_of text) ≡ loaded file input
+loaded_as file text None read = absurd read
+loaded_as file text (Some whole) read = ap (accepted file) (script_read whole text read)
+
 -- a script was read
-pub found_script : (file text : List ℕ) (old new : Outside) → DoesAll (file ∷ []) [] [] old new → IfSome old.inputs (λ files. files file ≡ Some text)
+pub found_script : (file text : List ℕ) (old new : Outside) → DoesAll (file ∷ []) [] [] old new → IfSome old.inputs (λ files. IsReadOf script_max (files file) (Some text))
     → Finds file (loaded file) old (accepted file (script_of text)) new
 found_script file text old new read holds = record {
   does = read;
-  told = λ inputs t. ap (loaded file) (sym (told old.inputs inputs file (Some text) t holds));
+  told = λ inputs t. loaded_as file text (inputs file) (told old.inputs inputs file (Some text) script_max t holds);
   refusal = accepted_refusal file (script_of text);
   absent = λ name same. absurd (accepted_there file (script_of text) name same);
 }
 
 -- there is no script
-pub found_no_script : (file : List ℕ) (old new : Outside) → DoesAll (file ∷ []) [] [] old new → IfSome old.inputs (λ files. files file ≡ None) → HasRisen old.absences new.absences
+lacks_script : (file : List ℕ) (input : Option (List ℕ)) → IsReadOf script_max input None → Err (ending.NoInput file) ≡ loaded file input
+lacks_script file None read = refl
+lacks_script file (Some whole) read = absurd read
+
+pub found_no_script : (file : List ℕ) (old new : Outside) → DoesAll (file ∷ []) [] [] old new → IfSome old.inputs (λ files. IsReadOf script_max (files file) None) → HasRisen old.absences new.absences
     → Finds file (loaded file) old (Err (ending.NoInput file)) new
 found_no_script file old new read lacks risen = record {
   does = read;
-  told = λ inputs t. ap (loaded file) (sym (told old.inputs inputs file None t lacks));
+  told = λ inputs t. lacks_script file (inputs file) (told old.inputs inputs file None script_max t lacks);
   refusal = tt;
   absent = λ name same. risen;
 }

@@ -1,11 +1,11 @@
 -- An input that is read so far.
-use Rattle.std.proofs.Common.{◌≡◌, ℕ, ◌+◌, ◌≤◌, List, [], ◌++◌, take, drop, length, Option, Some, None, IsTrue, IfSome, refl, sym, ap, subst, ◌∙◌, arith, append_assoc}
+use Rattle.std.proofs.Common.{◌≡◌, ℕ, ◌+◌, ◌<◌, ◌≤◌, inl, inr, List, [], ◌++◌, take, drop, length, Option, Some, None, IsTrue, IsSome, IsNone, IfSome, refl, sym, ap, subst, ◌∙◌, arith, rules, append_assoc}
 use Rattle.std.specs.Option.{option_map}
-use Rattle.std.proofs.lemmas.List.{take-append-drop, length-take-le, drop-drop, take_all}
+use Rattle.std.proofs.lemmas.List.{append-nil, take-append-drop, length-take-le, drop-drop, take_all}
 use Rattle.std.proofs.Math.Seq.{take-append_seam, take-add}
-use Rattle.zk_base.specs.Shelf.{Files, Outside, Reading, Closed, Untold, At, is_open, bytes_from, rest_of, advanced, GivesBytes, FailsToRead, HasRisen}
+use Rattle.zk_base.specs.Shelf.{Files, Outside, Reading, Closed, Untold, At, is_open, bytes_from, rest_of, advanced, opened, GivesBytes, FailsToRead, FindsNone, OpensInput, IsReadOut, HasRisen}
 use Rattle.zk_top.specs.declared.stop.Stop.TheVariants.{ReadFault, NoMemory}
-use Rattle.zk_top.specs.Run.{Does, DoesAll, DoesPart, SameFaults}
+use Rattle.zk_top.specs.Run.{Does, DoesAll, DoesPart, SameFaults, IsReadBeyond, IsReadOf}
 use Rattle.zk_top.proofs.Doing.{does_nothing, front_none, does_both_part}
 
 -- the bytes stand before what is left, and nothing but the place in the input has changed
@@ -69,6 +69,12 @@ grown old resized buf rest items len n size before kept sized is =
     ∙ take-add len n buf
     ∙ ap (λ front. front ++ take n (drop len buf)) (kept ∙ before)
 
+-- the buffer after nothing more was read
+pub cut_back : (old resized buf rest items : List ℕ) (len size : ℕ) → take len resized ≡ old → take len buf ≡ take len resized → length buf ≡ size
+    → items ≡ take len (take size (buf ++ rest)) → items ≡ old
+cut_back old resized buf rest items len size before kept sized is =
+    is ∙ (ap (take len) (subst (λ m. take m (buf ++ rest) ≡ buf) sized (take-append_seam buf rest)) ∙ (kept ∙ before))
+
 -- the front of a buffer that was made longer
 pub kept_by_resize : (old zeros resized now : List ℕ) (len more : ℕ) → now ≡ resized → resized ≡ take (len + more) old ++ zeros → len ≡ length old → take len now ≡ old
 kept_by_resize old zeros resized now len more same is all =
@@ -125,3 +131,55 @@ stopped_by_input first now new bytes far fails =
       cause = (subst (λ n. HasRisen now.read_faults n) (sym (ap (λ (o : Outside). o.read_faults) fails.after)) fails.risen, ap (λ (o : Outside). o.write_faults) fails.after);
     } in
     does_both_part [] [] [] [] [] [] first now ReadFault new all part
+
+-- How far an input is read ------------------------------------------------------------------------------------------
+
+beyond : (whole rest : Option (List ℕ)) (bytes : List ℕ) (most : ℕ) → whole ≡ option_map (λ xs. bytes ++ xs) rest → most < length bytes → IfSome whole (λ w. IsReadBeyond most w bytes)
+beyond None rest bytes most is long = tt
+beyond (Some whole) None bytes most is long = absurd (let never : ⊥ = cc in never)
+beyond (Some whole) (Some rest) bytes most is long =
+    let same : whole ≡ bytes ++ rest = cc in
+    record { front = record { rest = rest; joined = same }; enough = inr long }
+
+-- beyond so many bytes
+pub read_beyond : (first now : Outside) (bytes : List ℕ) (most : ℕ) → IsReadSoFar first bytes now → most < length bytes → IfSome (rest_of first) (λ rest. IsReadBeyond most rest bytes)
+read_beyond first now bytes most far long = beyond (rest_of first) (rest_of now) bytes most far.rest long
+
+-- to its end
+all_of : (whole rest : Option (List ℕ)) (bytes : List ℕ) (most : ℕ) → whole ≡ option_map (λ xs. bytes ++ xs) rest → IfSome rest (λ r. r ≡ []) → IfSome whole (λ w. IsReadBeyond most w bytes)
+all_of None rest bytes most is out = tt
+all_of (Some whole) None bytes most is out = absurd (let never : ⊥ = cc in never)
+all_of (Some whole) (Some rest) bytes most is out =
+    let same : whole ≡ bytes ++ rest = cc in
+    record { front = record { rest = rest; joined = same }; enough = inl (sym (same ∙ (ap (λ r. bytes ++ r) out ∙ append-nil bytes))) }
+
+pub read_all : (first now new : Outside) (bytes : List ℕ) (most : ℕ) → IsReadSoFar first bytes now → IsReadOut now new → IfSome (rest_of first) (λ rest. IsReadBeyond most rest bytes)
+read_all first now new bytes most far end = all_of (rest_of first) (rest_of now) bytes most far.rest end.out
+
+-- what an input has that is opened at its first byte
+opened_rest : (found : Option (List ℕ)) (bytes : List ℕ) (most : ℕ) → IsSome found → IfSome (option_map (drop 0) found) (λ rest. IsReadBeyond most rest bytes) → IsReadOf most found (Some bytes)
+opened_rest None bytes most there read = absurd (search rules)
+opened_rest (Some whole) bytes most there read = read
+
+opened_input : (inputs : Option Files) (name bytes : List ℕ) (most : ℕ) → IfSome inputs (λ files. IsSome (files name)) → IfSome (bytes_from inputs (opened inputs name)) (λ rest. IsReadBeyond most rest bytes)
+    → IfSome inputs (λ files. IsReadOf most (files name) (Some bytes))
+opened_input None name bytes most there read = tt
+opened_input (Some files) name bytes most there read = opened_rest (files name) bytes most there read
+
+pub read_of_input : (name : List ℕ) (most : ℕ) (old mid : Outside) (bytes : List ℕ) → OpensInput old name mid → IfSome (rest_of mid) (λ rest. IsReadBeyond most rest bytes)
+    → IfSome old.inputs (λ files. IsReadOf most (files name) (Some bytes))
+read_of_input name most old mid bytes opens read =
+    opened_input old.inputs name bytes most opens.holds
+    (subst (λ (o : Outside). IfSome (rest_of o) (λ rest. IsReadBeyond most rest bytes)) opens.after read)
+
+-- an input that is not there
+absent_input : (found : Option (List ℕ)) (most : ℕ) → IsNone found → IsReadOf most found None
+absent_input None most lacks = tt
+absent_input (Some whole) most lacks = absurd (search rules)
+
+lacking : (inputs : Option Files) (name : List ℕ) (most : ℕ) → IfSome inputs (λ files. IsNone (files name)) → IfSome inputs (λ files. IsReadOf most (files name) None)
+lacking None name most lacks = tt
+lacking (Some files) name most lacks = absent_input (files name) most lacks
+
+pub none_of_input : (name : List ℕ) (most : ℕ) (old mid : Outside) → FindsNone old name mid → IfSome old.inputs (λ files. IsReadOf most (files name) None)
+none_of_input name most old mid finds = lacking old.inputs name most finds.lacks

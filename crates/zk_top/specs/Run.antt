@@ -1,5 +1,5 @@
 -- What a run leaves of the outside, beside what was there before.
-use Rattle.std.specs.Prelude.{◌≡◌, ◌⊎◌, ◌≤◌, ℕ, List, [], ◌∷◌, ◌++◌, Option, Some, None, Result, Err, IfErr}
+use Rattle.std.specs.Prelude.{◌≡◌, ◌⊎◌, ◌<◌, ◌≤◌, ℕ, List, [], ◌∷◌, ◌++◌, length, Option, Some, None, Result, Err, IfErr}
 use Rattle.std.specs.Option.{option_map}
 use Rattle.zk_base.specs.declared.endings.Ending.{Ending}
 use Rattle.zk_base.specs.declared.endings.Ending.TheVariants.{Done, Usage, ScriptRefused, NoInput, CaptureRefused, CutShort, ReadFault, WriteFault, NoMemory, Flood}
@@ -135,6 +135,18 @@ pub record DoesPart (names : List (List ℕ)) (said complained : List ℕ) (old 
   pub complained_front : IsFront complained_part complained
   pub does : Does names_part said_part complained_part old new
   pub cause : HasCause old stop new
+
+-- an input is read whole, or beyond so many bytes
+pub record IsReadBeyond (most : ℕ) (whole bytes : List ℕ) : Type 0 where
+  pub front : IsFront bytes whole
+  pub enough : (bytes ≡ whole) ⊎ (most < length bytes)
+
+-- what is read of an input that is there, or not
+abbrev pub IsReadOf : ℕ → Option (List ℕ) → Option (List ℕ) → Type 0
+IsReadOf most None None = Unit {0}
+IsReadOf most None (Some bytes) = ⊥
+IsReadOf most (Some whole) None = ⊥
+IsReadOf most (Some whole) (Some bytes) = IsReadBeyond most whole bytes
 
 -- What is found in the input of a name, which is started and read. Where inputs are told, judge says what it is.
 pub record Finds {X : Type 0} (name : List ℕ) (judge : Option (List ℕ) → Result X Ending) (old : Outside) (found : Result X Ending) (new : Outside) : Type 0 where

@@ -10,6 +10,9 @@ use std::alloc::Global;
 use zk_base::{Bytes, Ending, Mem, Moment, Shelf};
 use zk_pcap::{Capture, CaptureEnding, CaptureFault, packets};
 
+/// So many bytes of a capture count.
+const CAPTURE_MAX: usize = 1 << 40;
+
 /// The capture in a file, or how a run ends where there is none.
 pub fn read_capture<S: Shelf>(
     alloc: Global,
@@ -20,7 +23,7 @@ pub fn read_capture<S: Shelf>(
     ensures stopped { IfErr result (λ stop. DoesPart (file.now ∷ []) [] [] (S.outside shelf.old) stop (S.outside shelf.new)) }
 {
     let name = Bytes::copy_of(alloc, file)?;
-    match read_input(alloc, shelf, file)? {
+    match read_input(alloc, shelf, file, CAPTURE_MAX)? {
         Some(bytes) => Ok(judge_capture(alloc, name, &bytes)?),
         None => Ok(Err(Ending::NoInput { name })),
     }

@@ -1,6 +1,6 @@
 ghost use Rattle.std.specs.Prelude.{◌≡◌, ◌<◌, [], ◌∷◌, length, take, drop, IsTrue, IfSome, IsNone, IfOk, IfErr};
 ghost use Rattle.zk_base.specs.Shelf.{is_open, rest_of, Reads, HasRisen};
-ghost use Rattle.zk_top.specs.Run.{DoesAll, DoesPart};
+ghost use Rattle.zk_top.specs.Run.{DoesAll, DoesPart, IsReadBeyond, IsReadOf};
 
 use crate::stop::Stop;
 use std::alloc::Global;
@@ -9,34 +9,36 @@ use zk_base::{Bytes, Got, Shelf, Started};
 /// How many bytes an input is asked for at once.
 const CHUNK: usize = 1 << 18;
 
-/// The bytes of an input, or none where there is no such input.
+/// The bytes of an input, or none where there is no such input. Of an input of more than `most`
+/// bytes only a front of more than `most` may be read.
 pub fn read_input<S: Shelf>(
     alloc: Global,
     shelf: &mut S,
     name: &[u8],
+    most: usize,
 ) -> Result<Option<Bytes>, Stop>
     ensures read { IfOk result (λ bytes. DoesAll (name.now ∷ []) [] [] (S.outside shelf.old) (S.outside shelf.new)) }
-    ensures bytes { IfOk result (λ bytes. IfSome (S.outside shelf.old).inputs (λ files. files name.now ≡ bytes)) }
+    ensures bytes { IfOk result (λ bytes. IfSome (S.outside shelf.old).inputs (λ files. IsReadOf most (files name.now) bytes)) }
     ensures absent { IfOk result (λ bytes. IsNone bytes → HasRisen (S.outside shelf.old).absences (S.outside shelf.new).absences) }
     ensures stopped { IfErr result (λ stop. DoesPart (name.now ∷ []) [] [] (S.outside shelf.old) stop (S.outside shelf.new)) }
 {
     match shelf.start(name) {
-        Started::Open => Ok(Some(read_to_end(alloc, shelf)?)),
+        Started::Open => Ok(Some(read_open(alloc, shelf, most)?)),
         Started::Absent => Ok(None),
         Started::Failed => Err(Stop::ReadFault),
         Started::NoMemory => Err(Stop::NoMemory),
     }
 }
 
-/// The bytes that the open input has left.
-fn read_to_end<S: Shelf>(alloc: Global, shelf: &mut S) -> Result<Bytes, Stop>
+/// The bytes that the open input has left, or a front of them that is longer than `most`.
+fn read_open<S: Shelf>(alloc: Global, shelf: &mut S, most: usize) -> Result<Bytes, Stop>
     requires { IsTrue (is_open (S.outside shelf.old).reading) }
     ensures read { IfOk result (λ bytes. DoesAll [] [] [] (S.outside shelf.old) (S.outside shelf.new)) }
-    ensures bytes { IfOk result (λ bytes. IfSome (rest_of (S.outside shelf.old)) (λ rest. rest ≡ bytes)) }
+    ensures bytes { IfOk result (λ bytes. IfSome (rest_of (S.outside shelf.old)) (λ rest. IsReadBeyond most rest bytes)) }
     ensures stopped { IfErr result (λ stop. DoesPart [] [] [] (S.outside shelf.old) stop (S.outside shelf.new)) }
 {
     let mut bytes = Vec::new(alloc);
-    loop {
+    while bytes.len() <= most {
         let len = bytes.len();
         bytes.resize(len + CHUNK, 0)?;
         match read_behind(shelf, &mut bytes, len) {
@@ -48,6 +50,7 @@ fn read_to_end<S: Shelf>(alloc: Global, shelf: &mut S) -> Result<Bytes, Stop>
             Got::Failed => return Err(Stop::ReadFault),
         }
     }
+    Ok(Bytes::from(bytes))
 }
 
 /// Reads the next bytes of the open input into a buffer, behind so many that are there.

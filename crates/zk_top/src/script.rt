@@ -31,7 +31,7 @@ pub fn read_script<S: Shelf>(
     ensures stopped { IfErr result (λ stop. DoesPart (file.now ∷ []) [] [] (S.outside shelf.old) stop (S.outside shelf.new)) }
 {
     let name = Bytes::copy_of(alloc, file)?;
-    match read_input(alloc, shelf, file)? {
+    match read_input(alloc, shelf, file, SCRIPT_MAX)? {
         Some(text) => Ok(compile(alloc, name, text.as_slice())?),
         None => Ok(Err(Ending::NoInput { name })),
     }

@@ -4,7 +4,8 @@ use Rattle.zk_base.specs.declared.endings.Ending.TheVariants.{NoInput}
 use Rattle.zk_base.specs.Shelf.{HasRisen}
 use Rattle.zk_top.specs.Lowering.{code_or_ending}
 use Rattle.zk_top.specs.Outcome.{accepted}
-use Rattle.zk_top.specs.Script.{script_of}
+use Rattle.zk_top.specs.Run.{IsReadOf}
+use Rattle.zk_top.specs.Script.{script_max, script_of}
 use Rattle.zk_top.proofs.Doing.{out_of_memory}
 use Rattle.zk_top.proofs.OverCapture.{found_no_script, found_script}
 use Rattle.zk_top.proofs.script.read_script.Goals as goal
@@ -20,8 +21,8 @@ returns-in-None-clause-found g c =
     let old = g.S.Shelf.outside c.args.shelf.now in
     let new = g.S.Shelf.outside c.read_input.new.shelf in
     let file = c.args.file.now in
-    let lacks : IfSome old.inputs (λ files. files file ≡ None) =
-    subst (λ found. IfSome old.inputs (λ files. files file ≡ found)) c.in-None.is c.in_ok-text.ensures.bytes in
+    let lacks : IfSome old.inputs (λ files. IsReadOf script_max (files file) None) =
+    subst (λ found. IfSome old.inputs (λ files. IsReadOf script_max (files file) found)) c.in-None.is c.in_ok-text.ensures.bytes in
     let none : IsNone c.in_ok-text.field-0 = rw c.in-None.is (search rules) in
     let risen : HasRisen old.absences new.absences = c.in_ok-text.ensures.absent none in
     (Err (NoInput file), ap (λ name. Err (NoInput name)) c.in_ok-name.ensures, found_no_script file old new c.in_ok-text.ensures.read lacks risen)
@@ -32,8 +33,8 @@ returns-in_ok-compile-in-Some-clause-found g c =
     let new = g.S.Shelf.outside c.read_input.new.shelf in
     let file = c.args.file.now in
     let text = c.in-Some.text in
-    let holds : IfSome old.inputs (λ files. files file ≡ Some text) =
-    subst (λ found. IfSome old.inputs (λ files. files file ≡ found)) c.in-Some.is c.in_ok-text.ensures.bytes in
+    let holds : IfSome old.inputs (λ files. IsReadOf script_max (files file) (Some text)) =
+    subst (λ found. IfSome old.inputs (λ files. IsReadOf script_max (files file) found)) c.in-Some.is c.in_ok-text.ensures.bytes in
     let is : c.in_ok-compile-in-Some.field-0 ≡ code_or_ending (accepted file (script_of text)) =
     c.in_ok-compile-in-Some.ensures
     ∙ (ap (λ name. code_or_ending (accepted name (script_of c.as_slice.result.now))) c.in_ok-name.ensures

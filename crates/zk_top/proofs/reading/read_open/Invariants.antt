@@ -1,6 +1,6 @@
 use Rattle.std.proofs.Common.{◌-◌, ◌^◌, vec_len}
 use Rattle.zk_top.proofs.SoFar.{IsReadSoFar}
-use Rattle.zk_top.proofs.reading.read_to_end.Given as goal
+use Rattle.zk_top.proofs.reading.read_open.Given as goal
 
 abbrev pub invariant-loop-bytes : goal.invariant-loop-bytes
 invariant-loop-bytes g l = IsReadSoFar (g.S.Shelf.outside l.initial.shelf) l.bytes.items (g.S.Shelf.outside l.shelf)

@@ -13,7 +13,7 @@ use Rattle.zk_typed.specs.declared.program.Expression.{Expression}
 use Rattle.zk_typed.specs.declared.program.Expression.TheVariants as expression
 use Rattle.zk_typed.specs.Exec.{Stop, Faults, Spends, Left, is_normal, evaluate_all, printed, exec, exec_all, exec_body}
 use Rattle.zk_typed.specs.Text.{line_of}
-use Rattle.zk_typed.specs.World.{World}
+use Rattle.zk_typed.specs.World.{World, first_world}
 use Rattle.zk_value.specs.declared.value.Value.{Value}
 use Rattle.zk_value.specs.declared.code.Code.{Code}
 use Rattle.zk_value.specs.declared.code.HandlerCode.{HandlerCode}
@@ -26,46 +26,51 @@ use Rattle.zk_machine.specs.Standing.{StandsFor}
 
 -- Lines that were printed before ---------------------------------------------------------------------------------------
 
--- the same with lines before
-abbrev pub behind : List (List ℕ) → Left → Left
-behind given left = record { outcome = left.outcome; world = world_of left.world.time (given ++ left.world.lines); units = left.units }
+-- the world with this network time and these lines
+abbrev pub with_lines : World → Moment → List (List ℕ) → World
+with_lines world time lines = record world { time = time; lines = lines }
+
+-- the same in this world, with lines before
+abbrev pub behind : World → List (List ℕ) → Left → Left
+behind world given left = record { outcome = left.outcome; world = with_lines world left.world.time (given ++ left.world.lines); units = left.units }
 
 -- a print behind such lines
-printed_behind : (given lines : List (List ℕ)) (time : Moment) (place : Place) (values : Result (List plain.Value × ℕ) Stop)
-    → printed place (world_of time (given ++ lines)) values ≡ behind given (printed place (world_of time lines) values)
-printed_behind given lines time place (Ok values) =
-    let left : List (List ℕ) → Left = λ ls. record { outcome = (printed place (world_of time lines) (Ok values)).outcome; world = world_of time ls; units = values.1 } in
+printed_behind : (world inner : World) (given lines : List (List ℕ)) (time : Moment) (place : Place) (values : Result (List plain.Value × ℕ) Stop)
+    → printed place (with_lines world time (given ++ lines)) values ≡ behind world given (printed place (with_lines inner time lines) values)
+printed_behind world inner given lines time place (Ok values) =
+    let left : List (List ℕ) → Left = λ ls. record { outcome = (printed place (with_lines inner time lines) (Ok values)).outcome; world = with_lines world time ls; units = values.1 } in
     ap left (append_assoc given lines (line_of values.0 ∷ []))
-printed_behind given lines time place (Err (Faults kind units)) = refl
-printed_behind given lines time place (Err Spends) = refl
+printed_behind world inner given lines time place (Err (Faults kind units)) = refl
+printed_behind world inner given lines time place (Err Spends) = refl
 
 -- a statement behind such lines
-exec_behind : (given lines : List (List ℕ)) (time : Moment) (args : List plain.Value) (statement : Statement) (left : ℕ)
-    → exec args statement (world_of time (given ++ lines)) left ≡ behind given (exec args statement (world_of time lines) left)
-exec_behind given lines time args (statement.Print place values) zero = refl
-exec_behind given lines time args (statement.Print place values) (suc left) =
-    printed_behind given lines time place (evaluate_all (world_of time lines) args values left)
+exec_behind : (world inner : World) (given lines : List (List ℕ)) (time : Moment) (args : List plain.Value) (statement : Statement) (left : ℕ)
+    → exec args statement (with_lines world time (given ++ lines)) left ≡ behind world given (exec args statement (with_lines inner time lines) left)
+exec_behind world inner given lines time args (statement.Print place values) zero = refl
+exec_behind world inner given lines time args (statement.Print place values) (suc left) =
+    printed_behind world inner given lines time place (evaluate_all (with_lines inner time lines) args values left)
 
 -- statements after one that came out so
 abbrev after_one : List plain.Value → List Statement → Left → Left
 after_one args others after = if is_normal after.outcome then exec_all args others after.world after.units else after
 
 -- going on or stopping behind such lines
-chosen_behind : (given : List (List ℕ)) (normal : Bool) (one two after : Left) → one ≡ behind given two
-    → (if normal then one else behind given after) ≡ behind given (if normal then two else after)
-chosen_behind given true one two after same = same
-chosen_behind given false one two after same = refl
+chosen_behind : (world : World) (given : List (List ℕ)) (normal : Bool) (one two after : Left) → one ≡ behind world given two
+    → (if normal then one else behind world given after) ≡ behind world given (if normal then two else after)
+chosen_behind world given true one two after same = same
+chosen_behind world given false one two after same = refl
 
--- Lines that were printed before change nothing of what statements do.
-exec_all_behind : (given lines : List (List ℕ)) (time : Moment) (args : List plain.Value) (statements : List Statement) (left : ℕ)
-    → exec_all args statements (world_of time (given ++ lines)) left ≡ behind given (exec_all args statements (world_of time lines) left)
-exec_all_behind given lines time args [] left = refl
-exec_all_behind given lines time args (first ∷ others) left =
-    let after : Left = exec args first (world_of time lines) left in
-    ap (after_one args others) (exec_behind given lines time args first left)
-    ∙ chosen_behind given (is_normal after.outcome)
-    (exec_all args others (world_of after.world.time (given ++ after.world.lines)) after.units) (exec_all args others after.world after.units) after
-    (exec_all_behind given after.world.lines after.world.time args others after.units)
+-- Of a world statements read and change the network time and the lines alone, and lines that were printed before
+-- change nothing of what they do.
+exec_all_behind : (world inner : World) (given lines : List (List ℕ)) (time : Moment) (args : List plain.Value) (statements : List Statement) (left : ℕ)
+    → exec_all args statements (with_lines world time (given ++ lines)) left ≡ behind world given (exec_all args statements (with_lines inner time lines) left)
+exec_all_behind world inner given lines time args [] left = refl
+exec_all_behind world inner given lines time args (first ∷ others) left =
+    let after : Left = exec args first (with_lines inner time lines) left in
+    ap (after_one args others) (exec_behind world inner given lines time args first left)
+    ∙ chosen_behind world given (is_normal after.outcome)
+    (exec_all args others (with_lines world after.world.time (given ++ after.world.lines)) after.units) (exec_all args others after.world after.units) after
+    (exec_all_behind world after.world given after.world.lines after.world.time args others after.units)
 
 -- Code and program -------------------------------------------------------------------------------------------------
 
@@ -100,18 +105,18 @@ code_is program of code number item is found read =
 -- What the prints of a handler do in the machine is what the body of the handler does in the world.
 pub body_is : (machine : Machine) (program : Program) (given : List (List ℕ)) (world : World) (of : Handler) (prints : List Print) (args : List Value) (budget : ℕ)
     → StandsFor machine program given world → prints ≡ map print_of of.body
-    → exec_body of (map value_of args) world budget ≡ behind given (executed_all machine.time args machine.lines.items budget prints)
+    → exec_body of (map value_of args) world budget ≡ behind world given (executed_all machine.time args machine.lines.items budget prints)
 body_is machine program given world of prints args budget stands is =
     let values : List plain.Value = map value_of args in
     let statements : List Statement = map statement_of prints in
     ap (λ ss. exec_all values ss world budget) (sym (statements_back of.body) ∙ ap (λ ps. map statement_of ps) (sym is))
-    ∙ ap (λ t. exec_all values statements (world_of t world.lines) budget) (sym stands.time)
-    ∙ ap (λ ls. exec_all values statements (world_of machine.time ls) budget) stands.lines
-    ∙ exec_all_behind given machine.lines.items machine.time values statements budget
+    ∙ ap (λ t. exec_all values statements (with_lines world t world.lines) budget) (sym stands.time)
+    ∙ ap (λ ls. exec_all values statements (with_lines world machine.time ls) budget) stands.lines
+    ∙ exec_all_behind world first_world given machine.lines.items machine.time values statements budget
 
 -- Where the prints leave the machine's own world so, it stands for the world that the body leaves.
 pub stands_after : (machine after : Machine) (program : Program) (given : List (List ℕ)) (world : World) (whole inner : Left)
-    → StandsFor machine program given world → whole ≡ behind given inner → inner.world ≡ world_of after.time after.lines.items
+    → StandsFor machine program given world → whole ≡ behind world given inner → inner.world ≡ world_of after.time after.lines.items
     → after.code ≡ machine.code → after.failed ≡ machine.failed → StandsFor after program given whole.world
 stands_after machine after program given world whole inner stands is left code failed = record {
   code = code ∙ stands.code;

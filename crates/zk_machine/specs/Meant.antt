@@ -6,7 +6,7 @@ use Rattle.zk_typed.specs.declared.program.Statement.{Statement}
 use Rattle.zk_typed.specs.declared.program.Statement.TheVariants as statement
 use Rattle.zk_typed.specs.declared.program.Expression.{Expression}
 use Rattle.zk_typed.specs.declared.program.Expression.TheVariants as expression
-use Rattle.zk_typed.specs.World.{World}
+use Rattle.zk_typed.specs.World.{World, first_world}
 use Rattle.zk_typed.specs.Exec.{Evaluated, Stop, Left, evaluate, evaluate_all, exec, exec_all}
 use Rattle.zk_value.specs.declared.value.Value.{Value}
 use Rattle.zk_value.specs.declared.code.Print.{Print}
@@ -24,9 +24,9 @@ expression_of operand.NetworkTime = expression.NetworkTime
 abbrev pub statement_of : Print → Statement
 statement_of print = statement.Print print.place (map expression_of print.values)
 
--- the world at this network time with these lines
+-- the world at this network time with these lines, and else as at the beginning
 abbrev pub world_of : Moment → List (List ℕ) → World
-world_of time lines = record { time = time; lines = lines }
+world_of time lines = record first_world { time = time; lines = lines }
 
 -- what operands give at a network time, over these arguments and with so many units
 abbrev pub evaluated : Moment → List Value → ℕ → Operand → Evaluated

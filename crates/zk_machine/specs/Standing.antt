@@ -10,7 +10,8 @@ use Rattle.zk_machine.specs.Lowered.{lowered}
 abbrev pub code_of : Machine → Code
 code_of machine = machine.code
 
--- A machine runs this program and has come to this world, and these of its lines were given out.
+-- A machine runs this program and has come to this world, and these of its lines were given out. Of the other
+-- parts of the world it holds none yet: no body reads or changes them, so it stands for the world whatever they are.
 pub record StandsFor (machine : Machine) (program : Program) (given : List (List ℕ)) (world : World) : Type 0 where
   pub code : machine.code ≡ lowered program
   pub time : machine.time ≡ world.time

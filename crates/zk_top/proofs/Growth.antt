@@ -1,13 +1,12 @@
--- A program only adds lines to those that were printed.
-use Rattle.std.proofs.Common.{◌≡◌, ℕ, zero, suc, Bool, true, false, cond, List, [], ◌∷◌, ◌++◌, fold, Result, Ok, Err, refl, sym, ap, ◌∙◌, append_assoc}
+-- Bodies only add lines to those that were printed, and leave the queue as it is.
+use Rattle.std.proofs.Common.{◌≡◌, ℕ, zero, suc, Bool, true, false, cond, List, [], ◌∷◌, ◌++◌, Result, Ok, Err, refl, sym, ap, ◌∙◌, append_assoc}
 use Rattle.zk_tree.specs.declared.place.Place.{Place}
 use Rattle.zk_tree.specs.Value.{Value}
-use Rattle.zk_typed.specs.declared.program.Program.{Program}
 use Rattle.zk_typed.specs.declared.program.Handler.{Handler}
 use Rattle.zk_typed.specs.declared.program.Statement.{Statement}
 use Rattle.zk_typed.specs.declared.program.Statement.TheVariants.{Print}
 use Rattle.zk_typed.specs.Exec.{Stop, Faults, Spends, Left, is_normal, evaluate_all, printed, exec, exec_all, exec_body}
-use Rattle.zk_typed.specs.Run.{Queued, Turn, handlers_of, bodies, dispatch, turn}
+use Rattle.zk_typed.specs.Run.{bodies}
 use Rattle.zk_typed.specs.Text.{line_of}
 use Rattle.zk_typed.specs.World.{World}
 use Rattle.zk_top.specs.Line.{line_end}
@@ -15,18 +14,19 @@ use Rattle.zk_top.specs.Replay.{text_of}
 use Rattle.zk_top.specs.Run.{IsFront}
 use Rattle.zk_top.proofs.Doing.{front_all, front_trans}
 
--- one world's lines go on with another's
+-- one world's lines go on with another's, and the same events wait
 pub record GoesOn (old new : World) : Type 0 where
   pub front : IsFront old.lines new.lines
+  pub queue : new.queue ≡ old.queue
 
 pub goes_on_same : (world : World) → GoesOn world world
-goes_on_same world = record { front = front_all world.lines }
+goes_on_same world = record { front = front_all world.lines; queue = refl }
 
 pub goes_on_trans : (a b c : World) → GoesOn a b → GoesOn b c → GoesOn a c
-goes_on_trans a b c ab bc = record { front = front_trans a.lines b.lines c.lines ab.front bc.front }
+goes_on_trans a b c ab bc = record { front = front_trans a.lines b.lines c.lines ab.front bc.front; queue = bc.queue ∙ ab.queue }
 
 printed_adds : (place : Place) (world : World) (values : Result (List Value × ℕ) Stop) → GoesOn world (printed place world values).world
-printed_adds place world (Ok values) = record { front = record { rest = line_of values.0 ∷ []; joined = refl } }
+printed_adds place world (Ok values) = record { front = record { rest = line_of values.0 ∷ []; joined = refl }; queue = refl }
 printed_adds place world (Err (Faults kind left)) = goes_on_same world
 printed_adds place world (Err Spends) = goes_on_same world
 
@@ -54,22 +54,6 @@ bodies_add args budget world [] = goes_on_same world
 bodies_add args budget world (first ∷ others) =
     let after : World = (exec_body first args world budget).world in
     goes_on_trans world after (bodies args budget after others) (body_adds first args world budget) (bodies_add args budget after others)
-
-dispatches_add : (program : Program) (budget : ℕ) (world : World) (events : List Queued) → GoesOn world (fold (dispatch program budget) world events)
-dispatches_add program budget world [] = goes_on_same world
-dispatches_add program budget world (event ∷ events) =
-    let after : World = dispatch program budget world event in
-    goes_on_trans world after (fold (dispatch program budget) after events) (bodies_add event.args budget world (handlers_of program event.event)) (dispatches_add program budget after events)
-
-turn_adds : (program : Program) (budget : ℕ) (world : World) (item : Turn) → GoesOn world (turn program budget world item)
-turn_adds program budget world item =
-    record { front = (dispatches_add program budget (record world { time = item.moment }) item.events).front }
-
-pub turns_add : (program : Program) (budget : ℕ) (world : World) (items : List Turn) → GoesOn world (fold (turn program budget) world items)
-turns_add program budget world [] = goes_on_same world
-turns_add program budget world (item ∷ items) =
-    let after : World = turn program budget world item in
-    goes_on_trans world after (fold (turn program budget) after items) (turn_adds program budget world item) (turns_add program budget after items)
 
 -- The text of lines -----------------------------------------------------------------------------------------------
 

@@ -13,3 +13,4 @@ mod Said
 mod SoFar
 mod TokenRows
 mod TokensLemmas
+mod WholeRun

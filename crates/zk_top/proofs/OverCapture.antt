@@ -18,7 +18,7 @@ use Rattle.zk_top.specs.declared.stop.Stop.{Stop}
 use Rattle.zk_parse.specs.Reading.{tree_of}
 use Rattle.zk_top.specs.Script.{Refusal, script_max, program_by, script_of}
 use Rattle.zk_top.specs.Tokens.{tokens_of}
-use Rattle.zk_top.specs.Outcome.{over_capture, judged, opened, accepted, loaded, end_of_capture}
+use Rattle.zk_top.specs.Outcome.{Report, over_capture, judged, opened, accepted, loaded, end_of_capture}
 use Rattle.zk_top.specs.Run.{IsWhole, IsRefusal, IsOfCommand, IsFront, IsReadBeyond, IsReadOf, DoesAll, DoesPart, Finds, Fulfils, BreaksOff}
 use Rattle.zk_top.proofs.Doing.{front_none, front_trans, does_both_all, does_both_part}
 
@@ -70,70 +70,70 @@ not_absent file (Cut place) name same = let never : ⊥ = cc in never
 
 -- What is wanted over a capture -----------------------------------------------------------------------------------
 
-asked : (said_of : Capture → List ℕ) (names : List (List ℕ)) (file : List ℕ) (found : Result Capture Ending) → (over_capture said_of names file found).asked ≡ names
-asked said_of names file (Ok capture) = refl
-asked said_of names file (Err e) = refl
+asked : (report : Capture → Report) (names : List (List ℕ)) (found : Result Capture Ending) → (over_capture report names found).asked ≡ names
+asked report names (Ok capture) = refl
+asked report names (Err e) = refl
 
 -- stopped before its capture was found
-pub broken_before : (said_of : Capture → List ℕ) (file : List ℕ) (old : Outside) (stop : Stop) (new : Outside) → DoesPart (file ∷ []) [] [] old stop new
-    → BreaksOff (λ inputs. over_capture said_of (file ∷ []) file (opened file (inputs file))) old stop new
-broken_before said_of file old stop new part = record {
+pub broken_before : (report : Capture → Report) (file : List ℕ) (old : Outside) (stop : Stop) (new : Outside) → DoesPart (file ∷ []) [] [] old stop new
+    → BreaksOff (λ inputs. over_capture report (file ∷ []) (opened file (inputs file))) old stop new
+broken_before report file old stop new part = record {
   names = part.names_part;
   said = part.said_part;
   complained = part.complained_part;
   does = part.does;
   cause = part.cause;
-  names_front = λ inputs told. subst (λ names. IsFront part.names_part names) (sym (asked said_of (file ∷ []) file (opened file (inputs file)))) part.names_front;
-  said_front = λ inputs told. let whole : List ℕ = (over_capture said_of (file ∷ []) file (opened file (inputs file))).said in
+  names_front = λ inputs told. subst (λ names. IsFront part.names_part names) (sym (asked report (file ∷ []) (opened file (inputs file)))) part.names_front;
+  said_front = λ inputs told. let whole : List ℕ = (over_capture report (file ∷ []) (opened file (inputs file))).said in
       front_trans part.said_part [] whole part.said_front (front_none whole);
-  complained_front = λ inputs told. let whole : List ℕ = (over_capture said_of (file ∷ []) file (opened file (inputs file))).complained in
+  complained_front = λ inputs told. let whole : List ℕ = (over_capture report (file ∷ []) (opened file (inputs file))).complained in
       front_trans part.complained_part [] whole part.complained_front (front_none whole);
 }
 
 -- stopped while its lines were said
-pub broken_within : (said_of : Capture → List ℕ) (file : List ℕ) (capture : Capture) (old mid : Outside) (stop : Stop) (new : Outside) → Finds file (opened file) old (Ok capture) mid
-    → DoesPart [] (said_of capture) [] mid stop new → BreaksOff (λ inputs. over_capture said_of (file ∷ []) file (opened file (inputs file))) old stop new
-broken_within said_of file capture old mid stop new found says =
-    let part : DoesPart (file ∷ []) (said_of capture) [] old stop new = does_both_part (file ∷ []) [] [] (said_of capture) [] [] old mid stop new found.does says in
+pub broken_within : (report : Capture → Report) (file : List ℕ) (capture : Capture) (old mid : Outside) (stop : Stop) (new : Outside) → Finds file (opened file) old (Ok capture) mid
+    → DoesPart [] (report capture).said [] mid stop new → BreaksOff (λ inputs. over_capture report (file ∷ []) (opened file (inputs file))) old stop new
+broken_within report file capture old mid stop new found says =
+    let part : DoesPart (file ∷ []) (report capture).said [] old stop new = does_both_part (file ∷ []) [] [] (report capture).said [] [] old mid stop new found.does says in
     record {
       names = part.names_part;
       said = part.said_part;
       complained = part.complained_part;
       does = part.does;
       cause = part.cause;
-      names_front = λ inputs told. subst (λ names. IsFront part.names_part names) (sym (asked said_of (file ∷ []) file (opened file (inputs file)))) part.names_front;
-      said_front = λ inputs told. subst (λ r. IsFront part.said_part (over_capture said_of (file ∷ []) file r).said) (found.told inputs told) part.said_front;
-      complained_front = λ inputs told. let whole : List ℕ = (over_capture said_of (file ∷ []) file (opened file (inputs file))).complained in
+      names_front = λ inputs told. subst (λ names. IsFront part.names_part names) (sym (asked report (file ∷ []) (opened file (inputs file)))) part.names_front;
+      said_front = λ inputs told. subst (λ r. IsFront part.said_part (over_capture report (file ∷ []) r).said) (found.told inputs told) part.said_front;
+      complained_front = λ inputs told. let whole : List ℕ = (over_capture report (file ∷ []) (opened file (inputs file))).complained in
           front_trans part.complained_part [] whole part.complained_front (front_none whole);
     }
 
 -- its lines were said
-pub fulfilled : (said_of : Capture → List ℕ) (file : List ℕ) (capture : Capture) (old mid : Outside) (e : Ending) (new : Outside) → Finds file (opened file) old (Ok capture) mid
-    → e ≡ end_of_capture file capture.ending → DoesAll [] (said_of capture) [] mid new
-    → Fulfils (λ inputs. over_capture said_of (file ∷ []) file (opened file (inputs file))) [] old e new
-fulfilled said_of file capture old mid e new found is says = record {
+pub fulfilled : (report : Capture → Report) (file : List ℕ) (capture : Capture) (old mid : Outside) (e : Ending) (new : Outside) → Finds file (opened file) old (Ok capture) mid
+    → e ≡ end_of_capture file capture.ending → (report capture).ending ≡ end_of_capture file capture.ending → DoesAll [] (report capture).said [] mid new
+    → Fulfils (λ inputs. over_capture report (file ∷ []) (opened file (inputs file))) [] old e new
+fulfilled report file capture old mid e new found is same says = record {
   names = file ∷ [];
-  said = said_of capture;
-  does = does_both_all (file ∷ []) [] [] (said_of capture) [] [] old mid new found.does says;
+  said = (report capture).said;
+  does = does_both_all (file ∷ []) [] [] (report capture).said [] [] old mid new found.does says;
   whole = subst IsWhole (sym is) (whole_end file capture.ending);
   absent = λ name same. absurd (not_absent file capture.ending name (sym is ∙ same));
-  ends = λ inputs told. is ∙ ap (λ r. (over_capture said_of (file ∷ []) file r).ending) (found.told inputs told);
-  names_are = λ inputs told. sym (asked said_of (file ∷ []) file (opened file (inputs file)));
-  said_is = λ inputs told. ap (λ r. (over_capture said_of (file ∷ []) file r).said) (found.told inputs told);
+  ends = λ inputs told. is ∙ sym same ∙ ap (λ r. (over_capture report (file ∷ []) r).ending) (found.told inputs told);
+  names_are = λ inputs told. sym (asked report (file ∷ []) (opened file (inputs file)));
+  said_is = λ inputs told. ap (λ r. (over_capture report (file ∷ []) r).said) (found.told inputs told);
 }
 
 -- there is no capture
-pub fulfilled_refused : (said_of : Capture → List ℕ) (file : List ℕ) (old : Outside) (e : Ending) (new : Outside) → Finds file (opened file) old (Err e) new
-    → Fulfils (λ inputs. over_capture said_of (file ∷ []) file (opened file (inputs file))) [] old e new
-fulfilled_refused said_of file old e new found = record {
+pub fulfilled_refused : (report : Capture → Report) (file : List ℕ) (old : Outside) (e : Ending) (new : Outside) → Finds file (opened file) old (Err e) new
+    → Fulfils (λ inputs. over_capture report (file ∷ []) (opened file (inputs file))) [] old e new
+fulfilled_refused report file old e new found = record {
   names = file ∷ [];
   said = [];
   does = found.does;
   whole = whole_refusal e found.refusal;
   absent = λ name same. found.absent name (ap Err same);
-  ends = λ inputs told. ap (λ r. (over_capture said_of (file ∷ []) file r).ending) (found.told inputs told);
-  names_are = λ inputs told. sym (asked said_of (file ∷ []) file (opened file (inputs file)));
-  said_is = λ inputs told. ap (λ r. (over_capture said_of (file ∷ []) file r).said) (found.told inputs told);
+  ends = λ inputs told. ap (λ r. (over_capture report (file ∷ []) r).ending) (found.told inputs told);
+  names_are = λ inputs told. sym (asked report (file ∷ []) (opened file (inputs file)));
+  said_is = λ inputs told. ap (λ r. (over_capture report (file ∷ []) r).said) (found.told inputs told);
 }
 
 -- What is found in a file -----------------------------------------------------------------------------------------

@@ -1,5 +1,5 @@
 -- How far a program has come.
-use Rattle.std.proofs.Common.{◌≡◌, ℕ, ◌<◌, List, [], ◌∷◌, ◌++◌, length, map, fold, slice_get, Some, inl, inr, arith, refl, sym, ap, subst, ◌∙◌, append_assoc}
+use Rattle.std.proofs.Common.{◌≡◌, ℕ, ◌<◌, List, [], ◌∷◌, ◌++◌, length, fold, slice_get, Some, inl, inr, arith, refl, sym, ap, subst, ◌∙◌, append_assoc}
 use Rattle.std.specs.List.{cons_option}
 use Rattle.std.proofs.lemmas.List.{append-nil, length-map}
 use Rattle.std.proofs.lemmas.List.Elements.{filter_map-append}
@@ -7,8 +7,6 @@ use Rattle.std.proofs.lemmas.List.Sums.{fold-append}
 use Rattle.std.proofs.lemmas.Option.{slice_get_cases}
 use Rattle.zk_base.specs.declared.numbers.HandlerNo.{HandlerNo}
 use Rattle.zk_base.specs.Shelf.{Outside}
-use Rattle.zk_pcap.specs.declared.records.Packet.{Packet}
-use Rattle.zk_pcap.specs.NetworkTime.{now}
 use Rattle.zk_base.specs.declared.time.Moment.{Moment}
 use Rattle.zk_machine.specs.Lowered.{handler_code, lowered}
 use Rattle.zk_machine.specs.Standing.{StandsFor}
@@ -17,20 +15,19 @@ use Rattle.zk_typed.specs.declared.program.Program.{Program}
 use Rattle.zk_typed.specs.declared.program.Handler.{Handler}
 use Rattle.zk_tree.specs.Value.{Value}
 use Rattle.zk_typed.specs.Exec.{exec_body}
-use Rattle.zk_typed.specs.Run.{Turn, handlers_of, bodies, begun, replayed, run, turn}
-use Rattle.zk_typed.specs.Typed.{zeek_init, zeek_done, packet_seen}
-use Rattle.zk_typed.specs.World.{World, first_world, at_time}
+use Rattle.zk_typed.specs.Run.{bodies}
+use Rattle.zk_typed.specs.World.{World, at_time, at_end}
 use Rattle.zk_top.specs.declared.playing.Player.{Player}
 use Rattle.zk_top.specs.declared.stop.Stop.{Stop}
 use Rattle.zk_top.specs.declared.stop.Stop.TheVariants.{NoMemory}
-use Rattle.zk_top.specs.Item.{Item, What, Seen, items_of}
+use Rattle.zk_top.specs.Item.{Item}
 use Rattle.zk_top.specs.Line.{line_end}
 use Rattle.zk_top.specs.Named.{named}
 use Rattle.zk_top.specs.Playing.{HasCome, after_item}
-use Rattle.zk_top.specs.Replay.{budget, event_of, printed, text_of, turn_of}
+use Rattle.zk_top.specs.Replay.{budget, event_of, text_of}
 use Rattle.zk_top.specs.Run.{IsFront, DoesAll, DoesPart, HandsOver}
-use Rattle.zk_top.proofs.Doing.{front_all, front_trans, does_both_all, does_both_part, does_part_of, out_of_memory}
-use Rattle.zk_top.proofs.Growth.{GoesOn, goes_on_same, goes_on_trans, bodies_add, turns_add, text-append, text_front}
+use Rattle.zk_top.proofs.Doing.{front_all, does_both_all, does_both_part, does_part_of, out_of_memory}
+use Rattle.zk_top.proofs.Growth.{GoesOn, goes_on_same, goes_on_trans, bodies_add, text-append, text_front}
 
 -- stopped while a front of what is to be said waits
 pub stopped_in : (first : Outside) (program : Program) (taken : List (List ℕ)) (world : World) (player : Player) (mid : Outside) (whole : List ℕ) (stop : Stop) (new : Outside)
@@ -136,7 +133,8 @@ left_front args program numbers at whole left =
 pub item_adds : (handlers : List Handler) (world : World) (item : Item) → GoesOn world (after_item handlers world item)
 item_adds handlers world item =
     let args : List Value = (event_of item.what).args in
-    record { front = (bodies_add args budget (at_time item.moment world) handlers).front }
+    let there : GoesOn (at_time item.moment world) (after_item handlers world item) = bodies_add args budget (at_time item.moment world) handlers in
+    record { front = there.front; queue = there.queue }
 
 pub items_add : (handlers : List Handler) (world : World) (items : List Item) → GoesOn world (fold (after_item handlers) world items)
 items_add handlers world [] = goes_on_same world
@@ -144,38 +142,7 @@ items_add handlers world (item ∷ items) =
     let after : World = after_item handlers world item in
     goes_on_trans world after (fold (after_item handlers) after items) (item_adds handlers world item) (items_add handlers after items)
 
--- an item's turn
-turn_of_item : (program : Program) (world : World) (moment : Moment) (what : What) → after_item (handlers_of program packet_seen) world (record { moment = moment; what = what }) ≡ turn program budget world (turn_of (record { moment = moment; what = what }))
-turn_of_item program world moment (Seen own captured original) = refl
-
-pub turns_of_items : (program : Program) (world : World) (items : List Item) → fold (after_item (handlers_of program packet_seen)) world items ≡ fold (turn program budget) world (map turn_of items)
-turns_of_items program world [] = refl
-turns_of_items program world (item ∷ items) =
-    ap (λ (w : World). fold (after_item (handlers_of program packet_seen)) w items) (turn_of_item program world item.moment item.what)
-    ∙ turns_of_items program (turn program budget world (turn_of item)) items
-
 -- From the beginning to the end -----------------------------------------------------------------------------------
-
--- the world at the end
-pub whole_run : Program → List Packet → World
-whole_run program packets = run program budget (map turn_of (items_of packets)) (now packets)
-
-pub whole_printed : (program : Program) (packets : List Packet) → text_of (whole_run program packets).lines ≡ printed program packets
-unfolding whole_run
-whole_printed program packets = refl
-
-pub replayed_front : (program : Program) (packets : List Packet) → IsFront (text_of (replayed program budget (map turn_of (items_of packets))).lines) (text_of (whole_run program packets).lines)
-unfolding whole_run
-replayed_front program packets =
-    let over : World = replayed program budget (map turn_of (items_of packets)) in
-    text_front over.lines (whole_run program packets).lines (bodies_add [] budget (at_time (now packets) over) (handlers_of program zeek_done)).front
-
-pub begun_front : (program : Program) (packets : List Packet) → IsFront (text_of (begun program budget).lines) (text_of (whole_run program packets).lines)
-begun_front program packets =
-    let turns : List Turn = map turn_of (items_of packets) in
-    front_trans (text_of (begun program budget).lines) (text_of (replayed program budget turns).lines) (text_of (whole_run program packets).lines)
-    (text_front (begun program budget).lines (replayed program budget turns).lines (turns_add program budget (begun program budget) turns).front)
-    (replayed_front program packets)
 
 -- the same world
 pub at_world : (first : Outside) (program : Program) (a b : World) (player : Player) (now : Outside) → a ≡ b → HasCome first program a.lines a player now → HasCome first program b.lines b player now
@@ -184,18 +151,15 @@ at_world first program a b player now same come = subst (λ (w : World). HasCome
 pub part_at_world : (first : Outside) (a b : World) (stop : Stop) (new : Outside) → a ≡ b → DoesPart [] (text_of a.lines) [] first stop new → DoesPart [] (text_of b.lines) [] first stop new
 part_at_world first a b stop new same part = subst (λ (w : World). DoesPart [] (text_of w.lines) [] first stop new) same part
 
--- the worlds of a run, by the handlers that the numbers name
-pub begun_by : (program : Program) (init : List HandlerNo) → named init program ≡ handlers_of program zeek_init → bodies [] budget first_world (named init program) ≡ begun program budget
-begun_by program init are = ap (bodies [] budget first_world) are
-
-pub replayed_by : (program : Program) (seen : List HandlerNo) (items : List Item) → named seen program ≡ handlers_of program packet_seen
-    → fold (after_item (named seen program)) (begun program budget) items ≡ replayed program budget (map turn_of items)
-replayed_by program seen items are = ap (λ hs. fold (after_item hs) (begun program budget) items) are ∙ turns_of_items program (begun program budget) items
-
-pub run_by : (program : Program) (done : List HandlerNo) (packets : List Packet) → named done program ≡ handlers_of program zeek_done
-    → bodies [] budget (at_time (now packets) (replayed program budget (map turn_of (items_of packets)))) (named done program) ≡ whole_run program packets
-unfolding whole_run
-run_by program done packets are = ap (bodies [] budget (at_time (now packets) (replayed program budget (map turn_of (items_of packets))))) are
+-- the end begins: of that the machine holds nothing but the network time
+pub at_the_end : (first : Outside) (program : Program) (last : Moment) (world : World) (player : Player) (now : Outside)
+    → HasCome first program world.lines (at_time last world) player now → HasCome first program world.lines (at_end last world) player now
+at_the_end first program last world player now come = record {
+  stands = record { code = come.stands.code; time = come.stands.time; lines = come.stands.lines; works = come.stands.works };
+  said = come.said;
+  does = come.does;
+  joined = come.joined;
+}
 
 -- the last piece is said
 pub all_said : (first : Outside) (program : Program) (world : World) (player : Player) (mid new : Outside) → HasCome first program world.lines world player mid

@@ -1,7 +1,7 @@
 -- What a run of the program comes to, by its words and its inputs.
 use Rattle.std.specs.Prelude.{ℕ, List, [], ◌∷◌, Option, Some, None, Result, Ok, Err}
 use Rattle.zk_base.specs.declared.endings.Ending.{Ending}
-use Rattle.zk_base.specs.declared.endings.Ending.TheVariants.{Done, Usage, ScriptRefused, NoInput, CaptureRefused, CutShort}
+use Rattle.zk_base.specs.declared.endings.Ending.TheVariants.{Done, Usage, ScriptRefused, NoInput, CaptureRefused, CutShort, Flood}
 use Rattle.zk_base.specs.Shelf.{Files}
 use Rattle.zk_pcap.specs.declared.captures.Capture.{Capture}
 use Rattle.zk_pcap.specs.declared.captures.CaptureEnding.{CaptureEnding}
@@ -10,11 +10,12 @@ use Rattle.zk_pcap.specs.declared.faults.CaptureFault.{CaptureFault}
 use Rattle.zk_pcap.specs.CaptureFault.{place_of}
 use Rattle.zk_pcap.specs.Capture.{capture_of}
 use Rattle.zk_typed.specs.declared.program.Program.{Program}
+use Rattle.zk_typed.specs.Run.{Progress, Goes, Floods}
 use Rattle.zk_top.specs.Command.{Command, ListItems, RunScript, understand}
 use Rattle.zk_top.specs.Complaint.{complaint_of}
 use Rattle.zk_top.specs.Item.{items_of}
 use Rattle.zk_top.specs.Line.{lines_of}
-use Rattle.zk_top.specs.Replay.{printed}
+use Rattle.zk_top.specs.Replay.{played, printed}
 use Rattle.zk_top.specs.Script.{Refusal, script_of}
 
 pub record Outcome : Type 0 where
@@ -47,6 +48,11 @@ abbrev pub end_of_capture : List ℕ → CaptureEnding → Ending
 end_of_capture file Whole = Done
 end_of_capture file (Cut place) = CutShort file place
 
+-- after a run over them that came so far
+abbrev pub end_of_run : List ℕ → CaptureEnding → Progress → Ending
+end_of_run file ending (Goes world left) = end_of_capture file ending
+end_of_run file ending (Floods world) = Flood world.time
+
 -- the capture in a file with these bytes, or how it ends where there is none
 abbrev pub judged : List ℕ → Result Capture CaptureFault → Result Capture Ending
 judged file (Err fault) = Err (CaptureRefused file (place_of fault))
@@ -65,18 +71,32 @@ abbrev pub loaded : List ℕ → Option (List ℕ) → Result Program Ending
 loaded file None = Err (NoInput file)
 loaded file (Some text) = accepted file (script_of text)
 
--- what is said over a capture, after these names were asked for
-abbrev pub over_capture : (Capture → List ℕ) → List (List ℕ) → List ℕ → Result Capture Ending → Outcome
-over_capture said_of asked file (Err ending) = ending_so ending [] asked
-over_capture said_of asked file (Ok capture) = ending_so (end_of_capture file capture.ending) (said_of capture) asked
+-- what a command reports over a capture that it reads: how it ends, and what it says
+pub record Report : Type 0 where
+  pub ending : Ending
+  pub said : List ℕ
+
+-- the report over a capture, or none, after these names were asked for
+abbrev pub over_capture : (Capture → Report) → List (List ℕ) → Result Capture Ending → Outcome
+over_capture report asked (Err ending) = ending_so ending [] asked
+over_capture report asked (Ok capture) = ending_so (report capture).ending (report capture).said asked
 
 -- a listing of a file with these bytes, or of none
+abbrev pub listed : List ℕ → Capture → Report
+listed file capture = record { ending = end_of_capture file capture.ending; said = lines_of (items_of capture.packets) }
+
 abbrev pub listing : List ℕ → Option (List ℕ) → Outcome
-listing file found = over_capture (λ capture. lines_of (items_of capture.packets)) (file ∷ []) file (opened file found)
+listing file found = over_capture (listed file) (file ∷ []) (opened file found)
 
 -- a run of a program, whose script was asked for
+abbrev pub replayed : List ℕ → Program → Capture → Report
+replayed file program capture = record {
+  ending = end_of_run file capture.ending (played program capture.packets);
+  said = printed program capture.packets;
+}
+
 abbrev pub replay : List ℕ → List ℕ → Program → Option (List ℕ) → Outcome
-replay file script program found = over_capture (λ capture. printed program capture.packets) (script ∷ file ∷ []) file (opened file found)
+replay file script program found = over_capture (replayed file program) (script ∷ file ∷ []) (opened file found)
 
 -- A run of a script over a capture. The capture is asked for once the script is accepted.
 abbrev pub running : List ℕ → List ℕ → Result Program Ending → Files → Outcome

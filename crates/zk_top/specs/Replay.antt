@@ -1,4 +1,4 @@
--- What a program prints over a capture.
+-- How far a program comes over a capture, and what it prints.
 use Rattle.std.specs.Prelude.{ℕ, List, [], ◌∷◌, ◌++◌, map}
 use Rattle.std.specs.List.{flat_map}
 use Rattle.zk_pcap.specs.declared.records.Packet.{Packet}
@@ -6,7 +6,8 @@ use Rattle.zk_pcap.specs.NetworkTime.{now}
 use Rattle.zk_tree.specs.Value.{Count, Time}
 use Rattle.zk_typed.specs.declared.program.Program.{Program}
 use Rattle.zk_typed.specs.Typed.{packet_seen}
-use Rattle.zk_typed.specs.Run.{Queued, queued, Turn, run}
+use Rattle.zk_typed.specs.Run.{Progress, world_in, Turn, run}
+use Rattle.zk_typed.specs.World.{Queued, queued}
 use Rattle.zk_top.specs.Item.{Item, What, Seen, items_of}
 use Rattle.zk_top.specs.Line.{line_end}
 
@@ -25,6 +26,10 @@ turn_of item = record { moment = item.moment; events = event_of item.what ∷ []
 abbrev pub text_of : List (List ℕ) → List ℕ
 text_of lines = flat_map (λ line. line ++ line_end) lines
 
--- the lines that a program prints over these packets
+-- how far a program comes over these packets
+abbrev pub played : Program → List Packet → Progress
+played program packets = run program budget (map turn_of (items_of packets)) (now packets)
+
+-- the lines that it prints
 abbrev pub printed : Program → List Packet → List ℕ
-printed program packets = text_of (run program budget (map turn_of (items_of packets)) (now packets)).lines
+printed program packets = text_of (world_in (played program packets)).lines

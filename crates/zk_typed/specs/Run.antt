@@ -1,5 +1,6 @@
--- A run of a program over the items of a capture (Zeek manual, events zeek_init and zeek_done).
-use Rattle.std.specs.Prelude.{ℕ, ◌==◌, List, [], filter, fold}
+-- A run of a program over the items of a capture (Zeek manual, events zeek_init and zeek_done). Events are
+-- dispatched one at a time: those that an item raises wait in the queue, and so will those that handlers raise.
+use Rattle.std.specs.Prelude.{ℕ, zero, suc, ◌==◌, List, [], ◌∷◌, filter, fold}
 use Rattle.zk_base.specs.declared.numbers.EventNo.{EventNo}
 use Rattle.zk_base.specs.declared.time.Moment.{Moment}
 use Rattle.zk_tree.specs.Value.{Value}
@@ -7,20 +8,9 @@ use Rattle.zk_typed.specs.declared.program.Program.{Program}
 use Rattle.zk_typed.specs.declared.program.Handler.{Handler}
 use Rattle.zk_typed.specs.Exec.{exec_body}
 use Rattle.zk_typed.specs.Typed.{zeek_init, zeek_done}
-use Rattle.zk_typed.specs.World.{World, first_world, at_time}
+use Rattle.zk_typed.specs.World.{World, Queued, queued, first_world, at_time, with_events, at_end}
 
--- an event that waits, with its arguments
-pub record Queued : Type 0 where
-  pub event : EventNo
-  pub args : List Value
-
-abbrev pub queued : EventNo → List Value → Queued
-queued event args = record { event = event; args = args }
-
--- the events of an item of the capture, at its network time
-pub record Turn : Type 0 where
-  pub moment : Moment
-  pub events : List Queued
+-- Dispatch ---------------------------------------------------------------------------------------------------------
 
 -- the handlers of an event, in load order
 abbrev pub handlers_of : Program → EventNo → List Handler
@@ -33,16 +23,62 @@ bodies args budget world handlers = fold (λ before handler. (exec_body handler 
 abbrev pub dispatch : Program → ℕ → World → Queued → World
 dispatch program budget world event = bodies event.args budget world (handlers_of program event.event)
 
-abbrev pub turn : Program → ℕ → World → Turn → World
-turn program budget world item = fold (dispatch program budget) (at_time item.moment world) item.events
+-- The queue --------------------------------------------------------------------------------------------------------
 
--- the world after `zeek_init`, and after items
-abbrev pub begun : Program → ℕ → World
-begun program budget = dispatch program budget first_world (queued zeek_init [])
+-- how far a run has come
+pub data Progress : Type 0 where
+  -- to this world, and so many dispatches may still come before the next item
+  Goes : (world : World) (left : ℕ) → Progress
+  -- to its end in this world, for a flood of events
+  Floods : (world : World) → Progress
 
-abbrev pub replayed : Program → ℕ → List Turn → World
+-- the world that a run has come to
+abbrev pub world_in : Progress → World
+world_in (Goes world left) = world
+world_in (Floods world) = world
+
+-- where no dispatch may come any more
+abbrev pub none_left : World → List Queued → Progress
+none_left world [] = Goes world 0
+none_left world (first ∷ others) = Floods world
+
+-- where one may: the first event that waits is dispatched, and then the others may be
+abbrev pub one_more : Program → ℕ → ℕ → (World → Progress) → World → List Queued → Progress
+one_more program budget left then world [] = Goes world (suc left)
+one_more program budget left then world (first ∷ others) = then (dispatch program budget (record world { queue = others }) first)
+
+-- the events that wait are dispatched until none waits, and at most so many
+abbrev pub drained : Program → ℕ → ℕ → World → Progress
+drained program budget zero world = none_left world world.queue
+drained program budget (suc left) world = one_more program budget left (drained program budget left) world world.queue
+
+-- The run ----------------------------------------------------------------------------------------------------------
+
+-- so many dispatches may come at the beginning, and from one item to the next
+unfoldable pub dispatches_max : ℕ
+dispatches_max = 1_000_000
+
+-- an item of the capture at its network time, and the events that it raises
+pub record Turn : Type 0 where
+  pub moment : Moment
+  pub events : List Queued
+
+-- `zeek_init` comes at time 0. No name can be given an initial value yet, so nothing comes before it.
+abbrev pub begun : Program → ℕ → Progress
+begun program budget = drained program budget dispatches_max (with_events (queued zeek_init [] ∷ []) first_world)
+
+-- the events of an item. Nothing can be scheduled yet, and no entry expires, so nothing is due before them.
+abbrev pub turn : Program → ℕ → Progress → Turn → Progress
+turn program budget (Goes world left) item = drained program budget dispatches_max (with_events item.events (at_time item.moment world))
+turn program budget (Floods world) item = Floods world
+
+abbrev pub replayed : Program → ℕ → List Turn → Progress
 replayed program budget items = fold (turn program budget) (begun program budget) items
 
--- The world at the end: `zeek_init` comes at time 0, then the items, and `zeek_done` at the last network time.
-abbrev pub run : Program → ℕ → List Turn → Moment → World
-run program budget items last = dispatch program budget (at_time last (replayed program budget items)) (queued zeek_done [])
+-- `zeek_done` comes at the last network time, and counts with the dispatches of the last item.
+abbrev pub ended : Program → ℕ → Moment → Progress → Progress
+ended program budget last (Goes world left) = drained program budget left (with_events (queued zeek_done [] ∷ []) (at_end last world))
+ended program budget last (Floods world) = Floods world
+
+abbrev pub run : Program → ℕ → List Turn → Moment → Progress
+run program budget items last = ended program budget last (replayed program budget items)

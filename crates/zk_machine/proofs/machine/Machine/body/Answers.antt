@@ -11,7 +11,7 @@ pub returns-in-Ok-clause-ended : goal.returns-in-Ok-clause-ended
 returns-in-Ok-clause-ended c program given world of stands found =
     let prints = c.prints_of-prints.result.now in
     let whole = body_is c.args.self.now program given world of prints c.args.args.now c.args.budget stands (c.prints_of-prints.ensures program of stands.code found) in
-    sym (ap (λ left. end_of left.outcome) (whole ∙ ap (behind given) c.in-Ok.ensures.goes_on))
+    sym (ap (λ left. end_of left.outcome) (whole ∙ ap (behind world given) c.in-Ok.ensures.goes_on))
 
 pub returns-in-Ok-clause-stands : goal.returns-in-Ok-clause-stands
 returns-in-Ok-clause-stands c program given world of stands found =

@@ -260,16 +260,16 @@ mod tests {
     #[test]
     fn the_calls_that_are_told_fail_and_halve_their_pieces(rt: HostRuntime) -> Result<(), Fail> {
         let alloc = rt.alloc();
-        for (fails, answers, output, said, complained, calls) in ROWS {
+        for (fails, answers, output, said, complained, calls) in &ROWS {
             let name = Bytes::copy_of(alloc, b"greeting")?;
             let content = Bytes::copy_of(alloc, b"good day")?;
             let inputs = vec![in alloc; (name, content)]?;
             let mut shelf = MemShelf::new(alloc, inputs, Vec::from_slice(alloc, fails)?)?;
-            assert_eq!(rt; play(&mut shelf), *answers, "where {fails:?} fail");
-            assert_eq!(rt; shelf.output(b"log"), output, "where {fails:?} fail");
-            assert_eq!(rt; shelf.said(), said, "where {fails:?} fail");
-            assert_eq!(rt; shelf.complained(), complained, "where {fails:?} fail");
-            assert_eq!(rt; shelf.calls(), calls, "where {fails:?} fail");
+            assert_eq!(rt; play(&mut shelf), **answers, "where {fails:?} fail");
+            assert_eq!(rt; shelf.output(b"log"), *output, "where {fails:?} fail");
+            assert_eq!(rt; shelf.said(), *said, "where {fails:?} fail");
+            assert_eq!(rt; shelf.complained(), *complained, "where {fails:?} fail");
+            assert_eq!(rt; shelf.calls(), *calls, "where {fails:?} fail");
         }
         Ok(())
     }

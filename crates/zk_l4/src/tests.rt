@@ -110,10 +110,10 @@ fn fields_of(tcp: Tcp<'_>) -> Fields {
 
 #[test]
 fn tcp_fields_are_those_that_tshark_prints(rt: HostRuntime) -> Result<(), L4Fault> {
-    for (src, dst, bytes, fields) in SEGMENTS {
+    for (src, dst, bytes, fields) in &SEGMENTS {
         assert!(rt; bytes.len() <= 65535);
-        let tcp = Tcp::read(src, dst, bytes, bytes.len(), true)?;
-        assert_eq!(rt; fields_of(tcp), fields);
+        let tcp = Tcp::read(*src, *dst, bytes, bytes.len(), true)?;
+        assert_eq!(rt; fields_of(tcp), *fields);
         assert_eq!(rt; tcp.full_payload(), 0);
         assert!(rt; tcp.payload().is_empty());
     }
@@ -192,12 +192,12 @@ fn tcp_segments_have_the_payload_that_tcpdump_prints_or_their_first_fault(rt: Ho
         (&LOW_OFFSET[..19], 23, true, Err(L4Fault::Short)),
         (LONGEST, 60, true, Ok((0, b""))),
     ];
-    for (bytes, full, check, wanted) in rows {
-        assert!(rt; bytes.len() <= full && full <= 65535);
-        let answer = Tcp::read(CLIENT, SERVER, bytes, full, check);
+    for (bytes, full, check, wanted) in &rows {
+        assert!(rt; bytes.len() <= *full && *full <= 65535);
+        let answer = Tcp::read(CLIENT, SERVER, bytes, *full, *check);
         assert_eq!(rt;
             answer.map(|tcp| (tcp.full_payload(), tcp.payload())),
-            wanted
+            *wanted
         );
     }
     let over_ipv6 = Tcp::read(CLIENT6, SERVER6, ODD6, 29, true);
@@ -244,12 +244,12 @@ fn udp_datagrams_have_the_payload_that_tcpdump_prints_or_their_first_fault(rt: H
         (&PADDED[..9], 14, true, Ok((3, b"a"))),
         (ALL_ONES, 10, true, Ok((2, &[0x4f, 0x2f]))),
     ];
-    for (bytes, full, check, wanted) in rows {
-        assert!(rt; bytes.len() <= full && full <= 65535);
-        let answer = Udp::read(CLIENT, SERVER, bytes, full, check);
+    for (bytes, full, check, wanted) in &rows {
+        assert!(rt; bytes.len() <= *full && *full <= 65535);
+        let answer = Udp::read(CLIENT, SERVER, bytes, *full, *check);
         assert_eq!(rt;
             answer.map(|udp| (udp.full_payload(), udp.payload())),
-            wanted
+            *wanted
         );
     }
     let over_ipv6 = Udp::read(CLIENT6, SERVER6, UDP6, 11, true);

@@ -57,10 +57,10 @@ const REFUSED: [(&[u8], usize); 12] = [
 #[test]
 fn the_first_declaration_that_does_not_read_is_named(rt: HostRuntime) -> Result<(), Fail> {
     let alloc = rt.alloc();
-    for (text, at) in REFUSED {
+    for (text, at) in &REFUSED {
         let tokens = tokens(alloc, text)?;
         let fault = parse(alloc, &tokens).err().ok_or("it is refused")?;
-        assert_eq!(rt; fault, ParseFault::NoTree { at });
+        assert_eq!(rt; fault, ParseFault::NoTree { at: *at });
     }
     Ok(())
 }

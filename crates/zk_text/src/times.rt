@@ -81,9 +81,9 @@ mod tests {
 
     #[test]
     fn spans_print_as_seconds_with_six_decimals(rt: HostRuntime) -> Result<(), Fail> {
-        for (n, text) in ROWS {
+        for (n, text) in &ROWS {
             let mut out = [b'?'; SPAN_TEXT_MAX];
-            let len = span_text(n, &mut out)?;
+            let len = span_text(*n, &mut out)?;
             assert_eq!(rt; &out[..len], text.as_bytes(), "at {n}");
         }
         Ok(())

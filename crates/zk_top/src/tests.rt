@@ -269,14 +269,14 @@ const ROWS: [(&[u8], &[u8], &[u8], u8, &[u8], &[u8]); 27] = [
 
 #[test]
 fn each_run_says_its_lines_and_complains_of_its_ending(rt: HostRuntime) -> Result<(), Fail> {
-    for (line, capture, script, status, said, complained) in ROWS {
+    for (line, capture, script, status, said, complained) in &ROWS {
         let alloc = rt.alloc();
         let files = inputs(alloc, capture, script)?;
         let mut shelf = SureShelf::new(alloc, files)?;
         let ending = run(alloc, &words(alloc, line)?, &mut shelf);
-        assert_eq!(rt; ending.status(), status);
-        assert_eq!(rt; shelf.said(), said);
-        assert_eq!(rt; shelf.complained(), complained);
+        assert_eq!(rt; ending.status(), *status);
+        assert_eq!(rt; shelf.said(), *said);
+        assert_eq!(rt; shelf.complained(), *complained);
     }
     Ok(())
 }

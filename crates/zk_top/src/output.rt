@@ -1,4 +1,4 @@
-ghost use Rattle.std.specs.Prelude.{◌≡◌, [], ◌++◌, OnOk, IfErr};
+ghost use Rattle.std.specs.Prelude.{◌≡◌, ◌≤◌, ◌+◌, [], ◌++◌, length, OnOk, IfErr};
 ghost use Rattle.zk_top.specs.Line.{line_end};
 ghost use Rattle.zk_top.specs.Run.{DoesAll, DoesPart, HandsOver};
 
@@ -14,6 +14,7 @@ const ROOM: usize = 128;
 
 /// Says a piece that is nearly full, and begins a new one.
 pub fn make_room<S: Shelf>(shelf: &mut S, piece: &mut Vec<u8>) -> Result<(), Stop>
+    ensures room { OnOk result (length piece.new.items + ROOM ≤ PIECE) }
     ensures said { OnOk result (HandsOver (S.outside shelf.old) piece.old.items (S.outside shelf.new) piece.new.items) }
     ensures stopped { IfErr result (λ stop. DoesPart [] piece.old.items [] (S.outside shelf.old) stop (S.outside shelf.new)) }
 {

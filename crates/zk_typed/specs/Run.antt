@@ -17,6 +17,7 @@ abbrev pub handlers_of : Program → EventNo → List Handler
 handlers_of program event = filter (λ handler. handler.event.0 == event.0) program.handlers
 
 -- bodies one after another, each with the whole budget, from the world that the last one left, however it ended
+-- (a row that reports one which is spent or at fault comes with logs)
 abbrev pub bodies : List Value → ℕ → World → List Handler → World
 bodies args budget world handlers = fold (λ before handler. (exec_body handler args before budget).world) world handlers
 

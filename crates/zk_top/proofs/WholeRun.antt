@@ -1,20 +1,21 @@
 -- A run from its beginning to its end. Each item raises one event, which is dispatched at once: no event waits
--- behind another, and no flood comes.
+-- behind another, and no flood comes. Where nothing handles packets, none is an item, and nothing comes of that.
 use Rattle.std.proofs.Common.{◌≡◌, ℕ, zero, suc, List, [], ◌∷◌, ◌++◌, map, fold, refl, sym, ap, ◌∙◌}
 use Rattle.zk_base.specs.declared.numbers.HandlerNo.{HandlerNo}
 use Rattle.zk_base.specs.declared.time.Moment.{Moment}
 use Rattle.zk_pcap.specs.declared.captures.Capture.{Capture}
 use Rattle.zk_pcap.specs.declared.records.Packet.{Packet}
 use Rattle.zk_pcap.specs.NetworkTime.{now}
+use Rattle.zk_typed.specs.declared.program.Handler.{Handler}
 use Rattle.zk_typed.specs.declared.program.Program.{Program}
-use Rattle.zk_typed.specs.Run.{Progress, Goes, world_in, handlers_of, bodies, dispatch, none_left, one_more, drained, dispatches_max, begun, turn, replayed, ended}
+use Rattle.zk_typed.specs.Run.{Progress, Goes, world_in, handlers_of, bodies, dispatch, none_left, one_more, drained, dispatches_max, begun, turn, ended, run}
 use Rattle.zk_typed.specs.Typed.{zeek_init, zeek_done, packet_seen}
 use Rattle.zk_typed.specs.World.{World, Queued, queued, first_world, at_time, with_events, at_end}
 use Rattle.zk_top.specs.Item.{Item, What, Seen, items_of}
 use Rattle.zk_top.specs.Named.{named}
 use Rattle.zk_top.specs.Outcome.{end_of_capture, end_of_run, replayed as report}
 use Rattle.zk_top.specs.Playing.{after_item}
-use Rattle.zk_top.specs.Replay.{budget, event_of, played, printed, text_of, turn_of}
+use Rattle.zk_top.specs.Replay.{budget, event_of, items_for, played, printed, text_of, turn_of}
 use Rattle.zk_top.specs.Run.{IsFront}
 use Rattle.zk_top.proofs.Doing.{front_trans}
 use Rattle.zk_top.proofs.Growth.{bodies_add, text_front}
@@ -78,16 +79,35 @@ turns_are program world (item ∷ items) none =
 over_none : (program : Program) (packets : List Packet) → (over_world program packets).queue ≡ []
 over_none program packets = (items_add (handlers_of program packet_seen) (begun_world program) (items_of packets)).queue ∙ begun_none program
 
-replayed_is : (program : Program) (packets : List Packet) → replayed program budget (map turn_of (items_of packets)) ≡ Goes (over_world program packets) most_left
-replayed_is program packets =
-    ap (λ (p : Progress). fold (turn program budget) p (map turn_of (items_of packets))) (begun_is program)
-    ∙ turns_are program (begun_world program) (items_of packets) (begun_none program)
+-- to the end from a world in which no event waits
+ended_is : (program : Program) (last : Moment) (world : World) → world.queue ≡ [] → ended program budget last (Goes world most_left) ≡ Goes (dispatch program budget (at_end last world) (queued zeek_done [])) 999_998
+unfolding most_left
+ended_is program last world none = one_drained program 999_998 (at_end last world) (queued zeek_done []) none
+
+-- Where nothing handles packets they change the network time alone, and the end has its own.
+unseen : (last : Moment) (world : World) (items : List Item) → at_end last (fold (after_item []) world items) ≡ at_end last world
+unseen last world [] = refl
+unseen last world (item ∷ items) = unseen last (at_time item.moment world) items
+
+-- A run with these handlers of packets: those of no packet that is asked for may be left out.
+run_with : (program : Program) (seen : List Handler) (packets : List Packet) → seen ≡ handlers_of program packet_seen
+    → run program budget (map turn_of (items_for seen packets)) (now packets) ≡ Goes (whole_run program packets) 999_998
+unfolding whole_run
+run_with program [] packets is =
+    let last : Moment = now packets in
+    let begins : World = begun_world program in
+    let done : World → Progress = λ (w : World). Goes (dispatch program budget w (queued zeek_done [])) 999_998 in
+    ap (ended program budget last) (begun_is program)
+    ∙ ended_is program last begins (begun_none program)
+    ∙ ap done (sym (unseen last begins (items_of packets)))
+    ∙ ap (λ hs. done (at_end last (fold (after_item hs) begins (items_of packets)))) is
+run_with program (handler ∷ handlers) packets is =
+    ap (λ (p : Progress). ended program budget (now packets) (fold (turn program budget) p (map turn_of (items_of packets)))) (begun_is program)
+    ∙ ap (ended program budget (now packets)) (turns_are program (begun_world program) (items_of packets) (begun_none program))
+    ∙ ended_is program (now packets) (over_world program packets) (over_none program packets)
 
 run_is : (program : Program) (packets : List Packet) → played program packets ≡ Goes (whole_run program packets) 999_998
-unfolding whole_run most_left
-run_is program packets =
-    ap (ended program budget (now packets)) (replayed_is program packets)
-    ∙ one_drained program 999_998 (at_end (now packets) (over_world program packets)) (queued zeek_done []) (over_none program packets)
+run_is program packets = run_with program (handlers_of program packet_seen) packets refl
 
 -- What comes of it -------------------------------------------------------------------------------------------------
 

@@ -10,6 +10,7 @@ use zk_base::{Bytes, Word};
 /// Why the words of the command line can't be had. Nothing is said of it but the exit status.
 #[derive(Clone, Copy, Debug, PartialEq, Eq)]
 pub enum ArgumentFault {
+    /// Memory ran out.
     NoMemory,
     /// The system doesn't give them as UTF-8 texts.
     NotText,

@@ -159,7 +159,8 @@ fn append<F: Files>(files: &F, name: &[u8], bytes: &[u8]) -> io::Result<()> {
     file.write_all(bytes)
 }
 
-/// Reads once, and again where a signal came between.
+/// Reads once, and again where a signal came between. After 2^64 - 1 signals it gives up, so that it
+/// ends.
 fn read_some<R: Read>(reader: &mut R, buf: &mut [u8]) -> io::Result<usize>
     ensures bound { ReadsAtMost result buf.new }
     ensures ok { IfOk result (λ n. Consumes (R.remaining reader.old) (R.remaining reader.new) (take n buf.new)) }

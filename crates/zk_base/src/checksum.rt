@@ -45,8 +45,8 @@ mod tests {
         assert_eq!(rt; word_sum(&bytes), 0x2ddf0);
         assert_eq!(rt; word_sum(&bytes[..7]), 0x2ddf0 - 0xf7);
         let checksum = 0xffff - 0xddf2;
-        assert_eq!(rt; is_right(0x2ddf0 + checksum), true);
-        assert_eq!(rt; is_right(0x2ddf0 + checksum + 1), false);
-        assert_eq!(rt; is_right(0), false);
+        assert!(rt; is_right(0x2ddf0 + checksum));
+        assert!(rt; !is_right(0x2ddf0 + checksum + 1));
+        assert!(rt; !is_right(0));
     }
 }

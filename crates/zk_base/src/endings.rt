@@ -40,7 +40,8 @@ pub enum Ending {
     WriteFault,
     /// Memory ran out.
     NoMemory,
-    /// More than a million events were dispatched since the last item of the capture.
+    /// After the beginning, or after an item of the capture, more than 1,000,000 events were to be
+    /// dispatched. `moment` is network time then.
     Flood {
         moment: Moment,
     },
@@ -63,13 +64,14 @@ pub enum ScriptKind {
     NoTree,
     /// A name means nothing visible.
     Unknown,
-    /// Something is declared twice.
+    /// Something is declared twice, two logs of one path have other columns, or a path is that of
+    /// `reporter`.
     Twice,
     /// A value has another type than its place asks.
     WrongType,
     /// A record lacks a field, or a constructor one that it needs.
     Field,
-    /// A record type reaches itself.
+    /// A record type reaches itself, or the parts of a type nest more than 200 deep.
     Recursive,
     /// A value that has to be a literal isn't one.
     NotConst,

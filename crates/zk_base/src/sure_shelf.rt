@@ -8,23 +8,29 @@ use crate::{Bytes, Got, Mem, Shelf, Started, Wrote};
 use std::alloc::Global;
 
 /// A shelf in memory that tells everything and never fails: its counts of faults are 0.
+///
+/// The six calls of the trait are numbered from 1, as those of `MemShelf` are.
 #[derive(Debug, Drop)]
 pub struct SureShelf {
     contents: Contents,
+    calls: u64,
     ghost no_read_faults: { contents.read_faults ≡ 0 },
     ghost no_write_faults: { contents.write_faults ≡ 0 },
 }
 
 impl SureShelf {
-    ghost use Rattle.zk_base.specs.SureShelf.{sure_outside};
+    ghost use Rattle.zk_base.specs.Faults.{one_more};
+    ghost use Rattle.zk_base.specs.SureShelf.{sure_outside, calls_of, after_write};
 
     /// A shelf with these inputs, each a name and what lies under it. Of two with one name the
     /// first counts.
     pub fn new(alloc: Global, inputs: Vec<(Bytes, Bytes)>) -> Result<SureShelf, Mem>
-        ensures { IfOk result (λ shelf. sure_outside shelf ≡ at_first inputs.items) }
+        ensures outside { IfOk result (λ shelf. sure_outside shelf ≡ at_first inputs.items) }
+        ensures calls { IfOk result (λ shelf. calls_of shelf ≡ 0) }
     {
         Ok(SureShelf {
             contents: Contents::new(alloc, inputs),
+            calls: 0,
         })
     }
 
@@ -48,19 +54,52 @@ impl SureShelf {
     {
         self.contents.complained()
     }
+
+    /// The number of the last call, and 0 before the first. It stops at 2^64 - 1.
+    pub fn calls(&self) -> u64
+        ensures { result ≡ calls_of self.now }
+    {
+        self.calls
+    }
+
+    /// Gives a call its number.
+    fn count(&mut self)
+        ensures number { calls_of self.new ≡ one_more (calls_of self.old) }
+        ensures outside { sure_outside self.new ≡ sure_outside self.old }
+    {
+        self.calls = self.calls.saturating_add(1);
+    }
+
+    /// Gives a write its number, unless it found no memory.
+    fn end_write(&mut self, wrote: Wrote) -> Wrote
+        ensures same { result ≡ wrote }
+        ensures number { calls_of self.new ≡ after_write wrote (calls_of self.old) }
+        ensures outside { sure_outside self.new ≡ sure_outside self.old }
+    {
+        if wrote != Wrote::NoMemory {
+            self.count();
+        }
+        wrote
+    }
 }
 
 impl Shelf for SureShelf {
     ghost use Rattle.zk_base.specs.Shelf.{Starts, is_open, Reads, Creates, IsCreated, Puts, after_append, after_say, after_complaint};
-    ghost use Rattle.zk_base.specs.SureShelf.{sure_outside};
+    ghost use Rattle.zk_base.specs.Faults.{one_more};
+    ghost use Rattle.zk_base.specs.SureShelf.{sure_outside, calls_of, after_start, after_write};
 
     ghost outside = { sure_outside };
 
     fn start(&mut self, name: &[u8]) -> Started
         ensures leaves { Starts (sure_outside self.old) name.now result (sure_outside self.new) }
         ensures sure { result ≢ Started.Failed }
+        ensures number { calls_of self.new ≡ after_start result (calls_of self.old) }
     {
-        self.contents.start(name)
+        let started = self.contents.start(name);
+        if started != Started::NoMemory {
+            self.count();
+        }
+        started
     }
 
     fn read(&mut self, buf: &mut [u8]) -> Got
@@ -68,37 +107,48 @@ impl Shelf for SureShelf {
         requires input { IsTrue (is_open (sure_outside self.old).reading) }
         ensures leaves { Reads (sure_outside self.old) buf.old result buf.new (sure_outside self.new) }
         ensures sure { result ≢ Got.Failed }
+        ensures number { calls_of self.new ≡ one_more (calls_of self.old) }
     {
-        self.contents.read(buf)
+        let got = self.contents.read(buf);
+        self.count();
+        got
     }
 
     fn create(&mut self, name: &[u8]) -> Wrote
         ensures leaves { Creates (sure_outside self.old) name.now result (sure_outside self.new) }
         ensures sure { result ≢ Wrote.Failed }
+        ensures number { calls_of self.new ≡ after_write result (calls_of self.old) }
     {
-        self.contents.create(name)
+        let wrote = self.contents.create(name);
+        self.end_write(wrote)
     }
 
     fn append(&mut self, name: &[u8], bytes: &[u8]) -> Wrote
         requires { IsCreated (sure_outside self.old) name.now }
         ensures leaves { Puts (after_append (sure_outside self.old) name.now) (sure_outside self.old) bytes.now result (sure_outside self.new) }
         ensures sure { result ≢ Wrote.Failed }
+        ensures number { calls_of self.new ≡ after_write result (calls_of self.old) }
     {
-        self.contents.append(name, bytes)
+        let wrote = self.contents.append(name, bytes);
+        self.end_write(wrote)
     }
 
     fn say(&mut self, bytes: &[u8]) -> Wrote
         ensures leaves { Puts (after_say (sure_outside self.old)) (sure_outside self.old) bytes.now result (sure_outside self.new) }
         ensures sure { result ≢ Wrote.Failed }
+        ensures number { calls_of self.new ≡ after_write result (calls_of self.old) }
     {
-        self.contents.say(bytes)
+        let wrote = self.contents.say(bytes);
+        self.end_write(wrote)
     }
 
     fn complain(&mut self, bytes: &[u8]) -> Wrote
         ensures leaves { Puts (after_complaint (sure_outside self.old)) (sure_outside self.old) bytes.now result (sure_outside self.new) }
         ensures sure { result ≢ Wrote.Failed }
+        ensures number { calls_of self.new ≡ after_write result (calls_of self.old) }
     {
-        self.contents.complain(bytes)
+        let wrote = self.contents.complain(bytes);
+        self.end_write(wrote)
     }
 }
 
@@ -143,13 +193,16 @@ mod tests {
     }
 
     #[test]
-    fn what_is_said_and_complained_is_told(rt: HostRuntime) -> Result<(), Fail> {
+    fn what_is_said_and_complained_is_told_and_each_call_has_its_number(
+        rt: HostRuntime,
+    ) -> Result<(), Fail> {
         let mut shelf = shelf(rt.alloc())?;
         assert_eq!(rt; shelf.say(b"yes "), Wrote::Done);
         assert_eq!(rt; shelf.say(b"and no"), Wrote::Done);
         assert_eq!(rt; shelf.complain(b"but"), Wrote::Done);
         assert_eq!(rt; shelf.said(), b"yes and no".as_slice());
         assert_eq!(rt; shelf.complained(), b"but".as_slice());
+        assert_eq!(rt; shelf.calls(), 3);
         Ok(())
     }
 }

@@ -65,7 +65,8 @@ impl Frags {
     }
 
     /// Takes a fragment, a packet with MF or with an offset other than 0, that comes at a time not
-    /// before those of earlier ones. What it did depends on all fragments so far.
+    /// before those of earlier ones. What it did depends on all fragments so far. (The contract asks
+    /// for neither: it says what any packet does at any time.)
     ///
     /// Fragments of one source, destination, protocol and identification form a group. Their bytes
     /// go to their places, and of two copies the first stands. The first fragment without MF names

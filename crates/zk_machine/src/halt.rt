@@ -9,6 +9,7 @@ use zk_typed::BodyEnd;
 pub enum Halt {
     /// The body ends so.
     Ends(BodyEnd),
+    /// Memory ran out.
     NoMemory,
 }
 

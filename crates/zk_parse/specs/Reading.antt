@@ -23,7 +23,7 @@ use Rattle.zk_parse.specs.declared.fault.ParseFault.TheVariants.{NoTree, NoMemor
 use Rattle.zk_parse.specs.declared.fault.FormFault.{FormFault}
 use Rattle.zk_parse.specs.declared.fault.FormFault.TheVariants as form
 
--- A form that is read from the front is what it says and the tokens behind it.
+-- Reading on behind what a form has read: where it does not read, nothing behind it does.
 infixl 10 ◌>>=◌
 abbrev pub ◌>>=◌ : {A B : Type 0} → Option A → (A → Option B) → Option B
 (Some x) >>= f = f x

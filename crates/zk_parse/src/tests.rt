@@ -75,7 +75,11 @@ fn are_params(params: &[Param]) -> bool {
         [t, caplen, len] => {
             matches!(t.of, Type::Time { place: 5 })
                 && matches!(caplen.of, Type::Count { place: 9 })
+                && matches!(len.of, Type::Count { place: 13 })
                 && (t.place, caplen.place, len.place) == (3, 7, 11)
+                && t.name.as_slice() == b"t".as_slice()
+                && caplen.name.as_slice() == b"caplen".as_slice()
+                && len.name.as_slice() == b"len".as_slice()
         }
         _ => false,
     }
@@ -83,20 +87,24 @@ fn are_params(params: &[Param]) -> bool {
 
 /// Whether the values are those of its first statement.
 fn are_values(values: &[Expr]) -> bool {
-    matches!(
-        values,
+    match values {
         [
-            Expr::Name { place: 17, .. },
-            Expr::String { place: 19, .. },
+            Expr::Name { place: 17, name: t },
+            Expr::String { place: 19, bytes },
             Expr::Number {
                 place: 21,
                 number: 7,
             },
             Expr::True { place: 23 },
             Expr::False { place: 25 },
-            Expr::Call { place: 27, .. },
-        ]
-    )
+            Expr::Call { place: 27, name },
+        ] => {
+            t.as_slice() == b"t".as_slice()
+                && bytes.as_slice() == b"x".as_slice()
+                && name.as_slice() == b"network_time".as_slice()
+        }
+        _ => false,
+    }
 }
 
 /// Whether the statement prints at this place, and as many values.
@@ -164,9 +172,10 @@ fn is_second(decl: &Decl) -> bool {
 fn declarations_are_read_with_their_places(rt: HostRuntime) -> Result<(), Fail> {
     let alloc = rt.alloc();
     let tree = parse(alloc, &tokens(alloc, HANDLERS)?)?;
-    let decls = tree.decls.as_slice();
-    assert_eq!(rt; decls.len(), 2);
-    assert!(rt; decls.iter().any(is_first));
-    assert!(rt; decls.iter().any(is_second));
+    let [first, second] = tree.decls.as_slice() else {
+        panic!(rt; "two declarations")
+    };
+    assert!(rt; is_first(first));
+    assert!(rt; is_second(second));
     Ok(())
 }

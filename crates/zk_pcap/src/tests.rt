@@ -1,6 +1,6 @@
 use super::*;
 use std::alloc::{AllocError, Global};
-use std::test::*;
+use std::test::Fail;
 
 /// A header of little-endian numbers, microseconds and Ethernet.
 const HEADER: [u8; 24] = [

@@ -10,7 +10,7 @@ use Rattle.zk_typed.specs.declared.program.Program.{Program}
 use Rattle.zk_top.specs.declared.stop.Stop.{Stop}
 use Rattle.zk_top.specs.Command.{Command, ListItems, RunScript, understand}
 use Rattle.zk_top.specs.Complaint.{complaint_of}
-use Rattle.zk_top.specs.Outcome.{Outcome, Report, no_files, opened, loaded, over_capture, listed, replayed, running, outcome_of, outcome}
+use Rattle.zk_top.specs.Outcome.{Outcome, Report, no_files, opened, loaded, over_capture, list_report, run_report, running, outcome_of, outcome}
 use Rattle.zk_top.specs.Run.{IsOfCommand, IsFront, files_over, IsDone, OutputsBegun, StaysWithin, DoesAll, DoesPart, Fulfils, BreaksOff}
 use Rattle.zk_top.proofs.Doing.{front_all, does_nothing_all, does_both_all, does_both_part}
 
@@ -26,12 +26,12 @@ plain_over report names (Err e) = record { files = refl; complained = refl }
 
 plain_running : (file script : List ℕ) (found : Result Program Ending) (inputs : Files) → IsPlain (running file script found inputs)
 plain_running file script (Ok program) inputs =
-    plain_over (replayed file program) (script ∷ file ∷ []) (opened file (inputs file))
+    plain_over (run_report file program) (script ∷ file ∷ []) (opened file (inputs file))
 plain_running file script (Err e) inputs = record { files = refl; complained = refl }
 
 plain_of : (asked : Result Command ℕ) (inputs : Files) → IsPlain (outcome_of asked inputs)
 plain_of (Err word) inputs = record { files = refl; complained = refl }
-plain_of (Ok (ListItems file)) inputs = plain_over (listed file) (file ∷ []) (opened file (inputs file))
+plain_of (Ok (ListItems file)) inputs = plain_over (list_report file) (file ∷ []) (opened file (inputs file))
 plain_of (Ok (RunScript file script)) inputs = plain_running file script (loaded script (inputs script)) inputs
 
 plain : (words : List (List ℕ)) (inputs : Files) → IsPlain (outcome words inputs)

@@ -8,7 +8,7 @@ use Rattle.zk_top.specs.declared.stop.Stop.{Stop}
 use Rattle.zk_value.specs.declared.code.Code.{Code}
 use Rattle.zk_machine.specs.Lowered.{lowered}
 use Rattle.zk_top.specs.Lowering.{code_or_ending}
-use Rattle.zk_top.specs.Outcome.{Outcome, Report, over_capture, opened, loaded, replayed, running}
+use Rattle.zk_top.specs.Outcome.{Outcome, Report, over_capture, opened, loaded, run_report, running}
 use Rattle.zk_top.specs.Run.{IsFront, DoesPart, Finds, Fulfils, BreaksOff}
 use Rattle.zk_top.proofs.Doing.{front_none, front_all, front_trans, front_behind, cause_since, does_both, does_both_all}
 use Rattle.zk_top.proofs.OverCapture.{whole_refusal}
@@ -24,8 +24,8 @@ same_over : (report : Capture → Report) (script file : List ℕ) (found : Resu
 same_over report script file (Ok capture) = record { ending = refl; said = refl; complained = refl; asked = refl }
 same_over report script file (Err e) = record { ending = refl; said = refl; complained = refl; asked = refl }
 
-pub same_playing : (file script : List ℕ) (program : Program) (inputs : Files) → SameBut script (over_capture (replayed file program) (file ∷ []) (opened file (inputs file))) (running file script (Ok program) inputs)
-same_playing file script program inputs = same_over (replayed file program) script file (opened file (inputs file))
+pub same_playing : (file script : List ℕ) (program : Program) (inputs : Files) → SameBut script (over_capture (run_report file program) (file ∷ []) (opened file (inputs file))) (running file script (Ok program) inputs)
+same_playing file script program inputs = same_over (run_report file program) script file (opened file (inputs file))
 
 -- the inputs that are told stay
 told_still : (old mid : Outside) (inputs : Files) → mid.inputs ≡ old.inputs → old.inputs ≡ Some inputs → mid.inputs ≡ Some inputs
@@ -36,7 +36,7 @@ risen_before a b c le risen = record { kept = omega (arith, risen.kept); risen =
 
 -- the program was played
 pub played : (file script : List ℕ) (program : Program) (old mid : Outside) (e : Ending) (new : Outside) → Finds script (loaded script) old (Ok program) mid
-    → Fulfils (λ inputs. over_capture (replayed file program) (file ∷ []) (opened file (inputs file))) [] mid e new
+    → Fulfils (λ inputs. over_capture (run_report file program) (file ∷ []) (opened file (inputs file))) [] mid e new
     → Fulfils (λ inputs. running file script (loaded script (inputs script)) inputs) [] old e new
 played file script program old mid e new found plays = record {
   names = script ∷ plays.names;
@@ -54,7 +54,7 @@ played file script program old mid e new found plays = record {
 
 -- it was stopped
 pub played_part : (file script : List ℕ) (program : Program) (old mid : Outside) (stop : Stop) (new : Outside) → Finds script (loaded script) old (Ok program) mid
-    → BreaksOff (λ inputs. over_capture (replayed file program) (file ∷ []) (opened file (inputs file))) mid stop new
+    → BreaksOff (λ inputs. over_capture (run_report file program) (file ∷ []) (opened file (inputs file))) mid stop new
     → BreaksOff (λ inputs. running file script (loaded script (inputs script)) inputs) old stop new
 played_part file script program old mid stop new found part = record {
   names = script ∷ part.names;
@@ -66,7 +66,7 @@ played_part file script program old mid stop new found part = record {
       let inside = part.names_front inputs (told_still old mid inputs found.does.does.inputs_stay t) in
       subst (λ names. IsFront (script ∷ part.names) names)
       ((same_playing file script program inputs).asked ∙ ap (λ p. (running file script p inputs).asked) (found.told inputs t))
-      (front_behind (script ∷ []) part.names (over_capture (replayed file program) (file ∷ []) (opened file (inputs file))).asked inside);
+      (front_behind (script ∷ []) part.names (over_capture (run_report file program) (file ∷ []) (opened file (inputs file))).asked inside);
   said_front = λ inputs t. subst (λ said. IsFront part.said said)
       ((same_playing file script program inputs).said ∙ ap (λ p. (running file script p inputs).said) (found.told inputs t))
       (part.said_front inputs (told_still old mid inputs found.does.does.inputs_stay t));
@@ -75,7 +75,7 @@ played_part file script program old mid stop new found part = record {
       (part.complained_front inputs (told_still old mid inputs found.does.does.inputs_stay t));
 }
 
-asked_file : (program : Program) (file : List ℕ) (found : Result Capture Ending) → (over_capture (replayed file program) (file ∷ []) found).asked ≡ file ∷ []
+asked_file : (program : Program) (file : List ℕ) (found : Result Capture Ending) → (over_capture (run_report file program) (file ∷ []) found).asked ≡ file ∷ []
 asked_file program file (Ok capture) = refl
 asked_file program file (Err e) = refl
 

@@ -13,7 +13,7 @@ use Rattle.zk_typed.specs.Typed.{zeek_init, zeek_done, packet_seen}
 use Rattle.zk_typed.specs.World.{World, Queued, queued, first_world, at_time, with_events, at_end}
 use Rattle.zk_top.specs.Item.{Item, What, Seen, items_of}
 use Rattle.zk_top.specs.Named.{named}
-use Rattle.zk_top.specs.Outcome.{end_of_capture, end_of_run, replayed as report}
+use Rattle.zk_top.specs.Outcome.{end_of_capture, end_of_run, run_report}
 use Rattle.zk_top.specs.Playing.{after_item}
 use Rattle.zk_top.specs.Replay.{budget, event_of, items_for, played, printed, text_of, turn_of}
 use Rattle.zk_top.specs.Run.{IsFront}
@@ -114,7 +114,7 @@ run_is program packets = run_with program (handlers_of program packet_seen) pack
 pub whole_printed : (program : Program) (packets : List Packet) → text_of (whole_run program packets).lines ≡ printed program packets
 whole_printed program packets = ap (λ (p : Progress). text_of (world_in p).lines) (sym (run_is program packets))
 
-pub ends_with_capture : (file : List ℕ) (program : Program) (capture : Capture) → (report file program capture).ending ≡ end_of_capture file capture.ending
+pub ends_with_capture : (file : List ℕ) (program : Program) (capture : Capture) → (run_report file program capture).ending ≡ end_of_capture file capture.ending
 ends_with_capture file program capture = ap (end_of_run file capture.ending) (run_is program capture.packets)
 
 -- the lines so far are a front of those in the end

@@ -53,20 +53,22 @@ abbrev pub end_of_run : List ℕ → CaptureEnding → Progress → Ending
 end_of_run file ending (Goes world left) = end_of_capture file ending
 end_of_run file ending (Floods world) = Flood world.time
 
--- the capture in a file with these bytes, or how it ends where there is none
+-- the capture that was read from a file, or how it ends for the fault in it
 abbrev pub judged : List ℕ → Result Capture CaptureFault → Result Capture Ending
 judged file (Err fault) = Err (CaptureRefused file (place_of fault))
 judged file (Ok capture) = Ok capture
 
+-- the capture in a file with these bytes, or how it ends where there is none
 abbrev pub opened : List ℕ → Option (List ℕ) → Result Capture Ending
 opened file None = Err (NoInput file)
 opened file (Some bytes) = judged file (capture_of bytes)
 
--- the program in a file with this text, or how it ends where there is none
+-- the program that was read from a file, or how it ends for the refusal of it
 abbrev pub accepted : List ℕ → Result Program Refusal → Result Program Ending
 accepted file (Err refusal) = Err (ScriptRefused file refusal.place refusal.kind)
 accepted file (Ok program) = Ok program
 
+-- the program in a file with this text, or how it ends where there is none
 abbrev pub loaded : List ℕ → Option (List ℕ) → Result Program Ending
 loaded file None = Err (NoInput file)
 loaded file (Some text) = accepted file (script_of text)
@@ -81,22 +83,24 @@ abbrev pub over_capture : (Capture → Report) → List (List ℕ) → Result Ca
 over_capture report asked (Err ending) = ending_so ending [] asked
 over_capture report asked (Ok capture) = ending_so (report capture).ending (report capture).said asked
 
+-- what a listing reports over a capture
+abbrev pub list_report : List ℕ → Capture → Report
+list_report file capture = record { ending = end_of_capture file capture.ending; said = lines_of (items_of capture.packets) }
+
 -- a listing of a file with these bytes, or of none
-abbrev pub listed : List ℕ → Capture → Report
-listed file capture = record { ending = end_of_capture file capture.ending; said = lines_of (items_of capture.packets) }
-
 abbrev pub listing : List ℕ → Option (List ℕ) → Outcome
-listing file found = over_capture (listed file) (file ∷ []) (opened file found)
+listing file found = over_capture (list_report file) (file ∷ []) (opened file found)
 
--- a run of a program, whose script was asked for
-abbrev pub replayed : List ℕ → Program → Capture → Report
-replayed file program capture = record {
+-- what a run of a program reports over a capture
+abbrev pub run_report : List ℕ → Program → Capture → Report
+run_report file program capture = record {
   ending = end_of_run file capture.ending (played program capture.packets);
   said = printed program capture.packets;
 }
 
+-- a run of a program over a file, whose script was asked for
 abbrev pub replay : List ℕ → List ℕ → Program → Option (List ℕ) → Outcome
-replay file script program found = over_capture (replayed file program) (script ∷ file ∷ []) (opened file found)
+replay file script program found = over_capture (run_report file program) (script ∷ file ∷ []) (opened file found)
 
 -- A run of a script over a capture. The capture is asked for once the script is accepted.
 abbrev pub running : List ℕ → List ℕ → Result Program Ending → Files → Outcome

@@ -221,7 +221,8 @@ fn handlers_of(alloc: Global, code: &Code, event: EventNo) -> Result<Vec<Handler
     Ok(numbers)
 }
 
-/// The number of a handler. More than 2^32 handlers want more memory than there is.
+/// The number of a handler. A program of more than 2^32 handlers is answered as want of memory; no
+/// text of a permitted length has so many.
 fn handler_number(n: usize) -> Result<HandlerNo, Mem>
     ensures { IfOk result (λ number. number.0 ≡ n) }
 {

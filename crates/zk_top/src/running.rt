@@ -1,7 +1,7 @@
 ghost use Rattle.std.specs.Prelude.{◌≡◌, [], ◌∷◌, IfOk, IfErr};
 ghost use Rattle.zk_machine.specs.Lowered.{lowered};
 ghost use Rattle.zk_typed.specs.declared.program.Program.{Program};
-ghost use Rattle.zk_top.specs.Outcome.{over_capture, opened, loaded, replayed, running};
+ghost use Rattle.zk_top.specs.Outcome.{over_capture, opened, loaded, run_report, running};
 ghost use Rattle.zk_top.specs.Run.{Fulfils, BreaksOff, IsOfCommand};
 
 use crate::opening::{end_of, read_capture};
@@ -32,10 +32,10 @@ pub fn run_script<S: Shelf>(
 /// Runs a program over the capture in a file.
 fn replay<S: Shelf>(alloc: Global, shelf: &mut S, file: &[u8], code: Code) -> Result<Ending, Stop>
     ensures done { IfOk result (λ ending. (program : Program) → code ≡ lowered program
-        → Fulfils (λ inputs. over_capture (replayed file.now program) (file.now ∷ []) (opened file.now (inputs file.now))) [] (S.outside shelf.old) ending (S.outside shelf.new)) }
+        → Fulfils (λ inputs. over_capture (run_report file.now program) (file.now ∷ []) (opened file.now (inputs file.now))) [] (S.outside shelf.old) ending (S.outside shelf.new)) }
     ensures command { IfOk result IsOfCommand }
     ensures stopped { IfErr result (λ stop. (program : Program) → code ≡ lowered program
-        → BreaksOff (λ inputs. over_capture (replayed file.now program) (file.now ∷ []) (opened file.now (inputs file.now))) (S.outside shelf.old) stop (S.outside shelf.new)) }
+        → BreaksOff (λ inputs. over_capture (run_report file.now program) (file.now ∷ []) (opened file.now (inputs file.now))) (S.outside shelf.old) stop (S.outside shelf.new)) }
 {
     match read_capture(alloc, shelf, file)? {
         Ok(capture) => {

@@ -11,6 +11,7 @@ pub enum Stop {
     ReadFault,
     /// An output failed.
     WriteFault,
+    /// Memory ran out.
     NoMemory,
 }
 

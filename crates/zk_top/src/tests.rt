@@ -324,15 +324,16 @@ fn a_run_over_a_failing_shelf_stops_with_the_fault_of_the_failed_call(
         let mut sure = SureShelf::new(alloc, inputs(alloc, &file, WIDE)?)?;
         assert_eq!(rt; run(alloc, &line, &mut sure).status(), 0);
         for (n, status) in statuses.iter().enumerate() {
+            let call = n as u64 + 1;
             let mut fails = Vec::new(alloc);
-            fails.push(n as u64 + 1)?;
+            fails.push(call)?;
             let mut shelf = MemShelf::new(alloc, inputs(alloc, &file, WIDE)?, fails)?;
             let ending = run(alloc, &line, &mut shelf);
-            assert_eq!(rt; ending.status(), *status, "call {n} fails");
-            assert!(rt; sure.said().starts_with(shelf.said()), "call {n} fails");
+            assert_eq!(rt; ending.status(), *status, "call {call} fails");
+            assert!(rt; sure.said().starts_with(shelf.said()), "call {call} fails");
             assert!(rt;
                 *status == 0 || shelf.said().len() < sure.said().len(),
-                "call {n} fails"
+                "call {call} fails"
             );
         }
     }

@@ -20,8 +20,8 @@ pub data Object : Type 0 where
   -- a record of this type: the value of each field, or none
   Record : (of : RecordNo) (fields : List (Option Value)) → Object
   Vector : (items : List Value) → Object
-  -- a set or a table: its entries in the order of insertion
-  Table : (entries : List Entry) → Object
+  -- a set or a table: how many insertions there were, and the entries that are there, in the order of insertion
+  Table : (insertions : ℕ) (entries : List Entry) → Object
 
 -- the objects by their numbers, from 0, in the order in which they were made
 abbrev pub Store : Type 0

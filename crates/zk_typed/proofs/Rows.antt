@@ -100,6 +100,6 @@ one_dispatch_more_is_a_flood : drained (program []) 1 1 waiting ≡ Floods (with
 unfolding at program waiting
 one_dispatch_more_is_a_flood = refl
 
-the_end_has_begun_after_a_run : (world_in (run times 2 [] (at 0))).ending ≡ true
+the_end_has_begun_after_a_run : (world_in (run times 2 [] (at 0))).is_ending ≡ true
 unfolding at handler program times dispatches_max
 the_end_has_begun_after_a_run = refl

@@ -10,7 +10,7 @@ pub record Filter : Type 0 where
   pub name : List ℕ
   pub path : Option (List ℕ)
   pub policy : Option HookNo
-  -- the columns of the stream that are kept, by their places
+  -- the columns that are kept, by their places among the flattened columns of the stream
   pub columns : List ℕ
 
 -- a stream with its filters, in the order in which they were added
@@ -19,17 +19,17 @@ pub record Stream : Type 0 where
   pub event : Option EventNo
   pub path : List ℕ
   pub policy : Option HookNo
-  -- the logged fields of its record type, by their places
+  -- the logged fields of the record type that it was made for, nested records flattened: the places of the fields
   pub columns : List ℕ
   pub filters : List Filter
 
--- a column: its name, the name of its type, and whether it counts packets
+-- a column: its name, the name of its type, and whether its field is marked `&wire`
 pub record Column : Type 0 where
   pub name : List ℕ
   pub kind : List ℕ
   pub wire : Bool
 
--- a string, or the text of any other value
+-- a string, or the text of any other value: of a port its number alone
 pub data Atom : Type 0 where
   Text : (bytes : List ℕ) → Atom
   Plain : (bytes : List ℕ) → Atom

@@ -28,7 +28,7 @@ dispatch program budget world event = bodies event.args budget world (handlers_o
 
 -- how far a run has come
 pub data Progress : Type 0 where
-  -- to this world, and so many dispatches may still come before the next item
+  -- to this world, and so many dispatches may still come before the next item or the end
   Goes : (world : World) (left : ℕ) → Progress
   -- to its end in this world, for a flood of events
   Floods : (world : World) → Progress
@@ -55,7 +55,7 @@ drained program budget (suc left) world = one_more program budget left (drained 
 
 -- The run ----------------------------------------------------------------------------------------------------------
 
--- so many dispatches may come at the beginning, and from one item to the next
+-- so many dispatches may come from the beginning on, and from each item on
 unfoldable pub dispatches_max : ℕ
 dispatches_max = 1_000_000
 
@@ -76,7 +76,8 @@ turn program budget (Floods world) item = Floods world
 abbrev pub replayed : Program → ℕ → List Turn → Progress
 replayed program budget items = fold (turn program budget) (begun program budget) items
 
--- `zeek_done` comes at the last network time, and counts with the dispatches of the last item.
+-- `zeek_done` comes at the last network time, and counts with the dispatches since the last item, or since the
+-- beginning where there is no item.
 abbrev pub ended : Program → ℕ → Moment → Progress → Progress
 ended program budget last (Goes world left) = drained program budget left (with_events (queued zeek_done [] ∷ []) (at_end last world))
 ended program budget last (Floods world) = Floods world

@@ -24,7 +24,7 @@ pub record World : Type 0 where
   -- network time
   pub time : Moment
   -- whether the end has begun: then nothing expires, and nothing more is scheduled
-  pub ending : Bool
+  pub is_ending : Bool
   -- the objects by their numbers
   pub store : Store
   -- the values of globals and constants by their numbers, each where it has one
@@ -35,7 +35,7 @@ pub record World : Type 0 where
   pub scheduled : List Scheduled
   -- the log streams with their filters
   pub streams : List Stream
-  -- the rows written so far
+  -- the rows written so far (nothing writes one yet)
   pub rows : List Row
   -- the lines printed so far, without their ends
   pub lines : List (List ℕ)
@@ -44,7 +44,7 @@ pub record World : Type 0 where
 abbrev pub first_world : World
 first_world = record {
   time = record { 0 = pos 0 };
-  ending = false;
+  is_ending = false;
   store = [];
   globals = [];
   queue = [];
@@ -66,4 +66,4 @@ with_line world line = record world { lines = world.lines ++ line ∷ [] }
 
 -- the end begins, at the last network time
 abbrev pub at_end : Moment → World → World
-at_end last world = record world { time = last; ending = true }
+at_end last world = record world { time = last; is_ending = true }

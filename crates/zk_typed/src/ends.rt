@@ -3,7 +3,7 @@ use zk_tree::Place;
 /// What can go wrong while a script runs.
 #[derive(Clone, Copy, Debug, PartialEq, Eq)]
 pub enum FaultKind {
-    /// A table lacks the key, or a vector ends before the index.
+    /// A table without a default lacks the key, or a vector ends before the index.
     NoIndex,
     /// A record has no value in the field.
     NoField,

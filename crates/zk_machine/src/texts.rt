@@ -1,5 +1,5 @@
 ghost use Rattle.std.specs.Prelude.{◌≡◌, ◌==◌, ◌++◌, [], codes, OnOk, if◌then◌else◌};
-ghost use Rattle.zk_tree.specs.Value.{Truth};
+ghost use Rattle.zk_tree.specs.Value.{Bool};
 ghost use Rattle.zk_typed.specs.Text.{text_of};
 ghost use Rattle.zk_value.specs.Plain.{value_of};
 
@@ -18,7 +18,7 @@ pub fn push_separator(line: &mut Vec<u8>, number: usize) -> Result<(), AllocErro
 
 /// Adds `T` or `F`.
 pub fn push_bool(line: &mut Vec<u8>, truth: bool) -> Result<(), AllocError>
-    ensures { OnOk result (line.new.items ≡ line.old.items ++ text_of (Truth truth)) }
+    ensures { OnOk result (line.new.items ≡ line.old.items ++ text_of (Bool truth)) }
 {
     line.extend_from_slice(if truth { b"T" } else { b"F" })
 }

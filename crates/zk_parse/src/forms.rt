@@ -5,7 +5,7 @@ ghost use Rattle.std.specs.List.{list_any, list_all};
 ghost use Rattle.std.specs.Str.{bytes_eq};
 ghost use Rattle.zk_tree.specs.Forms.{type_name, are_params, is_head, names_of, is_expr, is_stmt, is_decl};
 
-use zk_tree::{Decl, Expr, Param, Stmt, Type};
+use zk_tree::{Decl, Expr, PACKET_SEEN, Param, Stmt, Type, ZEEK_DONE, ZEEK_INIT, event_number};
 
 fn type_name(of: &Type) -> &'static [u8]
     ensures { result.now ≡ type_name of.now }
@@ -49,9 +49,11 @@ fn are_of_packet(params: &[Param]) -> bool
 fn is_head(name: &[u8], params: &[Param]) -> bool
     ensures { result ≡ is_head name.now params.now }
 {
-    (name == b"zeek_init".as_slice() && are_none(params))
-        || (name == b"zeek_done".as_slice() && are_none(params))
-        || (name == b"packet_seen".as_slice() && are_of_packet(params))
+    match event_number(name) {
+        ZEEK_INIT | ZEEK_DONE => are_none(params),
+        PACKET_SEEN => are_of_packet(params),
+        _ => false,
+    }
 }
 
 /// Whether a parameter has this name.

@@ -29,7 +29,7 @@ pub enum CaptureEnding {
 }
 
 /// How many bytes of a file count.
-const COUNTED: usize = 1 << 40;
+pub const CAPTURE_MAX: usize = 1 << 40;
 
 /// Reads the packets of a capture (draft-ietf-opsawg-pcap). Only the first 2^40 bytes of the file
 /// count. The capture is cut at the first record that isn't whole within them, or whose captured
@@ -58,7 +58,7 @@ pub fn packets(alloc: Global, bytes: &[u8]) -> Result<Capture, CaptureFault>
 fn first_bytes(bytes: &[u8]) -> &[u8]
     ensures { result.now ≡ counted bytes.now }
 {
-    &bytes[..COUNTED.min(bytes.len())]
+    &bytes[..CAPTURE_MAX.min(bytes.len())]
 }
 
 /// The packets whose records stand one behind another in a file with this header, and the place

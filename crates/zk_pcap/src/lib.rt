@@ -6,7 +6,7 @@ mod faults;
 mod headers;
 mod records;
 
-pub use captures::{Capture, CaptureEnding, packets};
+pub use captures::{CAPTURE_MAX, Capture, CaptureEnding, packets};
 pub use faults::CaptureFault;
 pub use headers::Header;
 pub use records::Packet;

@@ -1,18 +1,15 @@
 ghost use Rattle.std.specs.Prelude.{◌≡◌, IfOk};
-ghost use Rattle.zk_tree.specs.Forms.{names_of};
-ghost use Rattle.zk_typed.specs.Typed.{number_of, event_of, expression_of, statement_of, handler_of, program_of};
+ghost use Rattle.zk_tree.specs.Forms.{number_of, names_of};
+ghost use Rattle.zk_typed.specs.Typed.{expression_of, statement_of, handler_of, program_of};
 
 use crate::mapping::map_all;
 use std::alloc::Global;
-use zk_base::{Bytes, EventNo, Mem};
-use zk_tree::{Decl, Expr, Param, Place, Stmt, Tree};
-use zk_typed::{Expression, Handler, PACKET_SEEN, Program, Statement, ZEEK_DONE, ZEEK_INIT};
+use zk_base::{Bytes, Mem};
+use zk_tree::{Decl, Expr, Param, Place, Stmt, Tree, event_number};
+use zk_typed::{Expression, Handler, Program, Statement};
 
 /// The file of the one text of a run.
 const FILE: usize = 0;
-
-/// What a name gives that is of no event. A tree that was read has no such name.
-const NO_EVENT: EventNo = EventNo(3);
 
 /// The typed program of a tree: each name is resolved to what it stands for. The tree was read, so
 /// that each name stands for something.
@@ -39,25 +36,10 @@ fn handler_of(alloc: Global, decl: &Decl) -> Result<Handler, Mem>
                 statement_of(alloc, params, stmt)
             })?;
             Ok(Handler {
-                event: event_of(name.as_slice()),
+                event: event_number(name.as_slice()),
                 body,
             })
         }
-    }
-}
-
-/// The number of the event of a name.
-fn event_of(name: &[u8]) -> EventNo
-    ensures { result ≡ event_of name.now }
-{
-    if name == b"zeek_init".as_slice() {
-        ZEEK_INIT
-    } else if name == b"zeek_done".as_slice() {
-        ZEEK_DONE
-    } else if name == b"packet_seen".as_slice() {
-        PACKET_SEEN
-    } else {
-        NO_EVENT
     }
 }
 

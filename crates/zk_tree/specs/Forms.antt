@@ -1,7 +1,8 @@
 -- The forms of declarations that scripts are made of so far: handlers of three events, whose bodies print.
-use Rattle.std.specs.Prelude.{ℕ, Bool, true, false, not, ◌&&◌, ◌==◌, List, [], ◌∷◌, length, map, codes}
+use Rattle.std.specs.Prelude.{ℕ, ◌+◌, Bool, true, false, not, ◌&&◌, ◌==◌, if◌then◌else◌, List, [], ◌∷◌, length, map, codes}
 use Rattle.std.specs.List.{list_any, list_all}
 use Rattle.std.specs.Str.{bytes_eq}
+use Rattle.zk_base.specs.declared.numbers.EventNo.{EventNo}
 use Rattle.zk_tree.specs.declared.tree.Decl.{Decl}
 use Rattle.zk_tree.specs.declared.tree.Decl.TheVariants as decl
 use Rattle.zk_tree.specs.declared.tree.Param.{Param}
@@ -27,6 +28,15 @@ predefined_events =
       params = (codes "t", codes "time") ∷ (codes "caplen", codes "count") ∷ (codes "len", codes "count") ∷ [];
     }
     ∷ []
+
+-- the number of a name in a list, from 0, and the length of the list where it is not there
+abbrev pub number_of : List ℕ → List (List ℕ) → ℕ
+number_of name [] = 0
+number_of name (first ∷ others) = if bytes_eq name first then 0 else number_of name others + 1
+
+-- the number of the event of a name
+abbrev pub event_number : List ℕ → EventNo
+event_number name = record { 0 = number_of name (map (λ event. event.name) predefined_events) }
 
 -- the functions that scripts can call, without arguments
 abbrev pub predefined_functions : List (List ℕ)

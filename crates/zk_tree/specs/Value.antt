@@ -1,9 +1,10 @@
--- The values that scripts compute with.
-use Rattle.std.specs.Prelude.{ℕ, List, Bool}
+-- The values that scripts compute with (Zeek manual, types).
+use Rattle.std.specs.Prelude as prelude
+use Rattle.std.specs.Prelude.{ℕ, List}
 use Rattle.zk_base.specs.declared.time.Moment.{Moment}
 
 pub data Value : Type 0 where
-  Truth : (truth : Bool) → Value
+  Bool : (truth : prelude.Bool) → Value
   Count : (count : ℕ) → Value
-  Text : (bytes : List ℕ) → Value
+  String : (bytes : List ℕ) → Value
   Time : (moment : Moment) → Value

@@ -1,10 +1,12 @@
 //! Tokens and syntax trees of scripts, each with its place in the text.
 #![tactic(auto)]
 
+mod events;
 mod place;
 mod token;
 mod tree;
 
+pub use events::{PACKET_SEEN, ZEEK_DONE, ZEEK_INIT, event_number};
 pub use place::Place;
 pub use token::{Sign, Token, TokenKind};
 pub use tree::{Block, Decl, Expr, Param, Stmt, Tree, Type};

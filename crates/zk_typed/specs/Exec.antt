@@ -2,7 +2,8 @@
 -- then, and comes out in some way. A unit is taken for each statement that is begun and for each call.
 use Rattle.std.specs.Prelude.{ℕ, zero, suc, Bool, true, false, List, [], ◌∷◌, Option, Some, None, Result, Ok, Err, slice_get, if◌then◌else◌}
 use Rattle.zk_tree.specs.declared.place.Place.{Place}
-use Rattle.zk_tree.specs.Value.{Value, Truth, Count, Text, Time}
+use Rattle.zk_tree.specs.Value as value
+use Rattle.zk_tree.specs.Value.{Value}
 use Rattle.zk_typed.specs.declared.ends.FaultKind.{FaultKind}
 use Rattle.zk_typed.specs.declared.ends.FaultKind.TheVariants.{Unset}
 use Rattle.zk_typed.specs.declared.ends.BodyEnd.{BodyEnd}
@@ -38,11 +39,11 @@ named (Some value) left = Ok (value, left)
 
 -- an expression over these arguments
 abbrev pub evaluate : World → List Value → ℕ → Expression → Evaluated
-evaluate world args left (expression.Bool truth) = Ok (Truth truth, left)
-evaluate world args left (expression.Count count) = Ok (Count count, left)
-evaluate world args left (expression.String bytes) = Ok (Text bytes, left)
+evaluate world args left (expression.Bool truth) = Ok (value.Bool truth, left)
+evaluate world args left (expression.Count count) = Ok (value.Count count, left)
+evaluate world args left (expression.String bytes) = Ok (value.String bytes, left)
 evaluate world args left (expression.Parameter number) = named (slice_get args number) left
-evaluate world args left expression.NetworkTime = called (Time world.time) left
+evaluate world args left expression.NetworkTime = called (value.Time world.time) left
 
 -- a value before others
 abbrev pub before : Value → Result (List Value × ℕ) Stop → Result (List Value × ℕ) Stop

@@ -10,7 +10,7 @@ pub record Filter : Type 0 where
   pub name : List ℕ
   pub path : Option (List ℕ)
   pub policy : Option HookNo
-  -- the columns that are kept, by their places among the flattened columns of the stream
+  -- the columns that it keeps, by their numbers among the columns of the stream, from 0
   pub columns : List ℕ
 
 -- a stream with its filters, in the order in which they were added
@@ -19,7 +19,9 @@ pub record Stream : Type 0 where
   pub event : Option EventNo
   pub path : List ℕ
   pub policy : Option HookNo
-  -- the logged fields of the record type that it was made for, nested records flattened: the places of the fields
+  -- The fields of its record type that are logged, by their numbers among all of its fields, from 0. The fields of a
+  -- nested record count in the place of the field that holds it: those of
+  -- `record { a: count; r: record { b: count; c: count; }; }` are a, r.b and r.c.
   pub columns : List ℕ
   pub filters : List Filter
 

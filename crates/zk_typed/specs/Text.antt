@@ -1,12 +1,12 @@
 -- The text of a value as `print` writes it (Zeek manual, print): times in seconds with six decimals.
 use Rattle.std.specs.Prelude.{ℕ, List, [], ◌∷◌, ◌++◌, map, codes, decimal, if◌then◌else◌}
-use Rattle.zk_tree.specs.Value.{Value, Truth, Count, Text, Time}
+use Rattle.zk_tree.specs.Value.{Value, Bool, Count, String, Time}
 use Rattle.zk_text.specs.Span.{span_decimal}
 
 abbrev pub text_of : Value → List ℕ
-text_of (Truth truth) = if truth then codes "T" else codes "F"
+text_of (Bool truth) = if truth then codes "T" else codes "F"
 text_of (Count count) = decimal count
-text_of (Text bytes) = bytes
+text_of (String bytes) = bytes
 text_of (Time moment) = span_decimal moment.0
 
 -- texts with a comma and a blank between each and the next

@@ -1,6 +1,5 @@
 -- The typed program of a tree: names are resolved to what they stand for.
-use Rattle.std.specs.Prelude.{ℕ, ◌+◌, true, false, List, [], ◌∷◌, map, codes, if◌then◌else◌}
-use Rattle.std.specs.Str.{bytes_eq}
+use Rattle.std.specs.Prelude.{ℕ, true, false, List, map, codes}
 use Rattle.zk_base.specs.declared.numbers.EventNo.{EventNo}
 use Rattle.zk_tree.specs.declared.place.Place.{Place}
 use Rattle.zk_tree.specs.declared.tree.Decl.{Decl}
@@ -10,7 +9,7 @@ use Rattle.zk_tree.specs.declared.tree.Stmt.TheVariants as stmt
 use Rattle.zk_tree.specs.declared.tree.Expr.{Expr}
 use Rattle.zk_tree.specs.declared.tree.Expr.TheVariants as expr
 use Rattle.zk_tree.specs.declared.tree.Tree.{Tree}
-use Rattle.zk_tree.specs.Forms.{predefined_events, names_of}
+use Rattle.zk_tree.specs.Forms.{number_of, event_number, names_of}
 use Rattle.zk_typed.specs.declared.program.Program.{Program}
 use Rattle.zk_typed.specs.declared.program.Handler.{Handler}
 use Rattle.zk_typed.specs.declared.program.Statement.{Statement}
@@ -18,23 +17,14 @@ use Rattle.zk_typed.specs.declared.program.Statement.TheVariants as statement
 use Rattle.zk_typed.specs.declared.program.Expression.{Expression}
 use Rattle.zk_typed.specs.declared.program.Expression.TheVariants as expression
 
--- the number of a name in a list, from 0, and the length of the list where it is not there
-abbrev pub number_of : List ℕ → List (List ℕ) → ℕ
-number_of name [] = 0
-number_of name (first ∷ others) = if bytes_eq name first then 0 else number_of name others + 1
-
--- the number of an event
-abbrev pub event_of : List ℕ → EventNo
-event_of name = record { 0 = number_of name (map (λ event. event.name) predefined_events) }
-
 abbrev pub zeek_init : EventNo
-zeek_init = event_of (codes "zeek_init")
+zeek_init = event_number (codes "zeek_init")
 
 abbrev pub zeek_done : EventNo
-zeek_done = event_of (codes "zeek_done")
+zeek_done = event_number (codes "zeek_done")
 
 abbrev pub packet_seen : EventNo
-packet_seen = event_of (codes "packet_seen")
+packet_seen = event_number (codes "packet_seen")
 
 -- An expression over these parameters. The one function is `network_time`.
 abbrev pub expression_of : List (List ℕ) → Expr → Expression
@@ -54,7 +44,7 @@ statement_of file names (stmt.Print place values) = statement.Print (place_in fi
 
 abbrev pub handler_of : ℕ → Decl → Handler
 handler_of file (decl.Event place name params body) =
-    record { event = event_of name; body = map (statement_of file (names_of params)) body.stmts }
+    record { event = event_number name; body = map (statement_of file (names_of params)) body.stmts }
 
 -- the program of one text, which is file 0
 abbrev pub program_of : Tree → Program

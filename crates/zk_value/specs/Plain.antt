@@ -7,9 +7,9 @@ use Rattle.zk_value.specs.declared.out.Out.{Out}
 use Rattle.zk_value.specs.declared.out.Out.TheVariants.{Line}
 
 abbrev pub value_of : Value → plain.Value
-value_of (Bool truth) = plain.Truth truth
+value_of (Bool truth) = plain.Bool truth
 value_of (Count count) = plain.Count count
-value_of (String bytes) = plain.Text bytes
+value_of (String bytes) = plain.String bytes
 value_of (Time moment) = plain.Time moment
 
 -- the line that is given out

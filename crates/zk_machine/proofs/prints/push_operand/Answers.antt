@@ -1,6 +1,6 @@
 use Rattle.std.proofs.Common.{◌++◌, sym, ap, subst, ◌∙◌, rules}
 use Rattle.std.proofs.lemmas.Result.{err_from_is_err_and}
-use Rattle.zk_tree.specs.Value.{Truth, Count, Text, Time}
+use Rattle.zk_tree.specs.Value.{Bool, Count, String, Time}
 use Rattle.zk_typed.specs.Exec.{called}
 use Rattle.zk_machine.specs.Meant.{evaluated}
 use Rattle.zk_machine.specs.Steps.{Stops}
@@ -24,7 +24,7 @@ returns-in-NetworkTime-clause-given c =
 
 pub returns-in_ok-push_bool-in-Bool-clause-given : goal.returns-in_ok-push_bool-in-Bool-clause-given
 returns-in_ok-push_bool-in-Bool-clause-given c =
-    (Truth c.in-Bool.truth, ap (evaluated c.args.time c.args.args.now c.args.left) c.in-Bool.is, c.in_ok-push_bool-in-Bool.ensures)
+    (Bool c.in-Bool.truth, ap (evaluated c.args.time c.args.args.now c.args.left) c.in-Bool.is, c.in_ok-push_bool-in-Bool.ensures)
 
 pub returns-in_ok-push_count-in-Count-clause-given : goal.returns-in_ok-push_count-in-Count-clause-given
 returns-in_ok-push_count-in-Count-clause-given c =
@@ -32,7 +32,7 @@ returns-in_ok-push_count-in-Count-clause-given c =
 
 pub returns-in_ok-extend_from_slice-in-String-clause-given : goal.returns-in_ok-extend_from_slice-in-String-clause-given
 returns-in_ok-extend_from_slice-in-String-clause-given c = (
-  Text c.in-String.bytes,
+  String c.in-String.bytes,
   ap (evaluated c.args.time c.args.args.now c.args.left) c.in-String.is,
   c.in_ok-extend_from_slice-in-String.ensures.items ∙ ap (λ bytes. c.args.line.now.items ++ bytes) c.as_slice.ensures,
 )

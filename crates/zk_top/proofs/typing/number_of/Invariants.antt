@@ -1,6 +1,5 @@
 use Rattle.std.proofs.Common.{◌≡◌, ◌+◌, drop}
-use Rattle.zk_tree.specs.Forms.{names_of}
-use Rattle.zk_typed.specs.Typed.{number_of}
+use Rattle.zk_tree.specs.Forms.{number_of, names_of}
 use Rattle.zk_top.proofs.typing.number_of.Given as goal
 
 -- none of the parameters so far has the name

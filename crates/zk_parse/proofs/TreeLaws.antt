@@ -1,6 +1,5 @@
 -- Trees: what is read is spelled so, what is spelled so is read, and what is refused.
-use Rattle.std.proofs.Common.{◌≡◌, ◌≢◌, ℕ, zero, suc, ◌+◌, ◌-◌, ◌<◌, ◌≤◌, true, List, [], ◌∷◌, ◌++◌, length, take, drop, codes, Option, Some, None, Result, Ok, Err, refl, sym, ap, subst, ◌∙◌, append_assoc, arith, inl, inr, ◌⊎◌}
-use Rattle.std.specs.Prelude.{IfOk}
+use Rattle.std.proofs.Common.{◌≡◌, ◌↔◌, ◌≢◌, ℕ, zero, suc, ◌+◌, ◌-◌, ◌<◌, ◌≤◌, true, List, [], ◌∷◌, ◌++◌, length, take, drop, codes, Option, Some, None, Result, Ok, Err, refl, sym, ap, subst, ◌∙◌, append_assoc, arith, inl, inr, ◌⊎◌}
 use Rattle.std.specs.List.{flat_map, list_all}
 use Rattle.std.proofs.lemmas.Bool.{and_parts}
 use Rattle.std.proofs.lemmas.List.{append-nil, length-drop, take-append-drop}
@@ -13,9 +12,7 @@ use Rattle.zk_tree.specs.Forms.{is_decl}
 use Rattle.zk_tree.specs.Grammar.{Spelled, word, follows, AreSpelled, spelled_params, spelled_block, spelled_decl, spelled_tree}
 use Rattle.zk_tree.specs.Grammar as grammar
 use Rattle.zk_tree.specs.Reading.{Reads, IsRefusedAt}
-use Rattle.zk_parse.specs.declared.fault.ParseFault.{ParseFault}
-use Rattle.zk_parse.specs.declared.fault.ParseFault.TheVariants.{NoTree}
-use Rattle.zk_parse.specs.Reading.{decl_at, with_first, decls_from, as_tree, tree_of, UnlessNoMemory}
+use Rattle.zk_parse.specs.Reading.{decl_at, with_first, decls_from, as_tree, tree_of}
 use Rattle.zk_parse.proofs.TokenLaws.{Starts, Starts-then, Starts-parts, Starts-length, Starts-spelled, spelled-Starts}
 use Rattle.zk_parse.proofs.DeclLaws.{decl_taken, decl_again}
 
@@ -156,13 +153,13 @@ as_tree-err : (r : Result (List Decl) ℕ) (at : ℕ) → as_tree r ≡ Err at �
 as_tree-err (Ok decls) at e = absurd cc
 as_tree-err (Err n) at e = cc
 
-pub tree_taken : (tokens : List Token) (tree : Tree) → tree_of tokens ≡ Ok tree → Reads tokens tree
+tree_taken : (tokens : List Token) (tree : Tree) → tree_of tokens ≡ Ok tree → Reads tokens tree
 unfolding tree_of
 tree_taken tokens tree e =
     let are = decls_taken (length tokens) (length tokens) tokens tree.decls (as_tree-ok (decls_from (length tokens) (length tokens) tokens) tree e) in
     record { spelled = Starts-all (spelled_tree tree) tokens are.0; forms = are.1 }
 
-pub tree_again : (tokens : List Token) (tree : Tree) → Reads tokens tree → tree_of tokens ≡ Ok tree
+tree_again : (tokens : List Token) (tree : Tree) → Reads tokens tree → tree_of tokens ≡ Ok tree
 unfolding tree_of
 tree_again tokens tree reads =
     ap as_tree (decls_again (length tokens) (length tokens) tokens tree.decls (omega arith) (all-Starts (spelled_tree tree) tokens reads.spelled, reads.forms))
@@ -221,7 +218,7 @@ unspelled tokens never = elim (option_cases (decl_at tokens)) [
       absurd (never found.0.0 (length front) taken.1 (Starts-spelled front tokens found.0.1 taken.0).0)
 ]
 
-pub tree_stuck : (tokens : List Token) (at : ℕ) → IsRefusedAt tokens at → tree_of tokens ≡ Err at
+tree_stuck : (tokens : List Token) (at : ℕ) → IsRefusedAt tokens at → tree_of tokens ≡ Err at
 unfolding tree_of
 tree_stuck tokens at refused =
     let all = length tokens in
@@ -233,34 +230,18 @@ tree_stuck tokens at refused =
     let stuck = decls_stuck all all tokens rest refused.before.decls (omega arith) (are, refused.read.forms) more (unspelled rest refused.none) in
     ap as_tree stuck ∙ ap (λ (n : ℕ). as_tree (Err n)) place
 
-pub tree_refused : (tokens : List Token) (at : ℕ) → tree_of tokens ≡ Err at → IsRefusedAt tokens at
+tree_refused : (tokens : List Token) (at : ℕ) → tree_of tokens ≡ Err at → IsRefusedAt tokens at
 unfolding tree_of
 tree_refused tokens at e =
     refused_at tokens at (decls_refused (length tokens) (length tokens) tokens at (omega arith) (omega arith) (as_tree-err (decls_from (length tokens) (length tokens) tokens) at e))
 
--- ---- what an answer says
+-- A tree is read exactly where the tokens are those that it spells.
+pub tree_of-tree : (tokens : List Token) (tree : Tree) → (tree_of tokens ≡ Ok tree) ↔ Reads tokens tree
+tree_of-tree tokens tree = (tree_taken tokens tree, tree_again tokens tree)
 
-pub answer_read : (tokens : List Token) (result : Result Tree ParseFault) → UnlessNoMemory result (tree_of tokens) → IfOk result (λ tree. Reads tokens tree)
-answer_read tokens (Ok tree) exact = tree_taken tokens tree exact
-answer_read tokens (Err fault) exact = tt
-
-pub answer_alone : (tokens : List Token) (result : Result Tree ParseFault) → UnlessNoMemory result (tree_of tokens)
-    → IfOk result (λ tree. (other : Tree) → Reads tokens other → other ≡ tree)
-answer_alone tokens (Ok tree) exact = λ other reads. let again = tree_again tokens other reads in cc
-answer_alone tokens (Err fault) exact = tt
-
-pub answer_only : (tokens : List Token) (result : Result Tree ParseFault) → UnlessNoMemory result (tree_of tokens)
-    → (tree : Tree) → Reads tokens tree → UnlessNoMemory result (Ok tree)
-answer_only tokens result exact tree reads = subst (UnlessNoMemory result) (tree_again tokens tree reads) exact
-
-pub answer_refused : (tokens : List Token) (result : Result Tree ParseFault) → UnlessNoMemory result (tree_of tokens)
-    → (at : ℕ) → result ≡ Err (NoTree at) → IsRefusedAt tokens at
-answer_refused tokens result exact at e =
-    tree_refused tokens at (subst (λ (r : Result Tree ParseFault). UnlessNoMemory r (tree_of tokens)) e exact)
-
-pub answer_stuck : (tokens : List Token) (result : Result Tree ParseFault) → UnlessNoMemory result (tree_of tokens)
-    → (at : ℕ) → IsRefusedAt tokens at → UnlessNoMemory result (Err at)
-answer_stuck tokens result exact at refused = subst (UnlessNoMemory result) (tree_stuck tokens at refused) exact
+-- A token is refused exactly where no declaration reads from it and whole ones stand before it.
+pub tree_of-refusal : (tokens : List Token) (at : ℕ) → (tree_of tokens ≡ Err at) ↔ IsRefusedAt tokens at
+tree_of-refusal tokens at = (tree_refused tokens at, tree_stuck tokens at)
 
 -- ---- reading one declaration after another, as a loop does
 

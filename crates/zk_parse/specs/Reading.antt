@@ -29,17 +29,19 @@ abbrev pub ◌>>=◌ : {A B : Type 0} → Option A → (A → Option B) → Opti
 (Some x) >>= f = f x
 None >>= f = None
 
--- what a function returned, seen by view, is what reading gives, unless memory ran out
+-- where a form was not read, reading gives none, unless memory ran out
 abbrev pub Fails : {Y : Type 0} → FormFault → Option Y → Type 0
 Fails form.NoForm read = read ≡ None
 Fails form.NoMemory read = Unit {0}
 
+-- what a function returned, seen by view, is what reading gives, unless memory ran out
 abbrev pub Gives : {X Y : Type 0} → (X → Y) → Result X FormFault → Option Y → Type 0
 Gives view (Ok x) read = read ≡ Some (view x)
 Gives view (Err fault) read = Fails fault read
 
 -- ---- tokens
 
+-- a number of its own for each sign
 abbrev pub number_of : Sign → ℕ
 number_of sign.OpenParenthesis = 0
 number_of sign.CloseParenthesis = 1
@@ -66,6 +68,7 @@ unfoldable pub sign_at : Sign → List Token → Option (List Token)
 sign_at wanted [] = None
 sign_at wanted (token ∷ rest) = if is_sign wanted token.kind then Some rest else None
 
+-- the bytes of a name
 abbrev pub name_of : TokenKind → Option (List ℕ)
 name_of (token.Name bytes) = Some bytes
 name_of (token.Number number) = None
@@ -151,6 +154,7 @@ stmts_at tokens = do
   rest ← sign_at sign.CloseBrace stmts.1
   Some (stmts.0, rest)
 
+-- the place of the first token, and 0 where there is none (no form is empty, so none is placed so)
 abbrev pub place_of : List Token → ℕ
 place_of [] = 0
 place_of (token ∷ rest) = token.place

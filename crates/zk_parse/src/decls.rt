@@ -4,7 +4,7 @@ ghost use Rattle.zk_parse.specs.Reading.{Gives, type_named, type_at, param_at, l
 
 use crate::fault::FormFault;
 use crate::forms::is_decl;
-use crate::lists::{Item, listed};
+use crate::lists::{Element, listed};
 use crate::stmts::block;
 use crate::tokens::{begins, name, sign, word};
 use std::alloc::Global;
@@ -48,7 +48,7 @@ fn param(alloc: Global, tokens: &[Token]) -> Result<(Param, &[Token]), FormFault
     Ok((Param { place, name, of }, rest))
 }
 
-impl Item for Param {
+impl Element for Param {
     ghost at = { param_at };
 
     fn read(alloc: Global, tokens: &[Token]) -> Result<(Param, &[Token]), FormFault> {

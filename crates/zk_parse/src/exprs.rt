@@ -1,6 +1,8 @@
+ghost use Rattle.std.specs.Prelude.{◌≤◌, length, IfOk};
 ghost use Rattle.zk_parse.specs.Reading.{Gives, call_at, named_at, expr_from, expr_at};
 
 use crate::fault::FormFault;
+use crate::lists::Element;
 use crate::tokens::{begins, sign};
 use std::alloc::Global;
 use zk_base::Bytes;
@@ -8,12 +10,20 @@ use zk_tree::{Expr, Sign, Token, TokenKind};
 
 /// An expression.
 #[tactic(auto, unfolding(crate::specs::Reading::expr_at))]
-pub fn expr(alloc: Global, tokens: &[Token]) -> Result<(Expr, &[Token]), FormFault>
+fn expr(alloc: Global, tokens: &[Token]) -> Result<(Expr, &[Token]), FormFault>
     ensures { Gives (λ x. (x.0, x.1.now)) result (expr_at tokens.now) }
 {
     match tokens {
         [] => Err(FormFault::NoForm),
         [first, rest @ ..] => expr_from(alloc, first.place, &first.kind, rest),
+    }
+}
+
+impl Element for Expr {
+    ghost at = { expr_at };
+
+    fn read(alloc: Global, tokens: &[Token]) -> Result<(Expr, &[Token]), FormFault> {
+        expr(alloc, tokens)
     }
 }
 

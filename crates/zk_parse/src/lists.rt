@@ -1,5 +1,5 @@
 ghost use Rattle.std.specs.Prelude.{◌≡◌, ◌≤◌, ◌<◌, List, Option, length, IfOk};
-ghost use Rattle.zk_tree.specs.declared.token.Token.{Token as Word};
+ghost use Rattle.zk_tree.specs.declared.token.Token.{Token as SyntaxToken};
 ghost use Rattle.zk_tree.specs.declared.token.Sign.TheVariants.{Comma};
 ghost use Rattle.zk_parse.specs.Reading.{Gives, listed, behind_comma};
 
@@ -9,9 +9,9 @@ use std::alloc::Global;
 use zk_tree::{Sign, Token};
 
 /// What stands in lists between commas.
-pub trait Item: Sized {
+pub trait Element: Sized {
     /// How it is read from the front.
-    ghost at: { List Word → Option (Self × List Word) };
+    ghost at: { List SyntaxToken → Option (Self × List SyntaxToken) };
 
     /// Reads one.
     fn read(alloc: Global, tokens: &[Token]) -> Result<(Self, &[Token]), FormFault>
@@ -21,7 +21,7 @@ pub trait Item: Sized {
 
 /// One, and others behind commas.
 #[tactic(auto, unfolding(crate::specs::Reading::listed))]
-pub fn listed<T: Item + Drop>(
+pub fn listed<T: Element + Drop>(
     alloc: Global,
     tokens: &[Token],
 ) -> Result<(Vec<T>, &[Token]), FormFault>
@@ -40,7 +40,10 @@ pub fn listed<T: Item + Drop>(
 
 /// One behind a comma.
 #[tactic(auto, unfolding(crate::specs::Reading::behind_comma))]
-fn behind_comma<T: Item + Drop>(alloc: Global, tokens: &[Token]) -> Result<(T, &[Token]), FormFault>
+fn behind_comma<T: Element + Drop>(
+    alloc: Global,
+    tokens: &[Token],
+) -> Result<(T, &[Token]), FormFault>
     ensures gives { Gives (λ x. (x.0, x.1.now)) result (behind_comma T.at tokens.now) }
     ensures shorter { IfOk result (λ x. length x.1.now < length tokens.now) }
 {

@@ -1,4 +1,4 @@
-ghost use Rattle.std.specs.Prelude.{◌≡◌, ℕ, Err, Ok, IfOk};
+ghost use Rattle.std.specs.Prelude.{◌≡◌, ◌↔◌, ℕ, Err, Ok};
 ghost use Rattle.zk_tree.specs.declared.tree.Tree.{Tree as Syntax};
 ghost use Rattle.zk_tree.specs.Reading.{Reads, IsRefusedAt};
 ghost use Rattle.zk_parse.specs.Reading.{tree_of, UnlessNoMemory};
@@ -15,16 +15,12 @@ use zk_tree::{Token, Tree};
 /// `NoTree` comes exactly where the tokens are those of no tree, and names the token at which a
 /// declaration should begin and none reads.
 pub fn parse(alloc: Global, tokens: &[Token]) -> Result<Tree, ParseFault>
-    // The tokens are those of the tree that is read, and of no other.
-    ensures read { IfOk result (λ tree. Reads tokens.now tree) }
-    ensures alone { IfOk result (λ tree. (other : Syntax) → Reads tokens.now other → other ≡ tree) }
-    // Where they are those of a tree, nothing is refused.
-    ensures only { (tree : Syntax) → Reads tokens.now tree → UnlessNoMemory result (Ok tree) }
-    // A token is refused exactly where those before it are whole declarations and none reads from it.
-    ensures refused { (at : ℕ) → result ≡ Err (ParseFault.NoTree at) → IsRefusedAt tokens.now at }
-    ensures stuck { (at : ℕ) → IsRefusedAt tokens.now at → UnlessNoMemory result (Err at) }
-    // Which tree or token it is.
     ensures exact { UnlessNoMemory result (tree_of tokens.now) }
+
+    // A tree is read exactly where the tokens are those that it spells: so they are those of no other.
+    ensures read { (tree : Syntax) → (tree_of tokens.now ≡ Ok tree) ↔ Reads tokens.now tree }
+    // A token is refused exactly where those before it are whole declarations and none reads from it.
+    ensures refused { (at : ℕ) → (tree_of tokens.now ≡ Err at) ↔ IsRefusedAt tokens.now at }
 {
     tree(alloc, tokens)
 }

@@ -1,21 +1,11 @@
-ghost use Rattle.std.specs.Prelude.{◌≤◌, ◌<◌, length, IfOk};
-ghost use Rattle.zk_parse.specs.Reading.{Gives, expr_at, stmt_at, stmts_at, place_of, block_at};
+ghost use Rattle.zk_parse.specs.Reading.{Gives, stmt_at, stmts_at, place_of, block_at};
 
-use crate::exprs::expr;
 use crate::fault::FormFault;
-use crate::lists::{Item, listed};
+use crate::lists::listed;
 use crate::tokens::{begins, place_of, sign, word};
 use std::alloc::Global;
 use zk_base::Sequence;
-use zk_tree::{Block, Expr, Sign, Stmt, Token};
-
-impl Item for Expr {
-    ghost at = { expr_at };
-
-    fn read(alloc: Global, tokens: &[Token]) -> Result<(Expr, &[Token]), FormFault> {
-        expr(alloc, tokens)
-    }
-}
+use zk_tree::{Block, Sign, Stmt, Token};
 
 /// A statement.
 #[tactic(auto, unfolding(crate::specs::Reading::stmt_at))]

@@ -60,7 +60,7 @@ fn the_first_declaration_that_does_not_read_is_named(rt: HostRuntime) -> Result<
     for (text, at) in &REFUSED {
         let tokens = tokens(alloc, text)?;
         let fault = parse(alloc, &tokens).err().ok_or("it is refused")?;
-        assert_eq!(rt; fault, ParseFault::NoTree { at: *at });
+        assert_eq!(rt; fault, ParseFault::NoTree { at: *at }, "at {text:?}");
     }
     Ok(())
 }

@@ -1,4 +1,4 @@
--- The text of a time or an interval: seconds with six decimals.
+-- The text of a time or an interval: seconds with six decimals, which is this project's own form.
 use Rattle.std.specs.Prelude.{ℕ, suc, ◌-◌, ◌/◌, ◌%◌, List, ◌++◌, length, replicate, codes, decimal, ℤ, pos, negsuc}
 
 -- the digits of n, with zeros before them up to the width

@@ -16,6 +16,7 @@ use Rattle.zk_tree.specs.declared.tree.Stmt.{Stmt}
 use Rattle.zk_tree.specs.declared.tree.Stmt.TheVariants as stmt
 use Rattle.zk_tree.specs.declared.tree.Expr.{Expr}
 use Rattle.zk_tree.specs.declared.tree.Expr.TheVariants as expr
+use Rattle.zk_tree.specs.Forms.{type_name}
 
 -- A token as a tree spells it: what it is, and its place where a node of the tree begins with it.
 pub record Spelled : Type 0 where
@@ -56,8 +57,8 @@ spelled_block block =
     begins block.place (token.Sign sign.OpenBrace) ∷ flat_map spelled_stmt block.stmts ++ follows (token.Sign sign.CloseBrace) ∷ []
 
 abbrev pub spelled_type : TypeNode → List Spelled
-spelled_type (of.Count place) = begins place (word (codes "count")) ∷ []
-spelled_type (of.Time place) = begins place (word (codes "time")) ∷ []
+spelled_type (of.Count place) = begins place (word (type_name (of.Count place))) ∷ []
+spelled_type (of.Time place) = begins place (word (type_name (of.Time place))) ∷ []
 
 abbrev pub spelled_param : Param → List Spelled
 spelled_param param = begins param.place (word param.name) ∷ follows (token.Sign sign.Colon) ∷ spelled_type param.of
@@ -73,6 +74,7 @@ spelled_decl (decl.Event place name params body) =
 abbrev pub spelled_tree : Tree → List Spelled
 spelled_tree tree = flat_map spelled_decl tree.decls
 
+-- a token stands where it is spelled, if a place is spelled
 abbrev pub IsPlaced : Option ℕ → ℕ → Type 0
 IsPlaced None place = Unit {0}
 IsPlaced (Some begun) place = place ≡ begun

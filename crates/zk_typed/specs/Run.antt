@@ -28,7 +28,7 @@ dispatch program budget world event = bodies event.args budget world (handlers_o
 
 -- how far a run has come
 pub data Progress : Type 0 where
-  -- to this world, and so many dispatches may still come before the next item or the end
+  -- to this world, and so many dispatches may still come until the next item, those of the end among them
   Goes : (world : World) (left : ℕ) → Progress
   -- to its end in this world, for a flood of events
   Floods : (world : World) → Progress
@@ -38,12 +38,13 @@ abbrev pub world_in : Progress → World
 world_in (Goes world left) = world
 world_in (Floods world) = world
 
--- where no dispatch may come any more
+-- how far a run has come in a world with these events waiting, where no dispatch may come any more
 abbrev pub none_left : World → List Queued → Progress
 none_left world [] = Goes world 0
 none_left world (first ∷ others) = Floods world
 
--- where one may: the first event that waits is dispatched, and then the others may be
+-- the same where one dispatch may come, and so many after it: the first event is dispatched, and `then` says how the run
+-- goes on from the world that this leaves
 abbrev pub one_more : Program → ℕ → ℕ → (World → Progress) → World → List Queued → Progress
 one_more program budget left then world [] = Goes world (suc left)
 one_more program budget left then world (first ∷ others) = then (dispatch program budget (record world { queue = others }) first)

@@ -17,8 +17,8 @@ pub fn push_count(out: &mut Vec<u8>, n: u64) -> Result<(), AllocError>
     out.extend_from_slice(&text[..len])
 }
 
-/// Adds a number of microseconds as seconds with six decimals, as `print` writes a `time` (Zeek
-/// manual, types, time). Where memory is wanting nothing is added.
+/// Adds a number of microseconds as seconds with six decimals, the form in which `print` writes a
+/// `time` here (Zeek itself writes it otherwise). Where memory is wanting nothing is added.
 pub fn push_span(out: &mut Vec<u8>, n: i64) -> Result<(), AllocError>
     ensures ok { OnOk result (out.new.items ≡ out.old.items ++ span_decimal n) }
     ensures err { OnErr result (out.new.items ≡ out.old.items) }

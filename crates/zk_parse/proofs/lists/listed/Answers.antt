@@ -7,12 +7,12 @@ use Rattle.zk_parse.proofs.lists.listed.Goals as goal
 
 pub others-init : goal.others-init
 others-init g c =
-    let read = g.T.Item.at in
+    let read = g.T.Element.at in
     rw (c.in_ok-push.ensures.items, c.new-list.ensures.items) (listed_begins read c.args.tokens.now c.in_ok-first.first c.in_ok-first.rest.now c.in_ok-first.ensures.gives)
 
 pub returns-in_err-next : goal.returns-in_err-next
 returns-in_err-next g c =
-    let read = g.T.Item.at in
+    let read = g.T.Element.at in
     let rest = c.others.rest.now in
     let exit = c.from_residual-in_err-next in
     let p = err_from_is_err_and exit.result exit.ensures.1 in
@@ -22,12 +22,12 @@ returns-in_err-next g c =
 
 pub others-preserved : goal.others-preserved
 others-preserved g c =
-    let read = g.T.Item.at in
+    let read = g.T.Element.at in
     let rest = c.others.rest.now in
     rw c.in_ok-push-2.ensures.items (goes_further (begins Comma) (behind_comma read) c.others.list.items rest (listed read c.args.tokens.now)
     c.in_ok-next.next c.in_ok-next.after.now c.others.invariant (sym c.begins.ensures ∙ c.others-test.true) c.in_ok-next.ensures.gives c.in_ok-next.ensures.shorter)
 
 pub returns : goal.returns
 returns g c =
-    let read = g.T.Item.at in
+    let read = g.T.Element.at in
     is_done (begins Comma) (behind_comma read) c.others.list.items c.others.rest.now (listed read c.args.tokens.now) c.others.invariant (sym c.begins.ensures ∙ c.others-test.false)

@@ -5,7 +5,7 @@ use Rattle.zk_parse.proofs.LoopLaws.{IsSoFar}
 use Rattle.zk_parse.proofs.lists.listed.Given as goal
 
 abbrev pub invariant-others : goal.invariant-others
-invariant-others g l = IsSoFar (begins Comma) (behind_comma g.T.Item.at) l.list.items l.rest (listed g.T.Item.at l.tokens)
+invariant-others g l = IsSoFar (begins Comma) (behind_comma g.T.Element.at) l.list.items l.rest (listed g.T.Element.at l.tokens)
 
 abbrev pub decreases-others : goal.decreases-others
 decreases-others g l = length l.rest

@@ -26,23 +26,23 @@ Gives given line longer units = (value : Value) × (given ≡ Ok (value, units))
 abbrev pub GivesLine : Result (List Value × ℕ) Stop → ℕ → List ℕ → Type 0
 GivesLine given units line = (values : List Value) × (given ≡ Ok (values, units)) × (line ≡ line_of values)
 
--- No value is given, and so many units are left at a fault, or memory is wanting.
+-- No value is given: a fault with so many units left, a unit that is not there, or want of memory.
 abbrev pub Stops : {A : Type 0} → Result A Stop → ℕ → Halt → Type 0
 Stops given units (Fault kind) = given ≡ Err (exec.Faults kind units)
 Stops given units Spent = given ≡ Err exec.Spends
 Stops given units NoMemory = Unit {0}
 
--- what is left where all came out normally, by a frame and the lines
+-- what is left where all came out normally, by the frame and the lines then
 abbrev pub gone_on : Frame → List (List ℕ) → Left
 gone_on frame lines = record { outcome = exec.Normal; world = world_of frame lines; units = frame.units }
 
--- The statement at a place was stopped, and this is left, by the frame and the lines, or memory is wanting.
+-- The statement at a place was stopped, and left this, by the frame and the lines then; want of memory leaves nothing.
 abbrev pub Halts : Left → Place → Frame → List (List ℕ) → Halt → Type 0
 Halts left place frame lines (Fault kind) = left ≡ record { outcome = exec.Fault kind place; world = world_of frame lines; units = frame.units }
 Halts left place frame lines Spent = left ≡ record { outcome = exec.Spent place; world = world_of frame lines; units = 0 }
 Halts left place frame lines NoMemory = Unit {0}
 
--- how a body ends whose statement at a place is stopped so, unless memory is wanting
+-- how a body ends whose statement at a place is stopped so; want of memory ends it in no way
 abbrev pub ended_at : Place → Halt → Result BodyEnd Mem
 ended_at place (Fault kind) = Ok («end».Fault kind place)
 ended_at place Spent = Ok («end».Spent place)

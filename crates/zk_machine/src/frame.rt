@@ -13,6 +13,7 @@ use zk_value::{Operand, Print, Value, push_count, push_span};
 /// The body of a handler as it runs.
 #[derive(Drop)]
 pub struct Frame<'a> {
+    /// Where the lines take their memory.
     pub alloc: Global,
     /// Network time.
     pub time: Moment,
@@ -23,7 +24,7 @@ pub struct Frame<'a> {
 }
 
 impl Frame<'_> {
-    /// Takes a unit.
+    /// Takes a unit, as each statement does that begins, and each call.
     fn take_unit(&mut self) -> Result<(), Halt>
         ensures taken { OnOk result (self.old.units ≡ suc self.new.units) }
         ensures none { IfErr result (λ halt. (self.old.units ≡ 0) × (halt ≡ Halt.Spent)) }
@@ -77,7 +78,7 @@ impl Frame<'_> {
         Ok(Bytes::from(line))
     }
 
-    /// Does a print, which adds its line to the others.
+    /// Does a print, which adds its line to the others. A print that is stopped adds none.
     fn do_print(&mut self, lines: &mut VecDeque<Bytes>, print: &Print) -> Result<(), Halt>
         ensures goes_on { OnOk result (executed self.old lines.old.items print.now ≡ gone_on self.new lines.new.items) }
         ensures halted { IfErr result (Halts (executed self.old lines.old.items print.now) print.now.place self.new lines.new.items) }

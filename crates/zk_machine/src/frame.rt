@@ -1,4 +1,4 @@
-ghost use Rattle.std.specs.Prelude.{◌≡◌, suc, OnOk, IfOk, IfErr};
+ghost use Rattle.std.specs.Prelude.{◌≡◌, suc, OnOk, IfOk, OnErr, IfErr};
 ghost use Rattle.zk_machine.specs.Meant.{world_of, evaluated, evaluated_all, executed, executed_all};
 ghost use Rattle.zk_machine.specs.Steps.{with_units, Gives, GivesLine, Stops, gone_on, Halts, Ends};
 
@@ -82,6 +82,7 @@ impl Frame<'_> {
     fn do_print(&mut self, lines: &mut VecDeque<Bytes>, print: &Print) -> Result<(), Halt>
         ensures goes_on { OnOk result (executed self.old lines.old.items print.now ≡ gone_on self.new lines.new.items) }
         ensures halted { IfErr result (Halts (executed self.old lines.old.items print.now) print.now.place self.new lines.new.items) }
+        ensures kept { OnErr result (lines.new.items ≡ lines.old.items) }
         ensures rest { self.new ≡ with_units self.old self.new.units }
     {
         self.take_unit()?;

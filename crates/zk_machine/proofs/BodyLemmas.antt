@@ -14,11 +14,11 @@ use Rattle.zk_typed.specs.declared.program.Expression.TheVariants as expression
 use Rattle.zk_typed.specs.Exec.{Stop, Faults, Spends, Left, is_normal, evaluate_all, printed, exec, exec_all, exec_body}
 use Rattle.zk_typed.specs.Text.{line_of}
 use Rattle.zk_typed.specs.World.{World, first_world}
-use Rattle.zk_value.specs.declared.value.Value.{Value}
 use Rattle.zk_value.specs.declared.code.Code.{Code}
 use Rattle.zk_value.specs.declared.code.HandlerCode.{HandlerCode}
 use Rattle.zk_value.specs.declared.code.Print.{Print}
 use Rattle.zk_value.specs.Plain.{value_of}
+use Rattle.zk_machine.specs.declared.frame.Frame.{Frame}
 use Rattle.zk_machine.specs.declared.machine.Machine.{Machine}
 use Rattle.zk_machine.specs.Lowered.{operand_of, print_of, handler_code, lowered}
 use Rattle.zk_machine.specs.Meant.{expression_of, statement_of, world_of, executed_all}
@@ -102,25 +102,25 @@ code_is program of code number item is found read =
     let same : handler_code of ≡ item = cc in
     sym (ap (λ c. c.prints) same)
 
--- What the prints of a handler do in the machine is what the body of the handler does in the world.
-pub body_is : (machine : Machine) (program : Program) (given : List (List ℕ)) (world : World) (of : Handler) (prints : List Print) (args : List Value) (budget : ℕ)
-    → StandsFor machine program given world → prints ≡ map print_of of.body
-    → exec_body of (map value_of args) world budget ≡ behind world given (executed_all machine.time args machine.lines.items budget prints)
-body_is machine program given world of prints args budget stands is =
-    let values : List plain.Value = map value_of args in
+-- What the prints of a handler do in a frame of the machine is what the body of the handler does in the world.
+pub body_is : (machine : Machine) (program : Program) (given : List (List ℕ)) (world : World) (of : Handler) (frame : Frame) (prints : List Print)
+    → StandsFor machine program given world → frame.time ≡ machine.time → prints ≡ map print_of of.body
+    → exec_body of (map value_of frame.args.now) world frame.units ≡ behind world given (executed_all frame machine.lines.items prints)
+body_is machine program given world of frame prints stands now is =
+    let values : List plain.Value = map value_of frame.args.now in
     let statements : List Statement = map statement_of prints in
-    ap (λ ss. exec_all values ss world budget) (sym (statements_back of.body) ∙ ap (λ ps. map statement_of ps) (sym is))
-    ∙ ap (λ t. exec_all values statements (with_lines world t world.lines) budget) (sym stands.time)
-    ∙ ap (λ ls. exec_all values statements (with_lines world machine.time ls) budget) stands.lines
-    ∙ exec_all_behind world first_world given machine.lines.items machine.time values statements budget
+    ap (λ ss. exec_all values ss world frame.units) (sym (statements_back of.body) ∙ ap (λ ps. map statement_of ps) (sym is))
+    ∙ ap (λ t. exec_all values statements (with_lines world t world.lines) frame.units) (sym (now ∙ stands.time))
+    ∙ ap (λ ls. exec_all values statements (with_lines world frame.time ls) frame.units) stands.lines
+    ∙ exec_all_behind world first_world given machine.lines.items frame.time values statements frame.units
 
--- Where the prints leave the machine's own world so, it stands for the world that the body leaves.
-pub stands_after : (machine after : Machine) (program : Program) (given : List (List ℕ)) (world : World) (whole inner : Left)
-    → StandsFor machine program given world → whole ≡ behind world given inner → inner.world ≡ world_of after.time after.lines.items
-    → after.code ≡ machine.code → after.failed ≡ machine.failed → StandsFor after program given whole.world
-stands_after machine after program given world whole inner stands is left code failed = record {
+-- Where the prints leave the frame's world so, the machine stands for the world that the body leaves.
+pub stands_after : (machine after : Machine) (program : Program) (given : List (List ℕ)) (world : World) (frame : Frame) (whole inner : Left)
+    → StandsFor machine program given world → whole ≡ behind world given inner → inner.world ≡ world_of frame after.lines.items
+    → after.time ≡ frame.time → after.code ≡ machine.code → after.failed ≡ machine.failed → StandsFor after program given whole.world
+stands_after machine after program given world frame whole inner stands is left now code failed = record {
   code = code ∙ stands.code;
-  time = sym (ap (λ l. l.world.time) is ∙ ap (λ w. w.time) left);
+  time = now ∙ sym (ap (λ l. l.world.time) is ∙ ap (λ w. w.time) left);
   lines = ap (λ l. l.world.lines) is ∙ ap (λ w. given ++ w.lines) left;
   works = failed ∙ stands.works;
 }

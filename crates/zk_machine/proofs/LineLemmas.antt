@@ -1,17 +1,15 @@
 -- The line of a print, value by value.
 use Rattle.std.proofs.Common.{◌≡◌, ◌==◌, ℕ, suc, ◌+◌, ◌<◌, false, List, [], ◌∷◌, ◌++◌, map, length, drop, get_or, codes, Result, Ok, Err, if◌then◌else◌, refl, sym, ap, ◌∙◌, append_assoc, add-one, drop-cons, rules}
 use Rattle.std.proofs.lemmas.List.{map-append, length-append}
-use Rattle.zk_base.specs.declared.time.Moment.{Moment}
-use Rattle.zk_tree.specs.declared.place.Place.{Place}
 use Rattle.zk_tree.specs.Value as plain
-use Rattle.zk_typed.specs.Exec.{Evaluated, Stop, and_then, before}
+use Rattle.zk_typed.specs.Exec.{Evaluated, Stop, Faults, Spends, and_then, before}
 use Rattle.zk_typed.specs.Text.{text_of, with_commas, line_of}
-use Rattle.zk_value.specs.declared.value.Value.{Value}
 use Rattle.zk_value.specs.declared.code.Operand.{Operand}
+use Rattle.zk_machine.specs.declared.frame.Frame.{Frame}
 use Rattle.zk_machine.specs.declared.halt.Halt.{Halt}
-use Rattle.zk_machine.specs.declared.halt.Halt.TheVariants.{Ends, NoMemory}
+use Rattle.zk_machine.specs.declared.halt.Halt.TheVariants.{Fault, Spent, NoMemory}
 use Rattle.zk_machine.specs.Meant.{evaluated, evaluated_all}
-use Rattle.zk_machine.specs.Steps.{Gives, Stops}
+use Rattle.zk_machine.specs.Steps.{with_units, Gives, Stops}
 
 -- what stands before a value of this number
 abbrev pub separator : ℕ → List ℕ
@@ -50,12 +48,13 @@ joined_more values value (Ok others) =
     ap pair (sym (append_assoc values (value ∷ []) others.0))
 joined_more values value (Err stop) = refl
 
--- these of a print's values stand in its line, and so many units are left
-pub record IsLineSoFar (time : Moment) (args : List Value) (budget : ℕ) (operands : List Operand) (first : List ℕ) (index : ℕ) (line : List ℕ) (units : ℕ) : Type 0 where
+-- these of a print's values stand in its line, and the frame has spent their units
+pub record IsLineSoFar (begun : Frame) (operands : List Operand) (index : ℕ) (line : List ℕ) (frame : Frame) : Type 0 where
   pub values : List plain.Value
   pub counted : length values ≡ index
-  pub given : evaluated_all time args budget operands ≡ joined values (evaluated_all time args units (drop index operands))
-  pub longer : line ≡ first ++ line_of values
+  pub given : evaluated_all begun operands ≡ joined values (evaluated_all frame (drop index operands))
+  pub written : line ≡ line_of values
+  pub rest : frame ≡ with_units begun frame.units
 
 -- the operand that is next
 rest_is : (operands : List Operand) (index : ℕ) (operand : Operand) → index < length operands → operand ≡ get_or operands index operand
@@ -64,11 +63,11 @@ rest_is operands index operand within is =
     rw add-one (drop-cons operands index operand within) ∙ ap (λ o. o ∷ drop (index + 1) operands) (sym is)
 
 -- One operand more gave its value.
-pub line_goes_on : (time : Moment) (args : List Value) (budget : ℕ) (operands : List Operand) (first : List ℕ) (index : ℕ) (operand : Operand) (line between longer : List ℕ) (units fewer : ℕ)
-    → IsLineSoFar time args budget operands first index line units → index < length operands → operand ≡ get_or operands index operand
-    → between ≡ line ++ separator index → Gives (evaluated time args units operand) between longer fewer
-    → IsLineSoFar time args budget operands first (index + 1) longer fewer
-line_goes_on time args budget operands first index operand line between longer units fewer far within is parted gives =
+pub line_goes_on : (begun : Frame) (operands : List Operand) (index : ℕ) (operand : Operand) (line between longer : List ℕ) (frame later : Frame)
+    → IsLineSoFar begun operands index line frame → index < length operands → operand ≡ get_or operands index operand
+    → between ≡ line ++ separator index → Gives (evaluated frame operand) between longer later.units → later ≡ with_units frame later.units
+    → IsLineSoFar begun operands (index + 1) longer later
+line_goes_on begun operands index operand line between longer frame later far within is parted gives rest =
     let value : plain.Value = gives.0 in
     let others : List Operand = drop (index + 1) operands in
     record {
@@ -76,26 +75,30 @@ line_goes_on time args budget operands first index operand line between longer u
       counted = length-append far.values (value ∷ []) ∙ ap (λ n. n + 1) far.counted;
       given =
           far.given
-          ∙ ap (λ os. joined far.values (evaluated_all time args units os)) (rest_is operands index operand within is)
-          ∙ ap (λ (g : Evaluated). joined far.values (and_then g (λ n. evaluated_all time args n others))) gives.1
-          ∙ joined_more far.values value (evaluated_all time args fewer others);
-      longer =
+          ∙ ap (λ os. joined far.values (evaluated_all frame os)) (rest_is operands index operand within is)
+          ∙ ap (λ (g : Evaluated). joined far.values (and_then g (λ n. evaluated_all (with_units frame n) others))) gives.1
+          ∙ joined_more far.values value (evaluated_all (with_units frame later.units) others)
+          ∙ ap (λ f. joined (far.values ++ value ∷ []) (evaluated_all f others)) (sym rest);
+      written =
           gives.2
-          ∙ ap (λ xs. xs ++ text_of value) (parted ∙ ap (λ xs. xs ++ separator index) far.longer ∙ ap (λ n. (first ++ line_of far.values) ++ separator n) (sym far.counted))
-          ∙ append_assoc (first ++ line_of far.values) (separator (length far.values)) (text_of value)
-          ∙ append_assoc first (line_of far.values) (separator (length far.values) ++ text_of value)
-          ∙ ap (λ xs. first ++ xs) (sym (line_more far.values value));
+          ∙ ap (λ xs. xs ++ text_of value) (parted ∙ ap (λ xs. xs ++ separator index) far.written ∙ ap (λ n. line_of far.values ++ separator n) (sym far.counted))
+          ∙ append_assoc (line_of far.values) (separator (length far.values)) (text_of value)
+          ∙ sym (line_more far.values value);
+      rest = rest ∙ ap (λ f. with_units f later.units) far.rest;
     }
 
 -- Where an operand gives no value, the print's values are not given either.
-pub line_stops : (time : Moment) (args : List Value) (budget : ℕ) (operands : List Operand) (first : List ℕ) (index : ℕ) (operand : Operand) (line : List ℕ) (units : ℕ) (place : Place) (halt : Halt)
-    → IsLineSoFar time args budget operands first index line units → index < length operands → operand ≡ get_or operands index operand
-    → Stops place (evaluated time args units operand) halt → Stops place (evaluated_all time args budget operands) halt
-line_stops time args budget operands first index operand line units place NoMemory far within is stops = tt
-line_stops time args budget operands first index operand line units place (Ends «end») far within is stops = (
-  stops.0,
-  far.given
-      ∙ ap (λ os. joined far.values (evaluated_all time args units os)) (rest_is operands index operand within is)
-      ∙ ap (λ (g : Evaluated). joined far.values (and_then g (λ n. evaluated_all time args n (drop (index + 1) operands)))) stops.1,
-  stops.2,
-)
+stopped_all : (begun : Frame) (operands : List Operand) (index : ℕ) (operand : Operand) (line : List ℕ) (frame : Frame) (stop : Stop)
+    → IsLineSoFar begun operands index line frame → index < length operands → operand ≡ get_or operands index operand
+    → evaluated frame operand ≡ Err stop → evaluated_all begun operands ≡ Err stop
+stopped_all begun operands index operand line frame stop far within is stopped =
+    far.given
+    ∙ ap (λ os. joined far.values (evaluated_all frame os)) (rest_is operands index operand within is)
+    ∙ ap (λ (g : Evaluated). joined far.values (and_then g (λ n. evaluated_all (with_units frame n) (drop (index + 1) operands)))) stopped
+
+pub line_stops : (begun : Frame) (operands : List Operand) (index : ℕ) (operand : Operand) (line : List ℕ) (frame : Frame) (units : ℕ) (halt : Halt)
+    → IsLineSoFar begun operands index line frame → index < length operands → operand ≡ get_or operands index operand
+    → Stops (evaluated frame operand) units halt → Stops (evaluated_all begun operands) units halt
+line_stops begun operands index operand line frame units (Fault kind) far within is stops = stopped_all begun operands index operand line frame (Faults kind units) far within is stops
+line_stops begun operands index operand line frame units Spent far within is stops = stopped_all begun operands index operand line frame Spends far within is stops
+line_stops begun operands index operand line frame units NoMemory far within is stops = tt

@@ -1,38 +1,53 @@
--- How what the machine does agrees with what code means.
-use Rattle.std.specs.Prelude.{◌≡◌, ℕ, false, List, ◌++◌, Result, Ok, Err}
+-- How what a frame does agrees with what code means.
+use Rattle.std.specs.Prelude.{◌≡◌, ℕ, List, ◌++◌, Result, Ok, Err}
+use Rattle.zk_base.specs.declared.memory.Mem.{Mem}
 use Rattle.zk_tree.specs.declared.place.Place.{Place}
 use Rattle.zk_tree.specs.Value.{Value}
 use Rattle.zk_typed.specs.declared.ends.BodyEnd.{BodyEnd}
-use Rattle.zk_typed.specs.declared.ends.BodyEnd.TheVariants.{Fault, Spent}
+use Rattle.zk_typed.specs.declared.ends.BodyEnd.TheVariants as «end»
 use Rattle.zk_typed.specs.Text.{text_of, line_of}
 use Rattle.zk_typed.specs.World.{World}
-use Rattle.zk_typed.specs.Exec.{Evaluated, Stop, Faults, Spends, Left, Normal, is_normal, end_of}
+use Rattle.zk_typed.specs.Exec as exec
+use Rattle.zk_typed.specs.Exec.{Evaluated, Stop, Left, end_of}
+use Rattle.zk_machine.specs.declared.frame.Frame.{Frame}
 use Rattle.zk_machine.specs.declared.halt.Halt.{Halt}
-use Rattle.zk_machine.specs.declared.halt.Halt.TheVariants.{Ends, NoMemory}
+use Rattle.zk_machine.specs.declared.halt.Halt.TheVariants.{Fault, Spent, NoMemory}
+use Rattle.zk_machine.specs.Meant.{world_of}
+
+-- the frame with so many units left
+abbrev pub with_units : Frame → ℕ → Frame
+with_units frame units = record frame { units = units }
 
 -- A value is given with so many units left, and a line is longer by its text.
 abbrev pub Gives : Evaluated → List ℕ → List ℕ → ℕ → Type 0
 Gives given line longer units = (value : Value) × (given ≡ Ok (value, units)) × (longer ≡ line ++ text_of value)
 
--- Values are given with so many units left, and a line is longer by theirs.
-abbrev pub GivesAll : Result (List Value × ℕ) Stop → List ℕ → List ℕ → ℕ → Type 0
-GivesAll given line longer units = (values : List Value) × (given ≡ Ok (values, units)) × (longer ≡ line ++ line_of values)
+-- Values are given with so many units left, and the line is theirs.
+abbrev pub GivesLine : Result (List Value × ℕ) Stop → ℕ → List ℕ → Type 0
+GivesLine given units line = (values : List Value) × (given ≡ Ok (values, units)) × (line ≡ line_of values)
 
--- how a stop in the statement at a place ends the body
-abbrev pub stopped_at : Place → Stop → BodyEnd
-stopped_at place (Faults kind left) = Fault kind place
-stopped_at place Spends = Spent place
+-- No value is given: a fault with so many units left, a unit that is not there, or want of memory.
+abbrev pub Stops : {A : Type 0} → Result A Stop → ℕ → Halt → Type 0
+Stops given units (Fault kind) = given ≡ Err (exec.Faults kind units)
+Stops given units Spent = given ≡ Err exec.Spends
+Stops given units NoMemory = Unit {0}
 
--- No value is given, and the body ends for it, or memory is wanting.
-abbrev pub Stops : {A : Type 0} → Place → Result A Stop → Halt → Type 0
-Stops place given (Ends «end») = (stop : Stop) × (given ≡ Err stop) × («end» ≡ stopped_at place stop)
-Stops place given NoMemory = Unit {0}
+-- what is left where all came out normally, by the frame and the lines then
+abbrev pub gone_on : Frame → List (List ℕ) → Left
+gone_on frame lines = record { outcome = exec.Normal; world = world_of frame lines; units = frame.units }
 
--- what is left where all came out normally
-abbrev pub gone_on : World → ℕ → Left
-gone_on world units = record { outcome = Normal; world = world; units = units }
+-- The statement at a place was stopped, and left this, by the frame and the lines then; want of memory leaves nothing.
+abbrev pub Halts : Left → Place → Frame → List (List ℕ) → Halt → Type 0
+Halts left place frame lines (Fault kind) = left ≡ record { outcome = exec.Fault kind place; world = world_of frame lines; units = frame.units }
+Halts left place frame lines Spent = left ≡ record { outcome = exec.Spent place; world = world_of frame lines; units = 0 }
+Halts left place frame lines NoMemory = Unit {0}
 
--- A statement did not come out normally, and the body ends for it in this world, or memory is wanting.
-abbrev pub Halts : Left → World → Halt → Type 0
-Halts left world (Ends «end») = (is_normal left.outcome ≡ false) × («end» ≡ end_of left.outcome) × (left.world ≡ world)
-Halts left world NoMemory = Unit {0}
+-- how a body ends whose statement at a place is stopped so; want of memory ends it in no way
+abbrev pub ended_at : Place → Halt → Result BodyEnd Mem
+ended_at place (Fault kind) = Ok («end».Fault kind place)
+ended_at place Spent = Ok («end».Spent place)
+ended_at place NoMemory = Err (record {})
+
+-- The body ends so, in this world.
+abbrev pub Ends : Left → World → BodyEnd → Type 0
+Ends left world «end» = («end» ≡ end_of left.outcome) × (left.world ≡ world)

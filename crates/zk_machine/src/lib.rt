@@ -1,9 +1,9 @@
 //! One handler's body at a time: code that runs in a world.
 #![tactic(auto)]
 
+mod frame;
 mod halt;
 mod machine;
-mod prints;
 mod texts;
 
 pub use machine::Machine;

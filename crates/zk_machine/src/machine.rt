@@ -6,8 +6,7 @@ ghost use Rattle.zk_typed.specs.World.{World, first_world, at_time};
 ghost use Rattle.zk_value.specs.Plain.{value_of, line_in};
 ghost use Rattle.zk_machine.specs.Lowered.{lowered, print_of};
 
-use crate::halt::Halt;
-use crate::prints::do_prints;
+use crate::frame::Frame;
 use std::alloc::Global;
 use std::collections::VecDeque;
 use zk_base::{Bytes, HandlerNo, Mem, Moment};
@@ -78,14 +77,15 @@ impl Machine {
             return Err(Mem);
         }
         let prints = prints_of(&self.code, handler);
-        match do_prints(self.alloc, &mut self.lines, prints, self.time, args, budget) {
-            Ok(_) => Ok(BodyEnd::Done),
-            Err(Halt::Ends(end)) => Ok(end),
-            Err(Halt::NoMemory) => {
-                self.failed = true;
-                Err(Mem)
-            }
-        }
+        let mut frame = Frame {
+            alloc: self.alloc,
+            time: self.time,
+            args,
+            units: budget,
+        };
+        let end = frame.run(&mut self.lines, prints);
+        self.failed = end.is_err();
+        end
     }
 
     /// The next printed line that was not yet given, or none where all were or the machine has failed.

@@ -1,5 +1,6 @@
 use super::*;
-use std::alloc::AllocError;
+use std::alloc::{AllocError, Global};
+use std::process::Abort;
 use std::test::Fail;
 use zk_base::{Mem, Moment};
 use zk_link_ip::Ip4;
@@ -19,7 +20,7 @@ struct Fields<'a> {
 }
 
 /// The packet of a fragment whose length fits one byte.
-fn packet(rt: &HostRuntime, fields: Fields<'_>) -> Result<Vec<u8>, AllocError> {
+fn packet(rt: &impl Abort, alloc: Global, fields: Fields<'_>) -> Result<Vec<u8>, AllocError> {
     assert!(rt; fields.offset <= 0x1fff);
     let flags = if fields.more { 0x2000 } else { 0 };
     let [high, low] = (flags | fields.offset).to_be_bytes();
@@ -47,14 +48,20 @@ fn packet(rt: &HostRuntime, fields: Fields<'_>) -> Result<Vec<u8>, AllocError> {
         0x00,
         0x02,
     ];
-    let mut bytes = Vec::from_slice(rt.alloc(), &header)?;
+    let mut bytes = Vec::from_slice(alloc, &header)?;
     bytes.extend_from_slice(fields.payload)?;
     Ok(bytes)
 }
 
 /// What a fragment did.
-fn taken(rt: &HostRuntime, frags: &mut Frags, t: i64, fields: Fields<'_>) -> Result<Joined, Mem> {
-    let bytes = packet(rt, fields)?;
+fn taken(
+    rt: &impl Abort,
+    alloc: Global,
+    frags: &mut Frags,
+    t: i64,
+    fields: Fields<'_>,
+) -> Result<Joined, Mem> {
+    let bytes = packet(rt, alloc, fields)?;
     let ip = Ip4::read(&bytes, false).expect(rt, "the header is right");
     frags.take(Moment(t), &ip)
 }
@@ -81,11 +88,23 @@ fn a_group_takes_fragments_for_30_seconds_and_first_copies_stand(
     ];
     for (later, want) in rows {
         let mut frags = Frags::new(rt.alloc());
-        let last = taken(&rt, &mut frags, 0, part(2, false, b"CCCCCCCC"))?;
+        let last = taken(&rt, rt.alloc(), &mut frags, 0, part(2, false, b"CCCCCCCC"))?;
         assert_eq!(rt; last, Joined::Held, "at {later}");
-        let middle = taken(&rt, &mut frags, later, part(1, true, b"bbbbbbbbXXXXXXXX"))?;
+        let middle = taken(
+            &rt,
+            rt.alloc(),
+            &mut frags,
+            later,
+            part(1, true, b"bbbbbbbbXXXXXXXX"),
+        )?;
         assert_eq!(rt; middle, Joined::Held, "at {later}");
-        let first = taken(&rt, &mut frags, later, part(0, true, b"aaaaaaaaYYYYYYYY"))?;
+        let first = taken(
+            &rt,
+            rt.alloc(),
+            &mut frags,
+            later,
+            part(0, true, b"aaaaaaaaYYYYYYYY"),
+        )?;
         assert_eq!(rt; first, want, "at {later}");
         if want == Joined::Whole {
             assert_eq!(rt;
@@ -111,14 +130,26 @@ fn pieces_in_any_order_make_the_datagram(rt: HostRuntime) -> Result<(), Fail> {
     ];
     let mut frags = Frags::new(rt.alloc());
     for (n, piece) in pieces.iter().enumerate() {
-        let joined = taken(&rt, &mut frags, SECOND, *piece)?;
+        let joined = taken(&rt, rt.alloc(), &mut frags, SECOND, *piece)?;
         assert_eq!(rt; joined, Joined::Held, "in row {n}");
     }
-    let joined = taken(&rt, &mut frags, SECOND, part(6, true, b"gggggggg"))?;
+    let joined = taken(
+        &rt,
+        rt.alloc(),
+        &mut frags,
+        SECOND,
+        part(6, true, b"gggggggg"),
+    )?;
     assert_eq!(rt; joined, Joined::Whole);
     assert_eq!(rt; frags.whole(), text);
     // the group is gone: another copy of its last fragment begins a new one
-    let joined = taken(&rt, &mut frags, SECOND, part(7, false, b"hhhhh"))?;
+    let joined = taken(
+        &rt,
+        rt.alloc(),
+        &mut frags,
+        SECOND,
+        part(7, false, b"hhhhh"),
+    )?;
     assert_eq!(rt; joined, Joined::Held);
     Ok(())
 }
@@ -141,7 +172,7 @@ fn cut_and_too_long_fragments_are_ignored(rt: HostRuntime) -> Result<(), Fail> {
     ];
     let mut frags = Frags::new(rt.alloc());
     for (n, (fields, want)) in rows.iter().enumerate() {
-        let joined = taken(&rt, &mut frags, 0, *fields)?;
+        let joined = taken(&rt, rt.alloc(), &mut frags, 0, *fields)?;
         assert_eq!(rt; joined, *want, "in row {n}");
     }
     Ok(())

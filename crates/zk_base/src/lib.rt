@@ -19,7 +19,7 @@ pub use checksum::{is_right, word_sum};
 pub use endings::{Ending, ScriptKind};
 pub use mem_shelf::MemShelf;
 pub use memory::Mem;
-pub use network::{Addr, Proto, Side};
+pub use network::{Addr, IP4_TOTAL_LENGTH_MAX, LINKTYPE_ETHERNET, LINKTYPE_RAW, Proto, Side};
 pub use numbers::{ConnNo, EventNo, HandlerNo, HookNo, LogId, ObjectNo, RecordNo};
 pub use sequence::Sequence;
 pub use shelf::{Got, Shelf, Started, Wrote};

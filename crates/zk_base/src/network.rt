@@ -1,3 +1,14 @@
+/// The link type of Ethernet frames (LINKTYPE_ETHERNET in the list of link types of the capture
+/// format).
+pub const LINKTYPE_ETHERNET: u16 = 1;
+
+/// The link type of frames that are IP packets with nothing before them (LINKTYPE_RAW in that list).
+pub const LINKTYPE_RAW: u16 = 101;
+
+/// The greatest total length of an IPv4 packet, and so of a datagram, in bytes (RFC 791, section
+/// 3.1).
+pub const IP4_TOTAL_LENGTH_MAX: usize = 65_535;
+
 /// An address of an internet host, as the number that its bytes make in network order.
 #[derive(Clone, Copy, Debug, PartialEq, Eq, PartialOrd, Ord, Hash)]
 pub enum Addr {

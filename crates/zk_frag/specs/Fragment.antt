@@ -1,5 +1,6 @@
 -- A fragment of an IPv4 datagram (RFC 791, section 3.2).
 use Rattle.std.specs.Prelude.{ℕ, ◌+◌, ◌-◌, ◌*◌, Bool, false, ◌==◌, ◌&&◌, ◌||◌, nat_lt, nat_le, List, length, Option, None, slice_get, if◌then◌else◌}
+use Rattle.zk_base.specs.declared.network.TheConstants.{IP4_TOTAL_LENGTH_MAX}
 use Rattle.zk_base.specs.declared.network.Addr.{Addr}
 use Rattle.zk_base.specs.declared.network.Addr.TheVariants.{V4, V6}
 use Rattle.zk_base.specs.declared.time.Moment.{Moment}
@@ -55,7 +56,7 @@ end fragment = fragment.place + length fragment.payload
 
 -- it is cut, or passes the longest datagram
 abbrev pub is_ignored : Fragment → Bool
-is_ignored fragment = fragment.was_cut || nat_lt 65535 (end fragment)
+is_ignored fragment = fragment.was_cut || nat_lt IP4_TOTAL_LENGTH_MAX (end fragment)
 
 -- the byte that a payload that begins at `from` has at a place of the datagram
 abbrev pub byte_of : ℕ → List ℕ → ℕ → Option ℕ

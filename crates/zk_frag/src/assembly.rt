@@ -7,9 +7,6 @@ ghost use Rattle.zk_frag.specs.Group.{is_covered, datagram};
 use std::alloc::Global;
 use zk_base::Mem;
 
-/// The greatest length of a datagram, in bytes.
-pub const GREATEST_DATAGRAM: usize = 65_535;
-
 /// Makes a vector at least this long, by copies of a value. At `Mem` nothing is changed.
 fn lengthen<T: Copy + Drop>(vec: &mut Vec<T>, len: usize, value: T) -> Result<(), Mem>
     ensures same { (i : ℕ) → slice_index_or vec.new.items i value ≡ slice_index_or vec.old.items i value }

@@ -7,12 +7,12 @@ ghost use Rattle.zk_frag.specs.Fragment.{Fragment, fragment_of, is_ignored};
 ghost use Rattle.zk_frag.specs.Group.{is_later};
 ghost use Rattle.zk_frag.specs.Histories.{joined_of, datagram_of};
 
-use crate::assembly::{Assembly, GREATEST_DATAGRAM};
+use crate::assembly::Assembly;
 use crate::group::Group;
 use crate::key::Key;
 use std::alloc::Global;
 use std::collections::BTreeMap;
-use zk_base::{Mem, Moment};
+use zk_base::{IP4_TOTAL_LENGTH_MAX, Mem, Moment};
 use zk_link_ip::Ip4;
 
 /// What a fragment did.
@@ -20,7 +20,7 @@ use zk_link_ip::Ip4;
 pub enum Joined {
     /// It is kept, and its datagram is not yet whole.
     Held,
-    /// It is cut, or passes the longest datagram, and counts for nothing.
+    /// It is cut, or passes the longest datagram, and does nothing.
     Ignored,
     /// Its datagram is whole.
     Whole,
@@ -34,10 +34,10 @@ fn place_of(ip: &Ip4<'_>) -> usize
 }
 
 /// Whether a fragment is cut, or passes the longest datagram.
-fn counts_for_nothing(ip: &Ip4<'_>) -> bool
+fn is_ignored(ip: &Ip4<'_>) -> bool
     ensures { (t : Moment) → result ≡ is_ignored (fragment_of t (packet ip.now).now) }
 {
-    ip.was_cut() || place_of(ip) + ip.payload().len() > GREATEST_DATAGRAM
+    ip.was_cut() || place_of(ip) + ip.payload().len() > IP4_TOTAL_LENGTH_MAX
 }
 
 /// The fragments of the datagrams of a capture that are not yet whole.
@@ -65,8 +65,8 @@ impl Frags {
     }
 
     /// Takes a fragment, a packet with MF or with an offset other than 0, that comes at a time not
-    /// before those of earlier ones. What it did depends on all fragments so far. (The contract asks
-    /// for neither: it says what any packet does at any time.)
+    /// before those of earlier ones. Neither is required: the contract also says what other packets
+    /// and earlier times do. What it did depends on all fragments so far.
     ///
     /// Fragments of one source, destination, protocol and identification form a group. Their bytes
     /// go to their places, and of two copies the first stands. The first fragment without MF names
@@ -84,7 +84,7 @@ impl Frags {
         ensures ignored { is_ignored (fragment_of t (packet ip.now).now) ≡ true → result ≡ Ok Joined.Ignored }
         ensures memory { OnErr result ((given : List Fragment) → StandsFor self.old given → StandsFor self.new given) }
     {
-        if counts_for_nothing(ip) {
+        if is_ignored(ip) {
             return Ok(Joined::Ignored);
         }
         let key = Key::of(ip);

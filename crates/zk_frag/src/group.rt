@@ -2,10 +2,10 @@ ghost use Rattle.std.specs.Prelude.{◌≡◌};
 ghost use Rattle.zk_frag.specs.Group.{is_later};
 
 use crate::assembly::Assembly;
-use zk_base::Moment;
+use zk_base::{Moment, Span};
 
-/// How long after its first fragment a group takes others, in microseconds.
-const GROUP_SPAN: i64 = 30_000_000;
+/// How long after its first fragment a group takes others.
+const GROUP_SPAN: Span = Span(30_000_000);
 
 /// The fragments of a datagram that is not yet whole.
 #[derive(Debug, Drop)]
@@ -20,6 +20,6 @@ impl Group {
     pub fn is_over(&self, now: Moment) -> bool
         ensures { result ≡ is_later self.now.since now }
     {
-        now.0.saturating_sub(self.since.0) > GROUP_SPAN
+        Span(now.0.saturating_sub(self.since.0)) > GROUP_SPAN
     }
 }

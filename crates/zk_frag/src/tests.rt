@@ -1,5 +1,6 @@
 use super::*;
 use std::alloc::{AllocError, Global};
+use std::process::Abort;
 use std::test::Fail;
 use zk_base::{Mem, Moment};
 use zk_link_ip::Ip4;
@@ -18,10 +19,13 @@ struct Fields<'a> {
     payload: &'a [u8],
 }
 
-fn packet(alloc: Global, fields: Fields<'_>) -> Result<Vec<u8>, AllocError> {
+/// The packet of a fragment whose length fits one byte.
+fn packet(rt: &impl Abort, alloc: Global, fields: Fields<'_>) -> Result<Vec<u8>, AllocError> {
+    assert!(rt; fields.offset <= 0x1fff);
     let flags = if fields.more { 0x2000 } else { 0 };
-    let [high, low] = (flags | fields.offset & 0x1fff).to_be_bytes();
-    let total = (20 + (fields.payload.len() & 0x3f)) as u8 + (fields.cut & 0x0f);
+    let [high, low] = (flags | fields.offset).to_be_bytes();
+    assert!(rt; fields.payload.len() <= 200 && fields.cut <= 35);
+    let total = 20 + fields.payload.len() as u8 + fields.cut;
     let header = [
         0x45,
         0x00,
@@ -49,18 +53,17 @@ fn packet(alloc: Global, fields: Fields<'_>) -> Result<Vec<u8>, AllocError> {
     Ok(bytes)
 }
 
-/// What a fragment did, or None where its packet is none.
+/// What a fragment did.
 fn taken(
+    rt: &impl Abort,
     alloc: Global,
     frags: &mut Frags,
     t: i64,
     fields: Fields<'_>,
-) -> Result<Option<Joined>, Mem> {
-    let bytes = packet(alloc, fields)?;
-    let Ok(ip) = Ip4::read(&bytes, false) else {
-        return Ok(None);
-    };
-    Ok(Some(frags.take(Moment(t), &ip)?))
+) -> Result<Joined, Mem> {
+    let bytes = packet(rt, alloc, fields)?;
+    let ip = Ip4::read(&bytes, false).expect(rt, "the header is right");
+    frags.take(Moment(t), &ip)
 }
 
 /// A fragment of the datagram 7.
@@ -83,26 +86,32 @@ fn a_group_takes_fragments_for_30_seconds_and_first_copies_stand(
         (30 * SECOND, Joined::Whole),
         (31 * SECOND, Joined::Held),
     ];
-    for (later, want) in &rows {
+    for (later, want) in rows {
         let mut frags = Frags::new(rt.alloc());
-        let last = taken(rt.alloc(), &mut frags, 0, part(2, false, b"CCCCCCCC"))?;
-        assert!(rt; last == Some(Joined::Held));
+        let last = taken(&rt, rt.alloc(), &mut frags, 0, part(2, false, b"CCCCCCCC"))?;
+        assert_eq!(rt; last, Joined::Held, "at {later}");
         let middle = taken(
+            &rt,
             rt.alloc(),
             &mut frags,
-            *later,
+            later,
             part(1, true, b"bbbbbbbbXXXXXXXX"),
         )?;
-        assert!(rt; middle == Some(Joined::Held));
+        assert_eq!(rt; middle, Joined::Held, "at {later}");
         let first = taken(
+            &rt,
             rt.alloc(),
             &mut frags,
-            *later,
+            later,
             part(0, true, b"aaaaaaaaYYYYYYYY"),
         )?;
-        assert!(rt; first == Some(*want));
-        if *want == Joined::Whole {
-            assert_eq!(rt; frags.whole(), b"aaaaaaaabbbbbbbbCCCCCCCC".as_slice());
+        assert_eq!(rt; first, want, "at {later}");
+        if want == Joined::Whole {
+            assert_eq!(rt;
+                frags.whole(),
+                b"aaaaaaaabbbbbbbbCCCCCCCC".as_slice(),
+                "at {later}"
+            );
         }
     }
     Ok(())
@@ -120,21 +129,33 @@ fn pieces_in_any_order_make_the_datagram(rt: HostRuntime) -> Result<(), Fail> {
         part(1, true, b"bbbbbbbb"),
     ];
     let mut frags = Frags::new(rt.alloc());
-    for piece in &pieces {
-        let joined = taken(rt.alloc(), &mut frags, SECOND, *piece)?;
-        assert!(rt; joined == Some(Joined::Held));
+    for (n, piece) in pieces.iter().enumerate() {
+        let joined = taken(&rt, rt.alloc(), &mut frags, SECOND, *piece)?;
+        assert_eq!(rt; joined, Joined::Held, "in row {n}");
     }
-    let joined = taken(rt.alloc(), &mut frags, SECOND, part(6, true, b"gggggggg"))?;
-    assert!(rt; joined == Some(Joined::Whole));
+    let joined = taken(
+        &rt,
+        rt.alloc(),
+        &mut frags,
+        SECOND,
+        part(6, true, b"gggggggg"),
+    )?;
+    assert_eq!(rt; joined, Joined::Whole);
     assert_eq!(rt; frags.whole(), text);
     // the group is gone: another copy of its last fragment begins a new one
-    let joined = taken(rt.alloc(), &mut frags, SECOND, part(7, false, b"hhhhh"))?;
-    assert!(rt; joined == Some(Joined::Held));
+    let joined = taken(
+        &rt,
+        rt.alloc(),
+        &mut frags,
+        SECOND,
+        part(7, false, b"hhhhh"),
+    )?;
+    assert_eq!(rt; joined, Joined::Held);
     Ok(())
 }
 
 #[test]
-fn cut_and_too_long_fragments_count_for_nothing(rt: HostRuntime) -> Result<(), Fail> {
+fn cut_and_too_long_fragments_are_ignored(rt: HostRuntime) -> Result<(), Fail> {
     let whole = part(0, true, b"aaaaaaaa");
     let rows = [
         (Fields { cut: 1, ..whole }, Joined::Ignored),
@@ -150,9 +171,9 @@ fn cut_and_too_long_fragments_count_for_nothing(rt: HostRuntime) -> Result<(), F
         ),
     ];
     let mut frags = Frags::new(rt.alloc());
-    for (fields, want) in &rows {
-        let joined = taken(rt.alloc(), &mut frags, 0, *fields)?;
-        assert!(rt; joined == Some(*want));
+    for (n, (fields, want)) in rows.iter().enumerate() {
+        let joined = taken(&rt, rt.alloc(), &mut frags, 0, *fields)?;
+        assert_eq!(rt; joined, *want, "in row {n}");
     }
     Ok(())
 }

@@ -1,17 +1,19 @@
 //! TCP and UDP headers, read in place: each view borrows the bytes of its packet and takes no memory.
 //!
-//! So a payload can't outlive the packet. This does not compile, since `packet` does not live long
+//! So a payload can't outlive the packet. This does not compile, since `bytes` does not live long
 //! enough:
 //!
 //! ```text
-//! let mut kept: &[u8] = &[];
-//! {
-//!     let packet = [0; 8];
-//!     if let Ok(udp) = Udp::read(Addr::V4(1), Addr::V4(2), &packet, 8, false) {
-//!         kept = udp.payload();
+//! pub fn payload_outlives_its_segment() -> usize {
+//!     let mut kept: &[u8] = &[];
+//!     {
+//!         let bytes = [0u8; 20];
+//!         if let Ok(tcp) = Tcp::read(zk_base::Addr::V4(1), zk_base::Addr::V4(2), &bytes, 20, false) {
+//!             kept = tcp.payload();
+//!         }
 //!     }
+//!     kept.len()
 //! }
-//! kept.len()
 //! ```
 #![tactic(auto)]
 

@@ -17,7 +17,7 @@ fn address_sum(address: Addr) -> u64
 
 /// Whether the checksum in a datagram of `protocol` is right: that over the pseudo header of its
 /// addresses and the whole datagram.
-pub(crate) fn is_checksum_right(src: Addr, dst: Addr, protocol: u8, datagram: &[u8]) -> bool
+pub fn is_checksum_right(src: Addr, dst: Addr, protocol: u8, datagram: &[u8]) -> bool
     requires { length datagram.now ≤ 65535 }
     ensures { result ≡ has_right_checksum src dst protocol datagram.now }
 {

@@ -9,10 +9,16 @@ use zk_base::Addr;
 /// The protocol's number in an IP header.
 const PROTOCOL: u8 = 6;
 
-/// The length of a header without options.
-const LEAST_HEADER: usize = 20;
+/// The length of a word, in which the data offset counts.
+const WORD_LEN: usize = 4;
 
-// Where the header's fields begin, in bytes.
+/// The data offset of a header without options.
+const DATA_OFFSET_MIN: usize = 5;
+
+/// The length of a header without options.
+const HEADER_LEN_MIN: usize = WORD_LEN * DATA_OFFSET_MIN;
+
+// Places of a header's fields.
 const SOURCE_PORT: usize = 0;
 
 const DESTINATION_PORT: usize = 2;
@@ -63,11 +69,11 @@ impl<'a> Tcp<'a> {
         ensures bytes { IfOk result (λ tcp. segment tcp ≡ bytes.entry) }
         ensures full { IfOk result (λ tcp. full_length tcp ≡ full) }
     {
-        if bytes.len() < LEAST_HEADER {
+        if bytes.len() < HEADER_LEN_MIN {
             return Err(L4Fault::Short);
         }
         let header_len = header_len(bytes);
-        if header_len < LEAST_HEADER || bytes.len() < header_len {
+        if header_len < HEADER_LEN_MIN || bytes.len() < header_len {
             return Err(L4Fault::Offset);
         }
         let is_judged = check && bytes.len() == full;
@@ -139,9 +145,9 @@ impl<'a> Tcp<'a> {
 /// The length in bytes of the header, options among them.
 #[tactic(auto, unfolding(crate::specs::Tcp::data_offset))]
 fn header_len(bytes: &[u8]) -> usize
-    requires { LEAST_HEADER ≤ length bytes.now }
+    requires { HEADER_LEN_MIN ≤ length bytes.now }
     ensures { result ≡ header_length bytes.now }
 {
-    // The data offset is the high half of its byte and counts words of four bytes.
-    4 * (bytes[DATA_OFFSET] >> 4) as usize
+    // The data offset is the high half of its byte.
+    WORD_LEN * usize::from(bytes[DATA_OFFSET] >> 4)
 }

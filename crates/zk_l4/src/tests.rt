@@ -1,19 +1,22 @@
 use crate::{L4Fault, Tcp, Udp, flags};
 use zk_base::Addr;
 
-/// 10.0.0.1 and 10.0.0.53.
+/// 10.0.0.1.
 const CLIENT: Addr = Addr::V4(0x0a00_0001);
 
+/// 10.0.0.53.
 const SERVER: Addr = Addr::V4(0x0a00_0035);
 
-/// 2001:db8::1 and 2001:db8::35.
+/// 2001:db8::1.
 const CLIENT6: Addr = Addr::V6(0x2001_0db8_0000_0000_0000_0000_0000_0001);
 
+/// 2001:db8::35.
 const SERVER6: Addr = Addr::V6(0x2001_0db8_0000_0000_0000_0000_0000_0035);
 
-/// The hosts of the capture that tshark was run on: 10.77.0.1 and 10.77.0.2.
+/// 10.77.0.1 in the capture that tshark was run on.
 const BROWSER: Addr = Addr::V4(0x0a4d_0001);
 
+/// 10.77.0.2 there.
 const SITE: Addr = Addr::V4(0x0a4d_0002);
 
 /// A SYN with 20 bytes of options.
@@ -110,12 +113,12 @@ fn fields_of(tcp: Tcp<'_>) -> Fields {
 
 #[test]
 fn tcp_fields_are_those_that_tshark_prints(rt: HostRuntime) -> Result<(), L4Fault> {
-    for (src, dst, bytes, fields) in &SEGMENTS {
-        assert!(rt; bytes.len() <= 65535);
+    for (n, (src, dst, bytes, fields)) in SEGMENTS.iter().enumerate() {
+        assert!(rt; bytes.len() <= 65535, "in row {n}");
         let tcp = Tcp::read(*src, *dst, bytes, bytes.len(), true)?;
-        assert_eq!(rt; fields_of(tcp), *fields);
-        assert_eq!(rt; tcp.full_payload(), 0);
-        assert!(rt; tcp.payload().is_empty());
+        assert_eq!(rt; fields_of(tcp), *fields, "in row {n}");
+        assert_eq!(rt; tcp.full_payload(), 0, "in row {n}");
+        assert!(rt; tcp.payload().is_empty(), "in row {n}");
     }
     let pushed = Tcp::read(CLIENT, SERVER, ODD, 23, true)?;
     assert_eq!(rt; pushed.flags(), flags::PSH | flags::ACK);
@@ -139,18 +142,19 @@ const ODD: &[u8] = &[
     0x05, 0x38, 0x00, 0x00, 0x47, 0x45, 0x54,
 ];
 
-/// The same with a data offset of 4 words, with one that leads past the bytes, and with another
-/// checksum.
+/// The same with a data offset of 4 words.
 const LOW_OFFSET: &[u8] = &[
     0xc0, 0xa8, 0x00, 0x50, 0x01, 0x02, 0x03, 0x04, 0x0a, 0x0b, 0x0c, 0x0d, 0x40, 0x18, 0x20, 0x00,
     0x05, 0x38, 0x00, 0x00, 0x47, 0x45, 0x54,
 ];
 
+/// The same with a data offset that leads past the bytes.
 const HIGH_OFFSET: &[u8] = &[
     0xc0, 0xa8, 0x00, 0x50, 0x01, 0x02, 0x03, 0x04, 0x0a, 0x0b, 0x0c, 0x0d, 0x60, 0x18, 0x20, 0x00,
     0x05, 0x38, 0x00, 0x00, 0x47, 0x45, 0x54,
 ];
 
+/// The same with another checksum.
 const WRONG: &[u8] = &[
     0xc0, 0xa8, 0x00, 0x50, 0x01, 0x02, 0x03, 0x04, 0x0a, 0x0b, 0x0c, 0x0d, 0x50, 0x18, 0x20, 0x00,
     0x05, 0x39, 0x00, 0x00, 0x47, 0x45, 0x54,
@@ -192,12 +196,13 @@ fn tcp_segments_have_the_payload_that_tcpdump_prints_or_their_first_fault(rt: Ho
         (&LOW_OFFSET[..19], 23, true, Err(L4Fault::Short)),
         (LONGEST, 60, true, Ok((0, b""))),
     ];
-    for (bytes, full, check, wanted) in &rows {
-        assert!(rt; bytes.len() <= *full && *full <= 65535);
+    for (n, (bytes, full, check, wanted)) in rows.iter().enumerate() {
+        assert!(rt; bytes.len() <= *full && *full <= 65535, "in row {n}");
         let answer = Tcp::read(CLIENT, SERVER, bytes, *full, *check);
         assert_eq!(rt;
             answer.map(|tcp| (tcp.full_payload(), tcp.payload())),
-            *wanted
+            *wanted,
+            "in row {n}"
         );
     }
     let over_ipv6 = Tcp::read(CLIENT6, SERVER6, ODD6, 29, true);
@@ -207,14 +212,16 @@ fn tcp_segments_have_the_payload_that_tcpdump_prints_or_their_first_fault(rt: Ho
     );
 }
 
-/// Ports 40000 and 53, no payload; the same with a wrong checksum, and without one.
+/// Ports 40000 and 53, no payload.
 const EMPTY: &[u8] = &[0x9c, 0x40, 0x00, 0x35, 0x00, 0x08, 0x4f, 0x33];
 
+/// The same with a wrong checksum.
 const EMPTY_WRONG: &[u8] = &[0x9c, 0x40, 0x00, 0x35, 0x00, 0x08, 0x00, 0x01];
 
+/// The same without a checksum.
 const EMPTY_UNCOMPUTED: &[u8] = &[0x9c, 0x40, 0x00, 0x35, 0x00, 0x08, 0x00, 0x00];
 
-/// A length field of 7.
+/// The same with a length field of 7.
 const LENGTH_7: &[u8] = &[0x9c, 0x40, 0x00, 0x35, 0x00, 0x07, 0x4f, 0x33];
 
 /// A payload of 3 bytes, and 3 bytes that are not the datagram's.
@@ -244,12 +251,13 @@ fn udp_datagrams_have_the_payload_that_tcpdump_prints_or_their_first_fault(rt: H
         (&PADDED[..9], 14, true, Ok((3, b"a"))),
         (ALL_ONES, 10, true, Ok((2, &[0x4f, 0x2f]))),
     ];
-    for (bytes, full, check, wanted) in &rows {
-        assert!(rt; bytes.len() <= *full && *full <= 65535);
+    for (n, (bytes, full, check, wanted)) in rows.iter().enumerate() {
+        assert!(rt; bytes.len() <= *full && *full <= 65535, "in row {n}");
         let answer = Udp::read(CLIENT, SERVER, bytes, *full, *check);
         assert_eq!(rt;
             answer.map(|udp| (udp.full_payload(), udp.payload())),
-            *wanted
+            *wanted,
+            "in row {n}"
         );
     }
     let over_ipv6 = Udp::read(CLIENT6, SERVER6, UDP6, 11, true);

@@ -10,9 +10,9 @@ use zk_base::Addr;
 const PROTOCOL: u8 = 17;
 
 /// The length of the header.
-const HEADER: usize = 8;
+const HEADER_LEN: usize = 8;
 
-// Where the header's fields begin, in bytes.
+// Places of the header's fields.
 const SOURCE_PORT: usize = 0;
 
 const DESTINATION_PORT: usize = 2;
@@ -56,11 +56,11 @@ impl<'a> Udp<'a> {
             (λ fault. udp_fault src dst bytes.now full check ≡ Some fault) }
         ensures bytes { IfOk result (λ udp. datagram udp ≡ bytes.entry) }
     {
-        if bytes.len() < HEADER {
+        if bytes.len() < HEADER_LEN {
             return Err(L4Fault::Short);
         }
         let length = length_of(bytes);
-        if length < HEADER || full < length {
+        if length < HEADER_LEN || full < length {
             return Err(L4Fault::Length);
         }
         let is_judged = check && has_checksum(bytes) && length <= bytes.len();
@@ -91,7 +91,7 @@ impl<'a> Udp<'a> {
         ensures value { result ≡ length_field (datagram self.now).now - 8 }
         ensures bound { result ≤ 65535 }
     {
-        length_of(self.bytes) - HEADER
+        length_of(self.bytes) - HEADER_LEN
     }
 
     /// What was captured of the payload, the very slice of the bytes that were read.
@@ -101,24 +101,24 @@ impl<'a> Udp<'a> {
         ensures bound { length result.now ≤ length_field (datagram self.now).now - 8 }
     {
         let end = length_of(self.bytes).min(self.bytes.len());
-        &self.bytes[HEADER..end]
+        &self.bytes[HEADER_LEN..end]
     }
 }
 
 /// The length field, in bytes of header and payload.
 #[tactic(auto, unfolding(crate::specs::Udp::length_field))]
 fn length_of(bytes: &[u8]) -> usize
-    requires { HEADER ≤ length bytes.now }
+    requires { HEADER_LEN ≤ length bytes.now }
     ensures value { result ≡ length_field bytes.now }
     ensures bound { result ≤ 65535 }
 {
-    BigEndian::read_u16(&bytes[LENGTH..]) as usize
+    usize::from(BigEndian::read_u16(&bytes[LENGTH..]))
 }
 
 /// Whether the sender computed a checksum: a field of 0 says that there is none.
 #[tactic(auto, unfolding(crate::specs::Udp::checksum_field))]
 fn has_checksum(bytes: &[u8]) -> bool
-    requires { HEADER ≤ length bytes.now }
+    requires { HEADER_LEN ≤ length bytes.now }
     ensures { result ≡ not (checksum_field bytes.now == 0) }
 {
     BigEndian::read_u16(&bytes[CHECKSUM..]) != 0

@@ -1,7 +1,8 @@
 -- What a captured frame holds, by places (IEEE 802.3 3.2; IEEE 802.1Q 9.6 for tags; the list of link types
--- of the capture format, LINKTYPE_ETHERNET and LINKTYPE_RAW).
+-- of the capture format).
 use Rattle.std.specs.Prelude.{ℕ, ◌+◌, ◌/◌, Bool, ◌==◌, ◌&&◌, ◌||◌, not, nat_le, if◌then◌else◌, List, length, drop, slice_index, Option, Some, None, option_and_then}
 use Rattle.byteorder.specs.Endian.{big_number}
+use Rattle.zk_base.specs.declared.network.TheConstants.{LINKTYPE_ETHERNET, LINKTYPE_RAW}
 
 -- the type field at a place
 abbrev pub type_at : List ℕ → ℕ → ℕ
@@ -36,13 +37,13 @@ raw_content frame =
 -- the type and content of a frame, by its link type
 abbrev pub content_of : ℕ → List ℕ → Option (ℕ × List ℕ)
 content_of link frame =
-    if link == 1 then ethernet_content frame
-    else if link == 101 then raw_content frame
+    if link == LINKTYPE_ETHERNET then ethernet_content frame
+    else if link == LINKTYPE_RAW then raw_content frame
     else None
 
 -- how many bytes stand before the content: to the end of the type, and none in a raw frame
 abbrev pub content_place : ℕ → List ℕ → ℕ
-content_place link frame = if link == 1 then type_place frame + 2 else 0
+content_place link frame = if link == LINKTYPE_ETHERNET then type_place frame + 2 else 0
 
 -- the IPv4 packet that a frame holds, and what follows it there
 abbrev pub ip_part_of : ℕ → List ℕ → Option (List ℕ)

@@ -2,6 +2,7 @@
 use Rattle.std.specs.Prelude.{ℕ, ◌-◌, ◌*◌, ◌/◌, ◌%◌, ◌^◌, Bool, ◌==◌, ◌&&◌, ◌||◌, not, nat_lt, min, if◌then◌else◌, List, length, take, drop, sum, slice_index, Result, Ok, Err}
 use Rattle.byteorder.specs.Endian.{big_number}
 use Rattle.zk_base.specs.Checksum.{words, is_right_sum}
+use Rattle.zk_base.specs.declared.network.TheConstants.{IP4_TOTAL_LENGTH_MAX}
 use Rattle.zk_base.specs.declared.network.Addr.{Addr}
 use Rattle.zk_base.specs.declared.network.Addr.TheVariants.{V4}
 use Rattle.zk_link_ip.specs.declared.ip4.IpFault.{IpFault}
@@ -44,9 +45,9 @@ source bytes = V4 (big_number 4 (drop 12 bytes))
 abbrev pub destination : List ℕ → Addr
 destination bytes = V4 (big_number 4 (drop 16 bytes))
 
--- where the packet ends: at its total length, or where that is 0 with the bytes, after 65,535 of them at the latest
+-- where the packet ends: at its total length, or where that is 0 with the bytes, after the greatest total length at the latest
 abbrev pub packet_len : List ℕ → ℕ
-packet_len bytes = if total_length bytes == 0 then min (length bytes) 65535 else total_length bytes
+packet_len bytes = if total_length bytes == 0 then min (length bytes) IP4_TOTAL_LENGTH_MAX else total_length bytes
 
 -- the length of the payload that the packet was sent with
 abbrev pub full_len : List ℕ → ℕ

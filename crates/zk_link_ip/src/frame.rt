@@ -3,12 +3,7 @@ ghost use Rattle.zk_base.specs.Slices.{BeginsAt};
 ghost use Rattle.zk_link_ip.specs.Frame.{content_of, content_place, ethernet_content, ip_part_of, is_tag, raw_content, type_at, type_place};
 
 use byteorder::{BigEndian, ByteOrder};
-
-// Link types, by the capture format's list: Ethernet, and IP with nothing before it.
-
-const ETHERNET: u16 = 1;
-
-const RAW: u16 = 101;
+use zk_base::{LINKTYPE_ETHERNET, LINKTYPE_RAW};
 
 // Types of contents and of tags, by the list of IEEE 802 numbers.
 
@@ -23,7 +18,7 @@ const SERVICE_TAG: u16 = 0x88a8;
 /// Where the type may stand: behind the two addresses, or behind one or two tags of four bytes.
 const TYPE_PLACES: [usize; 3] = [12, 16, 20];
 
-/// The bytes of a type.
+/// The length of a type.
 const TYPE_LEN: usize = 2;
 
 /// The type of what a frame holds (IEEE 802 numbers), and the content itself, a slice of the
@@ -31,7 +26,7 @@ const TYPE_LEN: usize = 2;
 /// first four bits say.
 ///
 /// `None` exactly where the frame ends before its type, a third tag follows, a raw frame is empty
-/// or has other first bits, or the link type is neither 1 (Ethernet) nor 101 (raw IP).
+/// or has other first bits, or the link type is neither `LINKTYPE_ETHERNET` nor `LINKTYPE_RAW`.
 pub fn content<'a>(link: u16, frame: &'a [u8]) -> Option<(u16, &'a [u8])>
     ensures exact { MatchOption result (content_of link frame.now ≡ None)
         (λ found. content_of link frame.now ≡ Some (found.0, found.1.now)) }
@@ -39,8 +34,8 @@ pub fn content<'a>(link: u16, frame: &'a [u8]) -> Option<(u16, &'a [u8])>
         (λ found. BeginsAt (content_place link frame.now) frame.entry found.1) }
 {
     match link {
-        ETHERNET => in_ethernet(frame),
-        RAW => in_raw(frame),
+        LINKTYPE_ETHERNET => ethernet_content(frame),
+        LINKTYPE_RAW => raw_content(frame),
         _ => None,
     }
 }
@@ -58,7 +53,8 @@ pub fn ip_part<'a>(link: u16, frame: &'a [u8]) -> Option<&'a [u8]>
     }
 }
 
-fn in_ethernet<'a>(frame: &'a [u8]) -> Option<(u16, &'a [u8])>
+/// What an Ethernet frame holds: the first type that is no tag's, and what stands behind it.
+fn ethernet_content<'a>(frame: &'a [u8]) -> Option<(u16, &'a [u8])>
     ensures exact { MatchOption result (ethernet_content frame.now ≡ None)
         (λ found. ethernet_content frame.now ≡ Some (found.0, found.1.now)) }
     ensures place { IfSome result
@@ -94,7 +90,8 @@ fn is_tag_type(ether_type: u16) -> bool
     ether_type == CUSTOMER_TAG || ether_type == SERVICE_TAG
 }
 
-fn in_raw<'a>(frame: &'a [u8]) -> Option<(u16, &'a [u8])>
+/// What a raw frame holds: itself, of the type that its first four bits say.
+fn raw_content<'a>(frame: &'a [u8]) -> Option<(u16, &'a [u8])>
     ensures exact { MatchOption result (raw_content frame.now ≡ None)
         (λ found. raw_content frame.now ≡ Some (found.0, found.1.now)) }
     ensures place { IfSome result (λ found. BeginsAt 0 frame.entry found.1) }

@@ -3,7 +3,7 @@ ghost use Rattle.zk_link_ip.specs.Ip4.{header_len, ihl, total_length};
 
 use byteorder::{BigEndian, ByteOrder};
 use thiserror::Error;
-use zk_base::{Addr, is_right, word_sum};
+use zk_base::{Addr, IP4_TOTAL_LENGTH_MAX, is_right, word_sum};
 
 /// Why bytes begin with no IPv4 packet: the first fault that holds, in this order.
 #[derive(Clone, Copy, Debug, PartialEq, Eq, Error)]
@@ -41,24 +41,23 @@ const SOURCE_ADDRESS: usize = 12;
 
 const DESTINATION_ADDRESS: usize = 16;
 
-/// The flag MF, and the bits of the offset, in the field that holds both.
+/// The flag MF in the field of flags and offset.
 const MORE_FRAGMENTS: u16 = 0x2000;
 
+/// The bits of the offset in that field.
 const FRAGMENT_OFFSET: u16 = 0x1fff;
 
-/// The bytes of a word, in which IHL counts.
-const WORD: usize = 4;
+/// The length of a word, in which IHL counts.
+const WORD_LEN: usize = 4;
 
-const LEAST_IHL: usize = 5;
+/// The IHL of a header without options.
+const IHL_MIN: usize = 5;
 
-/// The bytes of a header without options.
-const LEAST_HEADER: usize = 20;
-
-/// The greatest total length, in bytes.
-const GREATEST_PACKET: usize = 65_535;
+/// The length of a header without options.
+const HEADER_LEN_MIN: usize = WORD_LEN * IHL_MIN;
 
 /// An IPv4 packet at the front of bytes of a frame.
-#[derive(Debug, Drop)]
+#[derive(Clone, Copy, Debug)]
 pub struct Ip4<'a> {
     bytes: &'a [u8],
     ghost has_least_header: { 5 ≤ ihl bytes.now },
@@ -79,19 +78,17 @@ impl<'a> Ip4<'a> {
             (λ fault. ip4_of bytes.now check ≡ Err fault) }
         ensures whole { IfOk result (λ ip. packet ip ≡ bytes.entry) }
     {
-        if bytes.len() < LEAST_HEADER {
+        if bytes.len() < HEADER_LEN_MIN {
             return Err(IpFault::Short);
         }
-        let first = bytes[VERSION_AND_IHL];
-        if first >> 4 != 4 {
+        if bytes[VERSION_AND_IHL] >> 4 != 4 {
             return Err(IpFault::NotFour);
         }
-        let ihl = usize::from(first & 0x0f);
-        let header_len = WORD * ihl;
-        if ihl < LEAST_IHL || bytes.len() < header_len {
+        let header_len = header_len(bytes);
+        if header_len < HEADER_LEN_MIN || bytes.len() < header_len {
             return Err(IpFault::Ihl);
         }
-        let total_length = usize::from(BigEndian::read_u16(&bytes[TOTAL_LENGTH..]));
+        let total_length = total_length(bytes);
         if total_length != 0 && total_length < header_len {
             return Err(IpFault::Total);
         }
@@ -150,7 +147,7 @@ impl<'a> Ip4<'a> {
         ensures least { 20 ≤ result }
         ensures within { result ≤ length (packet self.now).now }
     {
-        WORD * usize::from(self.bytes[VERSION_AND_IHL] & 0x0f)
+        header_len(self.bytes)
     }
 
     /// The payload's length by the total length, in bytes. Where that is 0 the packet ends with
@@ -159,9 +156,9 @@ impl<'a> Ip4<'a> {
         ensures value { result ≡ full_len (packet self.now).now }
         ensures bound { result ≤ 65535 }
     {
-        let total_length = self.total_length();
+        let total_length = total_length(self.bytes);
         let packet_len = if total_length == 0 {
-            self.bytes.len().min(GREATEST_PACKET)
+            self.bytes.len().min(IP4_TOTAL_LENGTH_MAX)
         } else {
             total_length
         };
@@ -172,7 +169,7 @@ impl<'a> Ip4<'a> {
     pub fn was_cut(&self) -> bool
         ensures { result ≡ was_cut (packet self.now).now }
     {
-        self.bytes.len() < self.total_length()
+        self.bytes.len() < total_length(self.bytes)
     }
 
     /// What is there of the payload, a slice of the bytes that were read. What stands behind the
@@ -182,10 +179,15 @@ impl<'a> Ip4<'a> {
     /// borrowed past its end.
     ///
     /// ```text
-    /// fn payload_of_a_local_frame<'a>() -> Option<&'a [u8]> {
-    ///     let frame = [0u8; 60];
-    ///     let packet = Ip4::read(&frame, false).ok()?;
-    ///     Some(packet.payload())
+    /// pub fn payload_outlives_its_frame() -> usize {
+    ///     let mut kept: &[u8] = &[];
+    ///     {
+    ///         let frame = [0u8; 40];
+    ///         if let Ok(packet) = Ip4::read(&frame, false) {
+    ///             kept = packet.payload();
+    ///         }
+    ///     }
+    ///     kept.len()
     /// }
     /// ```
     pub fn payload(&self) -> &'a [u8]
@@ -199,16 +201,26 @@ impl<'a> Ip4<'a> {
         &behind[..self.full_len().min(behind.len())]
     }
 
-    fn total_length(&self) -> usize
-        ensures value { result ≡ total_length (packet self.now).now }
-        ensures bound { result ≤ 65535 }
-    {
-        usize::from(BigEndian::read_u16(&self.bytes[TOTAL_LENGTH..]))
-    }
-
     fn flags_and_offset(&self) -> u16
         ensures { result ≡ flags_and_offset (packet self.now).now }
     {
         BigEndian::read_u16(&self.bytes[FLAGS_AND_FRAGMENT_OFFSET..])
     }
+}
+
+/// The length of the header at the front, in bytes.
+fn header_len(bytes: &[u8]) -> usize
+    requires { HEADER_LEN_MIN ≤ length bytes.now }
+    ensures { result ≡ header_len bytes.now }
+{
+    WORD_LEN * usize::from(bytes[VERSION_AND_IHL] & 0x0f)
+}
+
+/// The total length that the header at the front says, in bytes.
+fn total_length(bytes: &[u8]) -> usize
+    requires { HEADER_LEN_MIN ≤ length bytes.now }
+    ensures value { result ≡ total_length bytes.now }
+    ensures bound { result ≤ 65535 }
+{
+    usize::from(BigEndian::read_u16(&bytes[TOTAL_LENGTH..]))
 }

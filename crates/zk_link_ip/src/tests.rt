@@ -1,5 +1,5 @@
 use super::*;
-use zk_base::Addr;
+use zk_base::{Addr, LINKTYPE_ETHERNET, LINKTYPE_RAW};
 
 /// A frame of the capture examples/web.pcap with what tshark prints of its IPv4 header.
 #[derive(Clone, Copy)]
@@ -68,20 +68,20 @@ fn headers_of_a_capture_read_as_tshark_prints_them(rt: HostRuntime) {
             full_len: 40 - 20,
         },
     ];
-    for want in &printed {
-        let part = ip_part(1, want.frame);
-        assert!(rt; part == Some(&want.frame[14..]));
+    for (n, want) in printed.iter().enumerate() {
+        let part = ip_part(LINKTYPE_ETHERNET, want.frame);
+        assert_eq!(rt; part, Some(&want.frame[14..]), "in row {n}");
         let packet = Ip4::read(&want.frame[14..], true).expect(&rt, "the checksums are right");
-        assert_eq!(rt; packet.src(), want.src);
-        assert_eq!(rt; packet.dst(), want.dst);
-        assert_eq!(rt; packet.protocol(), want.protocol);
-        assert_eq!(rt; packet.identification(), want.identification);
-        assert!(rt; !packet.more());
-        assert_eq!(rt; packet.offset(), 0);
-        assert_eq!(rt; packet.header_len(), 20);
-        assert_eq!(rt; packet.full_len(), want.full_len);
-        assert!(rt; !packet.was_cut());
-        assert!(rt; packet.payload() == &want.frame[34..]);
+        assert_eq!(rt; packet.src(), want.src, "in row {n}");
+        assert_eq!(rt; packet.dst(), want.dst, "in row {n}");
+        assert_eq!(rt; packet.protocol(), want.protocol, "in row {n}");
+        assert_eq!(rt; packet.identification(), want.identification, "in row {n}");
+        assert!(rt; !packet.more(), "in row {n}");
+        assert_eq!(rt; packet.offset(), 0, "in row {n}");
+        assert_eq!(rt; packet.header_len(), 20, "in row {n}");
+        assert_eq!(rt; packet.full_len(), want.full_len, "in row {n}");
+        assert!(rt; !packet.was_cut(), "in row {n}");
+        assert_eq!(rt; packet.payload(), &want.frame[34..], "in row {n}");
     }
 }
 
@@ -131,11 +131,11 @@ fn the_first_fault_is_the_one_that_is_named(rt: HostRuntime) {
         (header(0x46, 0x13, 0x62), true, Some(IpFault::Ihl)),
         (header(0x45, 0x13, 0x62), true, Some(IpFault::Total)),
     ];
-    for (bytes, check, want) in &rows {
-        assert!(rt; Ip4::read(bytes, *check).err() == *want);
+    for (n, (bytes, check, want)) in rows.iter().enumerate() {
+        assert_eq!(rt; Ip4::read(bytes, *check).err(), *want, "in row {n}");
     }
     let bytes = header(0x65, 0x13, 0x62);
-    assert!(rt; Ip4::read(&bytes[..19], true).err() == Some(IpFault::Short));
+    assert_eq!(rt; Ip4::read(&bytes[..19], true).err(), Some(IpFault::Short));
 }
 
 /// A fragment with MF at place 1480, a header of six words, two bytes of payload and one of
@@ -153,18 +153,18 @@ fn a_payload_begins_behind_the_options_and_ends_before_the_padding(rt: HostRunti
     assert_eq!(rt; packet.identification(), 12345);
     assert_eq!(rt; packet.header_len(), 24);
     assert_eq!(rt; packet.full_len(), 2);
-    assert!(rt; packet.payload() == b"ab".as_slice());
+    assert_eq!(rt; packet.payload(), b"ab".as_slice());
 }
 
 /// The payload of a raw frame: it outlives the packet that it was taken from.
 fn payload_of<'a>(frame: &'a [u8]) -> Option<&'a [u8]> {
-    let packet = Ip4::read(ip_part(101, frame)?, false).ok()?;
+    let packet = Ip4::read(ip_part(LINKTYPE_RAW, frame)?, false).ok()?;
     Some(packet.payload())
 }
 
 #[test]
 fn a_payload_outlives_its_packet(rt: HostRuntime) {
-    assert!(rt; payload_of(&FRAGMENT) == Some(&FRAGMENT[24..26]));
+    assert_eq!(rt; payload_of(&FRAGMENT), Some(&FRAGMENT[24..26]));
 }
 
 #[test]
@@ -176,20 +176,24 @@ fn content_stands_behind_at_most_two_tags(rt: HostRuntime) {
         b"\0\0\0\0\0\x02\0\0\0\0\0\x01\x81\0\0\x07\x81\0\0\x09\x81\0\0\x05\x08\0x".as_slice();
     let raw = b"\x60x".as_slice();
     let rows = [
-        (1, untagged, Some((0x0806, &untagged[14..]))),
-        (1, &untagged[..14], Some((0x0806, b"".as_slice()))),
-        (1, &untagged[..13], None),
-        (1, one_tag, Some((0x0800, &one_tag[18..]))),
-        (1, &one_tag[..17], None),
-        (1, two_tags, Some((0x86dd, &two_tags[22..]))),
-        (1, three_tags, None),
-        (101, raw, Some((0x86dd, raw))),
-        (101, one_tag, None),
-        (101, b"".as_slice(), None),
+        (LINKTYPE_ETHERNET, untagged, Some((0x0806, &untagged[14..]))),
+        (
+            LINKTYPE_ETHERNET,
+            &untagged[..14],
+            Some((0x0806, b"".as_slice())),
+        ),
+        (LINKTYPE_ETHERNET, &untagged[..13], None),
+        (LINKTYPE_ETHERNET, one_tag, Some((0x0800, &one_tag[18..]))),
+        (LINKTYPE_ETHERNET, &one_tag[..17], None),
+        (LINKTYPE_ETHERNET, two_tags, Some((0x86dd, &two_tags[22..]))),
+        (LINKTYPE_ETHERNET, three_tags, None),
+        (LINKTYPE_RAW, raw, Some((0x86dd, raw))),
+        (LINKTYPE_RAW, one_tag, None),
+        (LINKTYPE_RAW, b"".as_slice(), None),
         (113, untagged, None),
     ];
-    for (link, frame, want) in &rows {
-        assert!(rt; content(*link, frame) == *want);
+    for (n, (link, frame, want)) in rows.iter().enumerate() {
+        assert_eq!(rt; content(*link, frame), *want, "in row {n}");
     }
-    assert!(rt; ip_part(1, untagged) == None);
+    assert_eq!(rt; ip_part(LINKTYPE_ETHERNET, untagged), None);
 }

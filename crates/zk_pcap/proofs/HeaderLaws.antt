@@ -2,22 +2,18 @@
 use Rattle.std.proofs.Common.{◌≡◌, ℕ, ◌<◌, Bool, true, false, cond, not, nat_lt, ◌==◌, ◌⊎◌, List, length, drop, slice_index, Option, Some, None, Result, Ok, Err, IfOk, refl, sym, inl, inr, ap, subst, ◌∙◌, arith}
 use Rattle.std.proofs.lemmas.Bool.{and_parts, or_cases, not-false, eqb-true, ne_eqb, ltb-false, le-ltb, cond-false}
 use Rattle.byteorder.specs.Endian.{big_number, little_number}
+use Rattle.zk_base.specs.declared.network.TheConstants.{LINKTYPE_ETHERNET, LINKTYPE_RAW}
 use Rattle.zk_pcap.specs.declared.headers.Header.{Header}
 use Rattle.zk_pcap.specs.declared.headers.Form.{Form}
 use Rattle.zk_pcap.specs.declared.faults.CaptureFault.{CaptureFault}
 use Rattle.zk_pcap.specs.declared.faults.CaptureFault.TheVariants.{Short, Version, Link}
-use Rattle.zk_pcap.specs.Header.{number_of, form_by, form_of, is_version_2_4, link_of, is_link, header_by, header_after, header_of, HasHeader}
+use Rattle.zk_pcap.specs.Header.{number_of, nano_of, form_after, form_by, form_of, is_version_2_4, link_of, is_link, header_by, header_after, header_of, HasHeader}
 
 -- behind a test that refuses, what is read has not met it
 guard_ok : (refuses : Bool) (fault : CaptureFault) (rest : Result Header CaptureFault) (header : Header)
     → cond refuses (Err fault) rest ≡ Ok header → (refuses ≡ false) × (rest ≡ Ok header)
 guard_ok true fault rest header e = cc
 guard_ok false fault rest header e = (refl, e)
-
-some_ok : (chosen : Bool) (a : Form) (rest : Option Form) (form : Form) → cond chosen (Some a) rest ≡ Some form
-    → ((chosen ≡ true) × (a ≡ form)) ⊎ (rest ≡ Some form)
-some_ok true a rest form e = inl (refl, cc)
-some_ok false a rest form e = inr e
 
 -- the number that names a form
 abbrev magic_of : Bool → ℕ
@@ -27,26 +23,29 @@ magic_at : (big nano : Bool) (bytes : List ℕ) → cond big (big_number 4 bytes
 magic_at true nano bytes e = e
 magic_at false nano bytes e = e
 
+-- a magic number is the number that names its fractions
+nano_of-magic : (magic : ℕ) (nano : Bool) → nano_of magic ≡ Some nano → magic ≡ magic_of nano
+nano_of-magic magic nano e = by_cases (magic == magic_of false) (magic == magic_of true) refl refl e
+  where
+    by_cases : (micro nanos : Bool) → (magic == magic_of false) ≡ micro → (magic == magic_of true) ≡ nanos
+        → cond micro (Some false) (cond nanos (Some true) None) ≡ Some nano → magic ≡ magic_of nano
+    by_cases true nanos is_micro is_nanos e = subst (λ n. magic ≡ magic_of n) (let same : false ≡ nano = cc in same) (eqb-true magic (magic_of false) is_micro)
+    by_cases false true is_micro is_nanos e = subst (λ n. magic ≡ magic_of n) (let same : true ≡ nano = cc in same) (eqb-true magic (magic_of true) is_nanos)
+    by_cases false false is_micro is_nanos e = cc
+
 -- the number of a form that was read stands in its order
 form_by-magic : (little big : ℕ) (form : Form) → form_by little big ≡ Some form → cond form.big big little ≡ magic_of form.nano
-form_by-magic little big form e =
-    let Magic : Form → Type 0 = λ f. cond f.big big little ≡ magic_of f.nano in
-    let fourth : Option Form = cond (big == 0xa1b23c4d) (Some (record { big = true; nano = true })) None in
-    let third : Option Form = cond (big == 0xa1b2c3d4) (Some (record { big = true; nano = false })) fourth in
-    let second : Option Form = cond (little == 0xa1b23c4d) (Some (record { big = false; nano = true })) third in
-    elim (some_ok (little == 0xa1b2c3d4) (record { big = false; nano = false }) second form e) as (λ _. Magic form) [
-      | inl one ↦ subst Magic one.1 (eqb-true little 0xa1b2c3d4 one.0)
-      | inr e2 ↦ elim (some_ok (little == 0xa1b23c4d) (record { big = false; nano = true }) third form e2) as (λ _. Magic form) [
-        | inl one ↦ subst Magic one.1 (eqb-true little 0xa1b23c4d one.0)
-        | inr e3 ↦ elim (some_ok (big == 0xa1b2c3d4) (record { big = true; nano = false }) fourth form e3) as (λ _. Magic form) [
-          | inl one ↦ subst Magic one.1 (eqb-true big 0xa1b2c3d4 one.0)
-          | inr e4 ↦ elim (some_ok (big == 0xa1b23c4d) (record { big = true; nano = true }) None form e4) as (λ _. Magic form) [
-            | inl one ↦ subst Magic one.1 (eqb-true big 0xa1b23c4d one.0)
-            | inr none ↦ cc
-          ]
-        ]
-      ]
-    ]
+form_by-magic little big form e = by_cases (nano_of little) (nano_of big) refl refl e
+  where
+    by_cases : (in_little in_big : Option Bool) → nano_of little ≡ in_little → nano_of big ≡ in_big
+        → form_after in_little in_big ≡ Some form → cond form.big big little ≡ magic_of form.nano
+    by_cases (Some nano) in_big is_little is_big e =
+        let made : Form = record { big = false; nano = nano } in
+        subst (λ (f : Form). cond f.big big little ≡ magic_of f.nano) (let same : made ≡ form = cc in same) (nano_of-magic little nano is_little)
+    by_cases None (Some nano) is_little is_big e =
+        let made : Form = record { big = true; nano = nano } in
+        subst (λ (f : Form). cond f.big big little ≡ magic_of f.nano) (let same : made ≡ form = cc in same) (nano_of-magic big nano is_big)
+    by_cases None None is_little is_big e = cc
 
 -- the rest of a header that was read, behind its magic number
 header_by-found : (form : Form) (bytes : List ℕ) (header : Header) → cond form.big (big_number 4 bytes) (little_number 4 bytes) ≡ magic_of form.nano
@@ -63,7 +62,7 @@ header_by-found form bytes header magic e =
     let link = guard_ok (not (is_link (link_of number bytes))) Link (Ok made) header whole.1 in
     let same : made ≡ header = cc in
     let versions = and_parts (number 2 (drop 4 bytes) == 2) (number 2 (drop 6 bytes) == 4) (not-false (is_version_2_4 number bytes) version.0) in
-    let known = or_cases (link_of number bytes == 1) (link_of number bytes == 101) (not-false (is_link (link_of number bytes)) link.0) in
+    let known = or_cases (link_of number bytes == LINKTYPE_ETHERNET) (link_of number bytes == LINKTYPE_RAW) (not-false (is_link (link_of number bytes)) link.0) in
     subst (HasHeader bytes) same (record {
       whole = ltb-false (length bytes) 24 whole.0;
       magic = magic_at form.big form.nano bytes magic;
@@ -71,9 +70,9 @@ header_by-found form bytes header magic e =
       minor = eqb-true (number 2 (drop 6 bytes)) 4 versions.1;
       snaplen = refl;
       link = refl;
-      known = elim known as (λ _. (link_of number bytes ≡ 1) ⊎ (link_of number bytes ≡ 101)) [
-        | inl ethernet ↦ inl (eqb-true (link_of number bytes) 1 ethernet)
-        | inr raw_ip ↦ inr (eqb-true (link_of number bytes) 101 raw_ip)
+      known = elim known as (λ _. (link_of number bytes ≡ LINKTYPE_ETHERNET) ⊎ (link_of number bytes ≡ LINKTYPE_RAW)) [
+        | inl ethernet ↦ inl (eqb-true (link_of number bytes) LINKTYPE_ETHERNET ethernet)
+        | inr raw_ip ↦ inr (eqb-true (link_of number bytes) LINKTYPE_RAW raw_ip)
       ];
     })
 
@@ -113,7 +112,7 @@ form_of-has true nano bytes small e =
     form_by-big nano (little_number 4 bytes) (big_number 4 bytes) (magic_once nano false bytes small e) (magic_once nano true bytes small e) e
 form_of-has false nano bytes small e = form_by-little nano (little_number 4 bytes) (big_number 4 bytes) e
 
-is_link-known : (link : ℕ) → (link ≡ 1) ⊎ (link ≡ 101) → is_link link ≡ true
+is_link-known : (link : ℕ) → (link ≡ LINKTYPE_ETHERNET) ⊎ (link ≡ LINKTYPE_RAW) → is_link link ≡ true
 is_link-known link (inl e) = rw e refl
 is_link-known link (inr e) = rw e refl
 

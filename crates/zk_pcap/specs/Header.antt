@@ -2,6 +2,7 @@
 -- the two numbers of the version, the zone, the accuracy, the snaplen and the link type.
 use Rattle.std.specs.Prelude.{◌≡◌, ◌≤◌, ◌⊎◌, ℕ, ◌%◌, ◌^◌, Bool, true, false, not, ◌&&◌, ◌||◌, ◌==◌, nat_lt, if◌then◌else◌, List, length, take, drop, Option, Some, None, Result, Ok, Err}
 use Rattle.byteorder.specs.Endian.{big_number, little_number}
+use Rattle.zk_base.specs.declared.network.TheConstants.{LINKTYPE_ETHERNET, LINKTYPE_RAW}
 use Rattle.zk_pcap.specs.declared.headers.Header.{Header}
 use Rattle.zk_pcap.specs.declared.headers.Form.{Form}
 use Rattle.zk_pcap.specs.declared.faults.CaptureFault.{CaptureFault}
@@ -16,15 +17,20 @@ abbrev pub number_of : Bool → ℕ → List ℕ → ℕ
 number_of true = big_number
 number_of false = little_number
 
+-- whether a magic number names nanoseconds; else it names microseconds
+abbrev pub nano_of : ℕ → Option Bool
+nano_of magic =
+    if magic == 0xa1b2c3d4 then Some false else (if magic == 0xa1b23c4d then Some true else None)
+
 -- The magic number, as it reads in either order, names the fractions. In which order it reads as one,
 -- the numbers of the file stand.
+abbrev pub form_after : Option Bool → Option Bool → Option Form
+form_after (Some nano) big = Some (record { big = false; nano = nano })
+form_after None (Some nano) = Some (record { big = true; nano = nano })
+form_after None None = None
+
 abbrev pub form_by : ℕ → ℕ → Option Form
-form_by little big =
-    if little == 0xa1b2c3d4 then Some (record { big = false; nano = false })
-    else (if little == 0xa1b23c4d then Some (record { big = false; nano = true })
-    else (if big == 0xa1b2c3d4 then Some (record { big = true; nano = false })
-    else (if big == 0xa1b23c4d then Some (record { big = true; nano = true })
-    else None)))
+form_by little big = form_after (nano_of little) (nano_of big)
 
 abbrev pub form_of : List ℕ → Option Form
 form_of bytes = form_by (little_number 4 bytes) (big_number 4 bytes)
@@ -38,7 +44,7 @@ link_of number bytes = number 4 (drop 20 bytes) % 2 ^ 16
 
 -- Ethernet and raw IP
 abbrev pub is_link : ℕ → Bool
-is_link link = (link == 1) || (link == 101)
+is_link link = (link == LINKTYPE_ETHERNET) || (link == LINKTYPE_RAW)
 
 -- what stands behind the magic number
 abbrev pub header_by : (ℕ → List ℕ → ℕ) → Form → List ℕ → Result Header CaptureFault
@@ -71,4 +77,4 @@ pub record HasHeader (bytes : List ℕ) (header : Header) : Type 0 where
   pub minor : number_of header.big 2 (drop 6 bytes) ≡ 4
   pub snaplen : number_of header.big 4 (drop 16 bytes) ≡ header.snaplen
   pub link : number_of header.big 4 (drop 20 bytes) % 2 ^ 16 ≡ header.link
-  pub known : (header.link ≡ 1) ⊎ (header.link ≡ 101)
+  pub known : (header.link ≡ LINKTYPE_ETHERNET) ⊎ (header.link ≡ LINKTYPE_RAW)

@@ -1,16 +1,15 @@
-ghost use Rattle.std.specs.Prelude.{◌≡◌, ◌≤◌, length, IfOk, IfErr, All};
+ghost use Rattle.std.specs.Prelude.{◌≡◌, ◌≤◌, length, IfOk, All};
 ghost use Rattle.zk_pcap.specs.Header.{counted};
 ghost use Rattle.zk_pcap.specs.Record.{IsWithinLimits, record_at, record_by};
 ghost use Rattle.zk_pcap.specs.Capture.{capture_of, UnlessNoMemory, StandBetween, IsRead, IsAlone, ending_at};
 ghost use Rattle.zk_pcap.specs.NetworkTime.{HasNetworkTime};
-ghost use Rattle.zk_pcap.specs.declared.faults.CaptureFault.TheVariants.{NoMemory};
 
 use crate::headers::HEADER_LEN;
 use crate::records::RecordView;
 use crate::{CaptureFault, Header, Packet};
 use byteorder::{BigEndian, ByteOrder, LittleEndian};
 use std::alloc::Global;
-use zk_base::Sequence;
+use zk_base::{Mem, Sequence};
 
 /// The packets of a capture, and how it ends.
 #[derive(Debug, Drop)]
@@ -63,16 +62,11 @@ fn first_bytes(bytes: &[u8]) -> &[u8]
 
 /// The packets whose records stand one behind another in a file with this header, and the place
 /// behind the last.
-fn records_of(
-    alloc: Global,
-    file: &[u8],
-    header: Header,
-) -> Result<(Vec<Packet>, usize), CaptureFault>
+fn records_of(alloc: Global, file: &[u8], header: Header) -> Result<(Vec<Packet>, usize), Mem>
     requires { HEADER_LEN ≤ length file.now }
     ensures stand { IfOk result (λ found. StandBetween (record_at header file.now) HEADER_LEN found.0.items found.1) }
     ensures no_more { IfOk result (λ found. record_at header file.now found.1 ≡ None) }
     ensures within { IfOk result (λ found. found.1 ≤ length file.now) }
-    ensures err { IfErr result (λ fault. fault ≡ NoMemory) }
 {
     if header.big {
         records::<BigEndian>(alloc, file, header.nano)
@@ -88,12 +82,11 @@ fn records<T: ByteOrder>(
     alloc: Global,
     file: &[u8],
     nano: bool,
-) -> Result<(Vec<Packet>, usize), CaptureFault>
+) -> Result<(Vec<Packet>, usize), Mem>
     requires { HEADER_LEN ≤ length file.now }
     ensures stand { IfOk result (λ found. StandBetween (record_by T.number_of nano file.now) HEADER_LEN found.0.items found.1) }
     ensures no_more { IfOk result (λ found. record_by T.number_of nano file.now found.1 ≡ None) }
     ensures within { IfOk result (λ found. found.1 ≤ length file.now) }
-    ensures err { IfErr result (λ fault. fault ≡ NoMemory) }
 {
     let mut packets = Vec::new(alloc);
     let mut place = HEADER_LEN;

@@ -2,7 +2,7 @@ ghost use Rattle.std.specs.Prelude.{◌≡◌, ◌≢◌};
 ghost use Rattle.zk_pcap.specs.CaptureFault.{place_of};
 ghost use Rattle.zk_pcap.specs.declared.faults.CaptureFault.TheVariants.{NoMemory};
 
-use std::alloc::AllocFailed;
+use crate::headers::{LINK, MAGIC, MAJOR};
 use thiserror::Error;
 use zk_base::Mem;
 
@@ -27,16 +27,16 @@ pub enum CaptureFault {
 }
 
 impl CaptureFault {
-    /// The place in the file that was refused.
+    /// The place in the file that was refused. Not to be asked of `NoMemory`, which refuses none.
     pub fn place(&self) -> u64
         requires { self.now ≢ NoMemory }
         ensures { result ≡ place_of self.now }
     {
         match self {
             CaptureFault::Short { place } => *place,
-            CaptureFault::Magic => 0,
-            CaptureFault::Version => 4,
-            CaptureFault::Link => 20,
+            CaptureFault::Magic => MAGIC as u64,
+            CaptureFault::Version => MAJOR as u64,
+            CaptureFault::Link => LINK as u64,
             CaptureFault::NoMemory => unreachable!(),
         }
     }
@@ -46,14 +46,6 @@ impl From<Mem> for CaptureFault {
     ghost from_gives = { λ _ fault. fault ≡ NoMemory };
 
     fn from(_: Mem) -> CaptureFault {
-        CaptureFault::NoMemory
-    }
-}
-
-impl<T: Drop> From<AllocFailed<T>> for CaptureFault {
-    ghost from_gives = { λ _ fault. fault ≡ NoMemory };
-
-    fn from(_: AllocFailed<T>) -> CaptureFault {
         CaptureFault::NoMemory
     }
 }

@@ -1,9 +1,10 @@
 ghost use Rattle.std.specs.Prelude.{◌≡◌, ◌≤◌, length, IfOk};
-ghost use Rattle.zk_pcap.specs.Header.{counted, form_of, header_by, header_of, is_link, HasHeader};
+ghost use Rattle.zk_pcap.specs.Header.{counted, form_of, header_by, header_of, is_link, nano_of, HasHeader};
 ghost use Rattle.zk_pcap.specs.declared.faults.CaptureFault.TheVariants.{Short};
 
 use crate::CaptureFault;
 use byteorder::{BigEndian, ByteOrder, LittleEndian};
+use zk_base::{LINKTYPE_ETHERNET, LINKTYPE_RAW};
 
 /// What the header of a capture says.
 #[derive(Clone, Copy, Debug, PartialEq, Eq)]
@@ -14,7 +15,7 @@ pub struct Header {
     pub nano: bool,
     /// The most bytes that were to be captured of a packet.
     pub snaplen: u32,
-    /// The link type of the frames: 1 is Ethernet, 101 raw IP.
+    /// The link type of the frames: `LINKTYPE_ETHERNET` or `LINKTYPE_RAW`.
     pub link: u16,
 }
 
@@ -25,29 +26,34 @@ struct Form {
     nano: bool,
 }
 
-/// How many bytes a header has.
-pub(crate) const HEADER_LEN: usize = 24;
+/// The length of a header.
+pub const HEADER_LEN: usize = 24;
 
-// Where the fields stand in a header.
-const MAJOR: usize = 4;
+// Places of a header's fields.
+pub const MAGIC: usize = 0;
+
+pub const MAJOR: usize = 4;
 
 const MINOR: usize = 6;
 
-const ZONE: usize = 8;
-
 const SNAPLEN: usize = 16;
 
-const LINK: usize = 20;
+pub const LINK: usize = 20;
+
+// The lengths of the magic number and of the version.
+const MAGIC_LEN: usize = 4;
+
+const VERSION_LEN: usize = 4;
 
 // The magic numbers, by the fractions of a second.
 const MICROSECONDS: u32 = 0xa1b2_c3d4;
 
 const NANOSECONDS: u32 = 0xa1b2_3c4d;
 
-// The link types that are read.
-const ETHERNET: u16 = 1;
+// The version that is read.
+const MAJOR_VERSION: u16 = 2;
 
-const RAW_IP: u16 = 101;
+const MINOR_VERSION: u16 = 4;
 
 impl Header {
     /// Reads the header at the front of a capture, 24 bytes. A fault is the first that holds of:
@@ -70,7 +76,7 @@ impl Header {
 fn judged(bytes: &[u8]) -> Result<Header, CaptureFault>
     ensures { result ≡ header_of bytes.now }
 {
-    if bytes.len() < MAJOR {
+    if bytes.len() < MAGIC_LEN {
         return Err(short(bytes));
     }
     match Form::read(bytes) {
@@ -83,44 +89,26 @@ fn judged(bytes: &[u8]) -> Result<Header, CaptureFault>
 impl Form {
     /// The form that the magic number at the front tells, if it is one.
     fn read(bytes: &[u8]) -> Option<Form>
-        requires { 4 ≤ length bytes.now }
+        requires { MAGIC_LEN ≤ length bytes.now }
         ensures { result ≡ form_of bytes.now }
     {
-        let little = LittleEndian::read_u32(bytes);
-        let big = BigEndian::read_u32(bytes);
-        if little == MICROSECONDS {
-            Some(Form {
-                big: false,
-                nano: false,
-            })
-        } else if little == NANOSECONDS {
-            Some(Form {
-                big: false,
-                nano: true,
-            })
-        } else if big == MICROSECONDS {
-            Some(Form {
-                big: true,
-                nano: false,
-            })
-        } else if big == NANOSECONDS {
-            Some(Form {
-                big: true,
-                nano: true,
-            })
-        } else {
-            None
+        if let Some(nano) = nano_of(LittleEndian::read_u32(bytes)) {
+            return Some(Form { big: false, nano });
         }
+        let nano = nano_of(BigEndian::read_u32(bytes))?;
+        Some(Form { big: true, nano })
     }
 
     /// Reads the header of a file of this form, whose numbers stand in the order `T`.
     fn header<T: ByteOrder>(self, bytes: &[u8]) -> Result<Header, CaptureFault>
         ensures { result ≡ header_by T.number_of self bytes.now }
     {
-        if bytes.len() < ZONE {
+        if bytes.len() < MAGIC_LEN + VERSION_LEN {
             return Err(short(bytes));
         }
-        if T::read_u16(&bytes[MAJOR..]) != 2 || T::read_u16(&bytes[MINOR..]) != 4 {
+        if T::read_u16(&bytes[MAJOR..]) != MAJOR_VERSION
+            || T::read_u16(&bytes[MINOR..]) != MINOR_VERSION
+        {
             return Err(CaptureFault::Version);
         }
         if bytes.len() < HEADER_LEN {
@@ -139,6 +127,17 @@ impl Form {
     }
 }
 
+/// Whether a magic number stands for nanoseconds, `None` where the number is none.
+fn nano_of(magic: u32) -> Option<bool>
+    ensures { result ≡ nano_of magic }
+{
+    match magic {
+        MICROSECONDS => Some(false),
+        NANOSECONDS => Some(true),
+        _ => None,
+    }
+}
+
 fn short(bytes: &[u8]) -> CaptureFault
     ensures { result ≡ Short (length bytes.now) }
 {
@@ -150,5 +149,5 @@ fn short(bytes: &[u8]) -> CaptureFault
 fn is_link(link: u16) -> bool
     ensures { result ≡ is_link link }
 {
-    matches!(link, ETHERNET | RAW_IP)
+    matches!(link, LINKTYPE_ETHERNET | LINKTYPE_RAW)
 }

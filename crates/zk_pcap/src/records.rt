@@ -1,13 +1,11 @@
-ghost use Rattle.std.specs.Prelude.{◌≡◌, ◌+◌, ◌<◌, ◌≤◌, ◌^◌, length, drop, IfOk, IfErr, IfSome};
+ghost use Rattle.std.specs.Prelude.{◌≡◌, ◌+◌, ◌<◌, ◌≤◌, ◌^◌, length, drop, IfOk, IfSome};
 ghost use Rattle.std.specs.Option.{option_map};
 ghost use Rattle.zk_pcap.specs.Record.{end_of, moment_of, record_by};
 ghost use Rattle.zk_pcap.specs.View.{packet_of};
-ghost use Rattle.zk_pcap.specs.declared.faults.CaptureFault.TheVariants.{NoMemory};
 
-use crate::CaptureFault;
 use byteorder::ByteOrder;
 use std::alloc::Global;
-use zk_base::{Bytes, Moment};
+use zk_base::{Bytes, Mem, Moment};
 
 /// A packet of a capture.
 #[derive(Debug, Drop)]
@@ -31,10 +29,10 @@ pub struct RecordView<'a> {
     place: u64,
 }
 
-/// How many bytes a record has before those that were captured.
+/// The length of a record's header.
 const RECORD_HEADER_LEN: usize = 16;
 
-// Where the fields stand in them, behind the seconds.
+// Places of its fields, behind the seconds.
 const FRACTION: usize = 4;
 
 const CAPTURED: usize = 8;
@@ -42,7 +40,7 @@ const CAPTURED: usize = 8;
 const ORIGINAL: usize = 12;
 
 /// The most bytes that a record may say were captured.
-const MOST_CAPTURED: usize = 262_144;
+const CAPTURED_MAX: usize = 262_144;
 
 impl<'a> RecordView<'a> {
     /// The record that begins at a place of a file, if it is whole.
@@ -60,7 +58,7 @@ impl<'a> RecordView<'a> {
         if file.len() - data < captured {
             return None;
         }
-        if captured > MOST_CAPTURED {
+        if captured > CAPTURED_MAX {
             return None;
         }
         let seconds = number_at::<T>(file, place);
@@ -82,9 +80,8 @@ impl<'a> RecordView<'a> {
     }
 
     /// The packet with a copy of the bytes.
-    pub fn to_packet(&self, alloc: Global) -> Result<Packet, CaptureFault>
-        ensures ok { IfOk result (λ packet. packet ≡ packet_of self.now) }
-        ensures err { IfErr result (λ fault. fault ≡ NoMemory) }
+    pub fn to_packet(&self, alloc: Global) -> Result<Packet, Mem>
+        ensures { IfOk result (λ packet. packet ≡ packet_of self.now) }
     {
         Ok(Packet {
             moment: self.moment,

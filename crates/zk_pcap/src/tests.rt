@@ -147,9 +147,10 @@ fn each_form_of_file_is_read(rt: HostRuntime) -> Result<(), Fail> {
         assert_eq!(rt; packet.moment.0, moment);
         assert_eq!(rt;
             (packet.orig_len, packet.bytes.len(), packet.place),
-            (60, 0, 24)
+            (60, 0, 24),
+            "at {moment}"
         );
-        assert_eq!(rt; capture.ending, CaptureEnding::Whole);
+        assert_eq!(rt; capture.ending, CaptureEnding::Whole, "at {moment}");
     }
     Ok(())
 }

@@ -1,6 +1,6 @@
 use Rattle.std.proofs.Common.{◌≡◌, ◌<◌, true}
 use Rattle.zk_link_ip.specs.Frame.{is_tag, type_at}
-use Rattle.zk_link_ip.proofs.frame.in_ethernet.Given as goal
+use Rattle.zk_link_ip.proofs.frame.ethernet_content.Given as goal
 
 -- the places passed hold tags
 abbrev pub invariant-loop-place : goal.invariant-loop-place

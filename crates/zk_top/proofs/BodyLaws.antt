@@ -49,12 +49,14 @@ expr_units (expr.False place) = 0
 expr_units (expr.Name place name) = 0
 expr_units (expr.Call place name) = 1
 
+-- a statement takes one itself
 abbrev stmt_units : Stmt → ℕ
 stmt_units (stmt.Print place values) = 1 + sum_by expr_units values
 
 abbrev body_units : Decl → ℕ
 body_units (decl.Event place name params body) = sum_by stmt_units body.stmts
 
+-- each unit of an expression is spelled by two tokens beside its first
 expr_tokens : (e : Expr) → 2 * expr_units e + 1 ≡ length (spelled_expr e)
 expr_tokens (expr.Number place number) = refl
 expr_tokens (expr.String place bytes) = refl
@@ -70,6 +72,7 @@ values_tokens (e ∷ second ∷ others) =
     let behind = follows (token.Sign sign.Comma) ∷ with_commas (map spelled_expr (second ∷ others)) in
     omega (arith, expr_tokens e, length-append (spelled_expr e) behind, values_tokens (second ∷ others), sum_by-cons expr_units e (second ∷ others))
 
+-- and that of a statement by its `print` and its semicolon
 stmt_tokens : (s : Stmt) → 2 * stmt_units s ≤ length (spelled_stmt s)
 stmt_tokens (stmt.Print place values) =
     omega (arith, values_tokens values, length-append (with_commas (map spelled_expr values)) (follows (token.Sign sign.Semicolon) ∷ []))
@@ -161,6 +164,7 @@ runs_printed : (place : Place) (world : World) (left units : ℕ) (result : Resu
 runs_printed place world left units result gives =
     subst (λ (r : Result (List Value × ℕ) Stop). Runs left units (printed place world r)) (sym gives.is) (record { normal = refl; taken = gives.taken })
 
+-- a statement of a handler whose parameters have these names
 runs : (file : ℕ) (names : List (List ℕ)) (args : List Value) (s : Stmt) (world : World) (left : ℕ) → length args ≡ length names → is_stmt names s ≡ true
     → stmt_units s ≤ left → Runs left (stmt_units s) (exec args (statement_of file names s) world left)
 runs file names args (stmt.Print place values) world zero same is enough = absurd (omega arith)
@@ -213,12 +217,14 @@ head_count (event ∷ others) name params are is = elim (one_of (bytes_eq name e
   | inr behind ↦ head_count others name params are.1 behind
 ]
 
+-- with a budget for all of its units
 ends : (file : ℕ) (d : Decl) → is_decl d ≡ true → body_units d ≤ budget → EndsNormally (handler_of file d)
 ends file (decl.Event place name params body) is enough = λ args world same.
     let parts = and_parts (is_head name params) (list_all (is_stmt (names_of params)) body.stmts) is in
     let names : length args ≡ length (names_of params) = same ∙ head_count predefined_events name params predefined_are_numbered parts.0 ∙ sym (length-map params (λ (param : Param). param.name)) in
     runs_all file (names_of params) args body.stmts world budget names parts.1 enough
 
+-- declarations of a script of the permitted length
 all_end : (decls : List Decl) → list_all is_decl decls ≡ true → length (flat_map spelled_decl decls) ≤ script_max + 1 → All EndsNormally (map (handler_of 0) decls)
 all_end [] are short = All-nil EndsNormally
 all_end (d ∷ others) are short =
@@ -242,7 +248,7 @@ unread_at-length text place =
     let unread : Token = record { kind = token.Unread; place = place } in
     elim (nat_lt place (length text)) as (λ b. length (cond b (unread ∷ []) []) ≤ 1) [ true ↦ omega arith | false ↦ omega arith ]
 
--- each token has a byte of its own, but for the one that says that the text goes on
+-- at most a token for each byte, and one where the text goes on
 tokens_of-length : (text : List ℕ) → length (tokens_of text) ≤ length text + 1
 tokens_of-length text =
     let found = items_from (length text) (next_token text) 0 in

@@ -1,3 +1,4 @@
+mod BodyLaws
 mod CommandLaws
 mod CommandLemmas
 mod Dispatching

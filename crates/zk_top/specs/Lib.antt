@@ -12,3 +12,4 @@ pub mod Complaint
 pub mod Outcome
 pub mod Run
 pub mod Stop
+pub mod Bodies

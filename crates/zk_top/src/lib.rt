@@ -1,6 +1,7 @@
 //! The whole of zeekoff, over any outside: from the words of the command line to the ending.
 #![tactic(auto)]
 
+mod bodies;
 mod command;
 mod complaint;
 mod entry;
@@ -18,6 +19,7 @@ mod splitter;
 mod stop;
 mod typing;
 
+pub use bodies::script_bodies;
 pub use command::command_line;
 pub use entry::run;
 

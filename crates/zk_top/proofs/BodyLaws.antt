@@ -1,0 +1,292 @@
+-- What the bodies of a script come to.
+use Rattle.std.proofs.Common.{◌≡◌, ℕ, zero, suc, ◌+◌, ◌*◌, ◌<◌, ◌≤◌, Bool, true, false, ◌&&◌, ◌||◌, ◌⊎◌, inl, inr, ◌==◌, not, nat_lt, cond, List, [], ◌∷◌, length, length-append, map, Option, Some, None, Result, Ok, Err, slice_get, refl, sym, ap, subst, ◌∙◌, arith}
+use Rattle.std.specs.List.{All, flat_map, sum_by, list_all, list_any, AllByRecursion}
+use Rattle.std.specs.Option.{option_map_or}
+use Rattle.std.specs.Str.{bytes_eq}
+use Rattle.std.proofs.lemmas.Bool.{and_parts, ltb-false}
+use Rattle.std.proofs.lemmas.List.{length-map}
+use Rattle.std.proofs.lemmas.List.Elements.{All-nil, All-cons}
+use Rattle.std.proofs.lemmas.List.Sums.{sum_by-cons}
+use Rattle.std.proofs.lemmas.Slice.Eq.{bytes_eq-Decides}
+use Rattle.std.proofs.lemmas.Option.{slice_get_cases}
+use Rattle.zk_base.specs.declared.endings.ScriptKind.TheVariants.{TooLarge}
+use Rattle.zk_tree.specs.declared.token.Token.{Token}
+use Rattle.zk_tree.specs.declared.token.TokenKind.TheVariants as token
+use Rattle.zk_tree.specs.declared.token.Sign.TheVariants as sign
+use Rattle.zk_tree.specs.declared.place.Place.{Place}
+use Rattle.zk_tree.specs.declared.tree.Tree.{Tree}
+use Rattle.zk_tree.specs.declared.tree.Decl.{Decl}
+use Rattle.zk_tree.specs.declared.tree.Param.{Param}
+use Rattle.zk_tree.specs.declared.tree.Decl.TheVariants as decl
+use Rattle.zk_tree.specs.declared.tree.Stmt.{Stmt}
+use Rattle.zk_tree.specs.declared.tree.Stmt.TheVariants as stmt
+use Rattle.zk_tree.specs.declared.tree.Expr.{Expr}
+use Rattle.zk_tree.specs.declared.tree.Expr.TheVariants as expr
+use Rattle.zk_tree.specs.Forms.{Event, predefined_events, number_of, event_number, type_name, are_params, is_head, names_of, is_expr, is_stmt, is_decl}
+use Rattle.zk_tree.specs.Grammar.{Spelled, follows, with_commas, spelled_expr, spelled_stmt, spelled_params, spelled_block, spelled_decl, spelled_tree, AreSpelled}
+use Rattle.zk_tree.specs.Value.{Value}
+use Rattle.zk_tree.specs.Value as value
+use Rattle.zk_typed.specs.Typed.{zeek_init, zeek_done, expression_of, place_in, statement_of, handler_of, program_of}
+use Rattle.zk_typed.specs.Exec.{Stop, called, named, before, and_then, evaluate, evaluate_all, Normal, Left, is_normal, printed, exec, exec_all}
+use Rattle.zk_typed.specs.declared.program.Program.{Program}
+use Rattle.zk_typed.specs.World.{World, queued}
+use Rattle.zk_parse.specs.Reading.{tree_of}
+use Rattle.zk_parse.proofs.TreeLaws.{tree_taken}
+use Rattle.zk_top.specs.Bodies.{parameter_count, HasItsArguments, EndsNormally}
+use Rattle.zk_top.specs.Item.{What, Seen}
+use Rattle.zk_top.specs.Replay.{budget, event_of}
+use Rattle.zk_top.specs.Script.{script_max, program_by, script_of}
+use Rattle.zk_top.specs.Tokens.{in_front, items_from, next_token, unread_at, behind_separators, tokens_of}
+
+-- Units, and the tokens that spell what takes them ----------------------------------------------------------------
+
+-- the units that an expression takes
+abbrev expr_units : Expr → ℕ
+expr_units (expr.Number place number) = 0
+expr_units (expr.String place bytes) = 0
+expr_units (expr.True place) = 0
+expr_units (expr.False place) = 0
+expr_units (expr.Name place name) = 0
+expr_units (expr.Call place name) = 1
+
+-- a statement takes one itself
+abbrev stmt_units : Stmt → ℕ
+stmt_units (stmt.Print place values) = 1 + sum_by expr_units values
+
+abbrev body_units : Decl → ℕ
+body_units (decl.Event place name params body) = sum_by stmt_units body.stmts
+
+-- each unit of an expression is spelled by two tokens beside its first
+expr_tokens : (e : Expr) → 2 * expr_units e + 1 ≡ length (spelled_expr e)
+expr_tokens (expr.Number place number) = refl
+expr_tokens (expr.String place bytes) = refl
+expr_tokens (expr.True place) = refl
+expr_tokens (expr.False place) = refl
+expr_tokens (expr.Name place name) = refl
+expr_tokens (expr.Call place name) = refl
+
+values_tokens : (values : List Expr) → 2 * sum_by expr_units values ≤ length (with_commas (map spelled_expr values))
+values_tokens [] = omega arith
+values_tokens (e ∷ []) = omega (arith, expr_tokens e, sum_by-cons expr_units e [])
+values_tokens (e ∷ second ∷ others) =
+    let behind = follows (token.Sign sign.Comma) ∷ with_commas (map spelled_expr (second ∷ others)) in
+    omega (arith, expr_tokens e, length-append (spelled_expr e) behind, values_tokens (second ∷ others), sum_by-cons expr_units e (second ∷ others))
+
+-- and that of a statement by its `print` and its semicolon
+stmt_tokens : (s : Stmt) → 2 * stmt_units s ≤ length (spelled_stmt s)
+stmt_tokens (stmt.Print place values) =
+    omega (arith, values_tokens values, length-append (with_commas (map spelled_expr values)) (follows (token.Sign sign.Semicolon) ∷ []))
+
+stmts_tokens : (stmts : List Stmt) → 2 * sum_by stmt_units stmts ≤ length (flat_map spelled_stmt stmts)
+stmts_tokens [] = omega arith
+stmts_tokens (s ∷ others) =
+    omega (arith, stmt_tokens s, stmts_tokens others, length-append (spelled_stmt s) (flat_map spelled_stmt others), sum_by-cons stmt_units s others)
+
+decl_tokens : (d : Decl) → 2 * body_units d ≤ length (spelled_decl d)
+decl_tokens (decl.Event place name params body) =
+    omega (arith, stmts_tokens body.stmts, length-append (spelled_params params) (spelled_block body), length-append (flat_map spelled_stmt body.stmts) (follows (token.Sign sign.CloseBrace) ∷ []))
+
+-- Names -----------------------------------------------------------------------------------------------------------
+
+-- a name in a list has a number below its length
+number_of-below : (name : List ℕ) (names : List (List ℕ)) → list_any (bytes_eq name) names ≡ true → number_of name names < length names
+number_of-below name [] is = absurd (let never : ⊥ = cc in never)
+number_of-below name (first ∷ others) is =
+    elim (bytes_eq name first) as (λ b. (b || list_any (bytes_eq name) others) ≡ true → cond b 0 (number_of name others + 1) < suc (length others)) [
+      | true ↦ λ there. omega arith
+      | false ↦ λ there. let behind = number_of-below name others there in omega arith
+    ] is
+
+-- Expressions -----------------------------------------------------------------------------------------------------
+
+-- it gives a value, and takes so many units
+record Gives {X : Type 0} (left units : ℕ) (result : Result (X × ℕ) Stop) : Type 0 where
+  value : X
+  after : ℕ
+  is : result ≡ Ok (value, after)
+  taken : after + units ≡ left
+
+gives_called : (given : Value) (left : ℕ) → 1 ≤ left → Gives left 1 (called given left)
+gives_called given zero enough = absurd (omega arith)
+gives_called given (suc left) enough = record { value = given; after = left; is = refl; taken = omega arith }
+
+gives_plain : (given : Value) (left : ℕ) → Gives left 0 (Ok (given, left))
+gives_plain given left = record { value = given; after = left; is = refl; taken = omega arith }
+
+gives_named : (args : List Value) (number left : ℕ) → number < length args → Gives left 0 (named (slice_get args number) left)
+gives_named args number left inside = elim (slice_get_cases args number).1 [
+  | inl found ↦ record { value = found.0; after = left; is = ap (λ (o : Option Value). named o left) found.2; taken = omega arith }
+  | inr none ↦ absurd (omega arith)
+]
+
+-- an expression over the arguments with these names
+gives : (world : World) (args : List Value) (names : List (List ℕ)) (e : Expr) (left : ℕ) → length args ≡ length names → is_expr names e ≡ true
+    → expr_units e ≤ left → Gives left (expr_units e) (evaluate world args left (expression_of names e))
+gives world args names (expr.Number place number) left same is enough = gives_plain (value.Count number) left
+gives world args names (expr.String place bytes) left same is enough = gives_plain (value.String bytes) left
+gives world args names (expr.True place) left same is enough = gives_plain (value.Bool true) left
+gives world args names (expr.False place) left same is enough = gives_plain (value.Bool false) left
+gives world args names (expr.Name place name) left same is enough =
+    let below = number_of-below name names is in gives_named args (number_of name names) left (omega arith)
+gives world args names (expr.Call place name) left same is enough = gives_called (value.Time world.time) left enough
+
+-- a value before others
+gives_then : (left first rest : ℕ) (result : Result (Value × ℕ) Stop) (others : ℕ → Result (List Value × ℕ) Stop) (given : Gives left first result)
+    → Gives given.after rest (others given.after) → Gives left (first + rest) (and_then result others)
+gives_then left first rest result others given behind = record {
+  value = given.value ∷ behind.value;
+  after = behind.after;
+  is = ap (λ (r : Result (Value × ℕ) Stop). and_then r others) given.is ∙ ap (before given.value) behind.is;
+  taken = omega (arith, given.taken, behind.taken);
+}
+
+gives_all : (world : World) (args : List Value) (names : List (List ℕ)) (values : List Expr) (left : ℕ) → length args ≡ length names
+    → list_all (is_expr names) values ≡ true → sum_by expr_units values ≤ left
+    → Gives left (sum_by expr_units values) (evaluate_all world args (map (expression_of names) values) left)
+gives_all world args names [] left same are enough = record { value = []; after = left; is = refl; taken = omega arith }
+gives_all world args names (e ∷ others) left same are enough =
+    let parts = and_parts (is_expr names e) (list_all (is_expr names) others) are in
+    let both = sum_by-cons expr_units e others in
+    let first = gives world args names e left same parts.0 (omega arith) in
+    let rest = gives_all world args names others first.after same parts.1 (omega (arith, first.taken)) in
+    rw both (gives_then left (expr_units e) (sum_by expr_units others) (evaluate world args left (expression_of names e))
+    (evaluate_all world args (map (expression_of names) others)) first rest)
+
+-- Statements ------------------------------------------------------------------------------------------------------
+
+-- it comes out normally, and takes so many units
+record Runs (left units : ℕ) (after : Left) : Type 0 where
+  normal : after.outcome ≡ Normal
+  taken : after.units + units ≡ left
+
+runs_printed : (place : Place) (world : World) (left units : ℕ) (result : Result (List Value × ℕ) Stop) → Gives left units result
+    → Runs left units (printed place world result)
+runs_printed place world left units result gives =
+    subst (λ (r : Result (List Value × ℕ) Stop). Runs left units (printed place world r)) (sym gives.is) (record { normal = refl; taken = gives.taken })
+
+-- a statement of a handler whose parameters have these names
+runs : (file : ℕ) (names : List (List ℕ)) (args : List Value) (s : Stmt) (world : World) (left : ℕ) → length args ≡ length names → is_stmt names s ≡ true
+    → stmt_units s ≤ left → Runs left (stmt_units s) (exec args (statement_of file names s) world left)
+runs file names args (stmt.Print place values) world zero same is enough = absurd (omega arith)
+runs file names args (stmt.Print place values) world (suc left) same is enough =
+    let parts = and_parts (not (length values == 0)) (list_all (is_expr names) values) is in
+    let given = gives_all world args names values left same parts.1 (omega arith) in
+    let line = runs_printed (place_in file place) world left (sum_by expr_units values) (evaluate_all world args (map (expression_of names) values) left) given in
+    record { normal = line.normal; taken = omega (arith, line.taken) }
+
+runs_all : (file : ℕ) (names : List (List ℕ)) (args : List Value) (stmts : List Stmt) (world : World) (left : ℕ) → length args ≡ length names
+    → list_all (is_stmt names) stmts ≡ true → sum_by stmt_units stmts ≤ left
+    → (exec_all args (map (statement_of file names) stmts) world left).outcome ≡ Normal
+runs_all file names args [] world left same are enough = refl
+runs_all file names args (s ∷ others) world left same are enough =
+    let parts = and_parts (is_stmt names s) (list_all (is_stmt names) others) are in
+    let both = sum_by-cons stmt_units s others in
+    let after : Left = exec args (statement_of file names s) world left in
+    let first = runs file names args s world left same parts.0 (omega arith) in
+    let rest = runs_all file names args others after.world after.units same parts.1 (omega (arith, first.taken)) in
+    ap (λ (b : Bool). (cond b (exec_all args (map (statement_of file names) others) after.world after.units) after).outcome) (ap is_normal first.normal) ∙ rest
+
+-- Handlers --------------------------------------------------------------------------------------------------------
+
+are_params-length : (params : List Param) (formals : List (List ℕ × List ℕ)) → are_params params formals ≡ true → length params ≡ length formals
+are_params-length [] [] are = refl
+are_params-length [] (formal ∷ formals) are = absurd cc
+are_params-length (param ∷ params) [] are = absurd cc
+are_params-length (param ∷ params) (formal ∷ formals) are =
+    ap suc (are_params-length params formals (and_parts (bytes_eq param.name formal.0 && bytes_eq (type_name param.of) formal.1) (are_params params formals) are).1)
+
+-- by its name each of these events has a number, and by that as many parameters as it has
+abbrev AreNumbered : List Event → Type 0
+AreNumbered events = AllByRecursion (λ event. parameter_count (event_number event.name) ≡ length event.params) events
+
+predefined_are_numbered : AreNumbered predefined_events
+predefined_are_numbered = (refl, (refl, (refl, tt)))
+
+one_of : (a b : Bool) → (a || b) ≡ true → (a ≡ true) ⊎ (b ≡ true)
+one_of true b h = inl refl
+one_of false b h = inr h
+
+-- a handler has as many parameters as its event
+head_count : (events : List Event) (name : List ℕ) (params : List Param) → AreNumbered events
+    → list_any (λ event. bytes_eq name event.name && are_params params event.params) events ≡ true → parameter_count (event_number name) ≡ length params
+head_count [] name params are is = absurd cc
+head_count (event ∷ others) name params are is = elim (one_of (bytes_eq name event.name && are_params params event.params) (list_any (λ e. bytes_eq name e.name && are_params params e.params) others) is) [
+  | inl here ↦
+      let parts = and_parts (bytes_eq name event.name) (are_params params event.params) here in
+      ap (λ n. parameter_count (event_number n)) ((bytes_eq-Decides name event.name).0 parts.0) ∙ are.0 ∙ sym (are_params-length params event.params parts.1)
+  | inr behind ↦ head_count others name params are.1 behind
+]
+
+-- with a budget for all of its units
+ends : (file : ℕ) (d : Decl) → is_decl d ≡ true → body_units d ≤ budget → EndsNormally (handler_of file d)
+ends file (decl.Event place name params body) is enough = λ args world same.
+    let parts = and_parts (is_head name params) (list_all (is_stmt (names_of params)) body.stmts) is in
+    let names : length args ≡ length (names_of params) = same ∙ head_count predefined_events name params predefined_are_numbered parts.0 ∙ sym (length-map params (λ (param : Param). param.name)) in
+    runs_all file (names_of params) args body.stmts world budget names parts.1 enough
+
+-- declarations of a script of the permitted length
+all_end : (decls : List Decl) → list_all is_decl decls ≡ true → length (flat_map spelled_decl decls) ≤ script_max + 1 → All EndsNormally (map (handler_of 0) decls)
+all_end [] are short = All-nil EndsNormally
+all_end (d ∷ others) are short =
+    let parts = and_parts (is_decl d) (list_all is_decl others) are in
+    let both = length-append (spelled_decl d) (flat_map spelled_decl others) in
+    let first = ends 0 d parts.0 (omega (arith, decl_tokens d)) in
+    All-cons EndsNormally (handler_of 0 d) (map (handler_of 0) others) first (all_end others parts.1 (omega arith))
+
+-- Texts -----------------------------------------------------------------------------------------------------------
+
+items_from-length : {X : Type 0} (n : ℕ) (read : ℕ → Option (X × ℕ)) (place : ℕ) → length (items_from n read place).0 ≤ n
+items_from-length zero read place = omega arith
+items_from-length (suc n) read place =
+    elim (read place) as (λ o. length (option_map_or (λ item. in_front item.0 (items_from n read item.1)) o ([], place)).0 ≤ suc n) [
+      | None ↦ omega arith
+      | Some item ↦ let behind = items_from-length n read item.1 in omega arith
+    ]
+
+unread_at-length : (text : List ℕ) (place : ℕ) → length (unread_at text place) ≤ 1
+unread_at-length text place =
+    let unread : Token = record { kind = token.Unread; place = place } in
+    elim (nat_lt place (length text)) as (λ b. length (cond b (unread ∷ []) []) ≤ 1) [ true ↦ omega arith | false ↦ omega arith ]
+
+-- at most a token for each byte, and one where the text goes on
+tokens_of-length : (text : List ℕ) → length (tokens_of text) ≤ length text + 1
+tokens_of-length text =
+    let found = items_from (length text) (next_token text) 0 in
+    let end = unread_at text (behind_separators text found.1) in
+    omega (arith, length-append found.0 end, items_from-length (length text) (next_token text) 0, unread_at-length text (behind_separators text found.1))
+
+AreSpelled-length : (spelled : List Spelled) (tokens : List Token) → AreSpelled spelled tokens → length spelled ≡ length tokens
+AreSpelled-length [] [] are = refl
+AreSpelled-length [] (t ∷ tokens) are = absurd are
+AreSpelled-length (s ∷ others) [] are = absurd are
+AreSpelled-length (s ∷ others) (t ∷ tokens) are = ap suc (AreSpelled-length others tokens are.2)
+
+-- a program is that of a tree
+program_by-ok : (tokens : List Token) (read : Result Tree ℕ) (program : Program) → program_by tokens read ≡ Ok program
+    → (tree : Tree) × (read ≡ Ok tree) × (program_of tree ≡ program)
+program_by-ok tokens (Ok tree) program is = (tree, refl, cc)
+program_by-ok tokens (Err number) program is = absurd cc
+
+tree_ends : (text : List ℕ) (tree : Tree) → length text ≤ script_max → tree_of (tokens_of text) ≡ Ok tree → All EndsNormally (program_of tree).handlers
+tree_ends text tree short is =
+    let reads = tree_taken (tokens_of text) tree is in
+    let long = AreSpelled-length (spelled_tree tree) (tokens_of text) reads.spelled in
+    all_end tree.decls reads.forms (omega (arith, tokens_of-length text))
+
+-- each body comes to its end
+pub ended : (text : List ℕ) (program : Program) → script_of text ≡ Ok program → All EndsNormally program.handlers
+ended text program =
+    elim (nat_lt script_max (length text)) as (λ b. nat_lt script_max (length text) ≡ b
+    → cond b (Err (record { place = script_max; kind = TooLarge })) (program_by (tokens_of text) (tree_of (tokens_of text))) ≡ Ok program → All EndsNormally program.handlers) [
+      | true ↦ λ is never. absurd cc
+      | false ↦ λ is accepted.
+          let found = program_by-ok (tokens_of text) (tree_of (tokens_of text)) program accepted in
+          subst (λ (p : Program). All EndsNormally p.handlers) found.2 (tree_ends text found.0 (ltb-false script_max (length text) is) found.1)
+    ] refl
+
+-- the events of a run have their arguments
+has_seen : (what : What) → HasItsArguments (event_of what)
+has_seen (Seen own captured original) = refl
+
+pub given : HasItsArguments (queued zeek_init []) × HasItsArguments (queued zeek_done []) × ((what : What) → HasItsArguments (event_of what))
+given = (refl, refl, has_seen)

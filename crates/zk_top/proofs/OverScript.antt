@@ -24,8 +24,8 @@ same_over : (report : Capture → Report) (script file : List ℕ) (found : Resu
 same_over report script file (Ok capture) = record { ending = refl; said = refl; complained = refl; asked = refl }
 same_over report script file (Err e) = record { ending = refl; said = refl; complained = refl; asked = refl }
 
-pub same_playing : (file script : List ℕ) (program : Program) (inputs : Files) → SameBut script (over_capture (run_report file program) (file ∷ []) (opened file (inputs file))) (running file script (Ok program) inputs)
-same_playing file script program inputs = same_over (run_report file program) script file (opened file (inputs file))
+pub same_run : (file script : List ℕ) (program : Program) (inputs : Files) → SameBut script (over_capture (run_report file program) (file ∷ []) (opened file (inputs file))) (running file script (Ok program) inputs)
+same_run file script program inputs = same_over (run_report file program) script file (opened file (inputs file))
 
 -- the inputs that are told stay
 told_still : (old mid : Outside) (inputs : Files) → mid.inputs ≡ old.inputs → old.inputs ≡ Some inputs → mid.inputs ≡ Some inputs
@@ -34,29 +34,29 @@ told_still old mid inputs stay told = stay ∙ told
 risen_before : (a b c : ℕ) → a ≤ b → HasRisen b c → HasRisen a c
 risen_before a b c le risen = record { kept = omega (arith, risen.kept); risen = omega (arith, risen.kept, risen.risen) }
 
--- the program was played
-pub played : (file script : List ℕ) (program : Program) (old mid : Outside) (e : Ending) (new : Outside) → Finds script (loaded script) old (Ok program) mid
+-- the program ran over the capture
+pub fulfilled_run : (file script : List ℕ) (program : Program) (old mid : Outside) (e : Ending) (new : Outside) → Finds script (loaded script) old (Ok program) mid
     → Fulfils (λ inputs. over_capture (run_report file program) (file ∷ []) (opened file (inputs file))) [] mid e new
     → Fulfils (λ inputs. running file script (loaded script (inputs script)) inputs) [] old e new
-played file script program old mid e new found plays = record {
-  names = script ∷ plays.names;
-  said = plays.said;
-  does = does_both_all (script ∷ []) plays.names [] plays.said [] [] old mid new found.does plays.does;
-  whole = plays.whole;
-  absent = λ name same. risen_before old.absences mid.absences new.absences found.does.does.absences (plays.absent name same);
-  ends = λ inputs t. plays.ends inputs (told_still old mid inputs found.does.does.inputs_stay t)
-      ∙ ((same_playing file script program inputs).ending ∙ ap (λ p. (running file script p inputs).ending) (found.told inputs t));
-  names_are = λ inputs t. ap (λ names. script ∷ names) (plays.names_are inputs (told_still old mid inputs found.does.does.inputs_stay t))
-      ∙ ((same_playing file script program inputs).asked ∙ ap (λ p. (running file script p inputs).asked) (found.told inputs t));
-  said_is = λ inputs t. plays.said_is inputs (told_still old mid inputs found.does.does.inputs_stay t)
-      ∙ ((same_playing file script program inputs).said ∙ ap (λ p. (running file script p inputs).said) (found.told inputs t));
+fulfilled_run file script program old mid e new found ran = record {
+  names = script ∷ ran.names;
+  said = ran.said;
+  does = does_both_all (script ∷ []) ran.names [] ran.said [] [] old mid new found.does ran.does;
+  whole = ran.whole;
+  absent = λ name same. risen_before old.absences mid.absences new.absences found.does.does.absences (ran.absent name same);
+  ends = λ inputs t. ran.ends inputs (told_still old mid inputs found.does.does.inputs_stay t)
+      ∙ ((same_run file script program inputs).ending ∙ ap (λ p. (running file script p inputs).ending) (found.told inputs t));
+  names_are = λ inputs t. ap (λ names. script ∷ names) (ran.names_are inputs (told_still old mid inputs found.does.does.inputs_stay t))
+      ∙ ((same_run file script program inputs).asked ∙ ap (λ p. (running file script p inputs).asked) (found.told inputs t));
+  said_is = λ inputs t. ran.said_is inputs (told_still old mid inputs found.does.does.inputs_stay t)
+      ∙ ((same_run file script program inputs).said ∙ ap (λ p. (running file script p inputs).said) (found.told inputs t));
 }
 
--- it was stopped
-pub played_part : (file script : List ℕ) (program : Program) (old mid : Outside) (stop : Stop) (new : Outside) → Finds script (loaded script) old (Ok program) mid
+-- its run was stopped
+pub stopped_run : (file script : List ℕ) (program : Program) (old mid : Outside) (stop : Stop) (new : Outside) → Finds script (loaded script) old (Ok program) mid
     → BreaksOff (λ inputs. over_capture (run_report file program) (file ∷ []) (opened file (inputs file))) mid stop new
     → BreaksOff (λ inputs. running file script (loaded script (inputs script)) inputs) old stop new
-played_part file script program old mid stop new found part = record {
+stopped_run file script program old mid stop new found part = record {
   names = script ∷ part.names;
   said = part.said;
   complained = part.complained;
@@ -65,13 +65,13 @@ played_part file script program old mid stop new found part = record {
   names_front = λ inputs t.
       let inside = part.names_front inputs (told_still old mid inputs found.does.does.inputs_stay t) in
       subst (λ names. IsFront (script ∷ part.names) names)
-      ((same_playing file script program inputs).asked ∙ ap (λ p. (running file script p inputs).asked) (found.told inputs t))
+      ((same_run file script program inputs).asked ∙ ap (λ p. (running file script p inputs).asked) (found.told inputs t))
       (front_behind (script ∷ []) part.names (over_capture (run_report file program) (file ∷ []) (opened file (inputs file))).asked inside);
   said_front = λ inputs t. subst (λ said. IsFront part.said said)
-      ((same_playing file script program inputs).said ∙ ap (λ p. (running file script p inputs).said) (found.told inputs t))
+      ((same_run file script program inputs).said ∙ ap (λ p. (running file script p inputs).said) (found.told inputs t))
       (part.said_front inputs (told_still old mid inputs found.does.does.inputs_stay t));
   complained_front = λ inputs t. subst (λ said. IsFront part.complained said)
-      ((same_playing file script program inputs).complained ∙ ap (λ p. (running file script p inputs).complained) (found.told inputs t))
+      ((same_run file script program inputs).complained ∙ ap (λ p. (running file script p inputs).complained) (found.told inputs t))
       (part.complained_front inputs (told_still old mid inputs found.does.does.inputs_stay t));
 }
 
@@ -80,13 +80,13 @@ asked_file program file (Ok capture) = refl
 asked_file program file (Err e) = refl
 
 asked_first : (file script : List ℕ) (found : Result Program Ending) (inputs : Files) → IsFront (script ∷ []) (running file script found inputs).asked
-asked_first file script (Ok program) inputs = record { rest = file ∷ []; joined = sym (same_playing file script program inputs).asked ∙ ap (λ names. script ∷ names) (asked_file program file (opened file (inputs file))) }
+asked_first file script (Ok program) inputs = record { rest = file ∷ []; joined = sym (same_run file script program inputs).asked ∙ ap (λ names. script ∷ names) (asked_file program file (opened file (inputs file))) }
 asked_first file script (Err e) inputs = front_all (script ∷ [])
 
 -- there is no program
-pub not_played : (file script : List ℕ) (old : Outside) (e : Ending) (new : Outside) → Finds script (loaded script) old (Err e) new
+pub refused_script : (file script : List ℕ) (old : Outside) (e : Ending) (new : Outside) → Finds script (loaded script) old (Err e) new
     → Fulfils (λ inputs. running file script (loaded script (inputs script)) inputs) [] old e new
-not_played file script old e new found = record {
+refused_script file script old e new found = record {
   names = script ∷ [];
   said = [];
   does = found.does;

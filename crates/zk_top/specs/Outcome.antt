@@ -15,7 +15,7 @@ use Rattle.zk_top.specs.Command.{Command, ListItems, RunScript, understand}
 use Rattle.zk_top.specs.Complaint.{complaint_of}
 use Rattle.zk_top.specs.Item.{items_of}
 use Rattle.zk_top.specs.Line.{lines_of}
-use Rattle.zk_top.specs.Replay.{played, printed}
+use Rattle.zk_top.specs.Printed.{progress_of, printed}
 use Rattle.zk_top.specs.Script.{Refusal, script_of}
 
 pub record Outcome : Type 0 where
@@ -94,7 +94,7 @@ listing file found = over_capture (list_report file) (file ∷ []) (opened file 
 -- what a run of a program reports over a capture
 abbrev pub run_report : List ℕ → Program → Capture → Report
 run_report file program capture = record {
-  ending = end_of_run file capture.ending (played program capture.packets);
+  ending = end_of_run file capture.ending (progress_of program capture.packets);
   said = printed program capture.packets;
 }
 

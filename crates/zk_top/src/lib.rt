@@ -4,6 +4,7 @@
 mod command;
 mod complaint;
 mod entry;
+mod found;
 mod line;
 mod listing;
 mod lowering;

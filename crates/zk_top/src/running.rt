@@ -4,6 +4,7 @@ ghost use Rattle.zk_typed.specs.declared.program.Program.{Program};
 ghost use Rattle.zk_top.specs.Outcome.{over_capture, opened, loaded, run_report, running};
 ghost use Rattle.zk_top.specs.Run.{Fulfils, BreaksOff, IsOfCommand};
 
+use crate::found::Found;
 use crate::opening::{end_of, read_capture};
 use crate::replay::replay_packets;
 use crate::script::read_script;
@@ -24,8 +25,8 @@ pub fn run_script<S: Shelf>(
     ensures stopped { IfErr result (λ stop. BreaksOff (λ inputs. running file.now script.now (loaded script.now (inputs script.now)) inputs) (S.outside shelf.old) stop (S.outside shelf.new)) }
 {
     match read_script(alloc, shelf, script)? {
-        Ok(code) => run_code(alloc, shelf, file, code),
-        Err(ending) => Ok(ending),
+        Found::Accepted(code) => run_code(alloc, shelf, file, code),
+        Found::Refused(ending) => Ok(ending),
     }
 }
 
@@ -38,11 +39,11 @@ fn run_code<S: Shelf>(alloc: Global, shelf: &mut S, file: &[u8], code: Code) -> 
         → BreaksOff (λ inputs. over_capture (run_report file.now program) (file.now ∷ []) (opened file.now (inputs file.now))) (S.outside shelf.old) stop (S.outside shelf.new)) }
 {
     match read_capture(alloc, shelf, file)? {
-        Ok(capture) => {
+        Found::Accepted(capture) => {
             let ending = end_of(alloc, file, capture.ending)?;
             replay_packets(alloc, shelf, code, capture.packets.as_slice())?;
             Ok(ending)
         }
-        Err(ending) => Ok(ending),
+        Found::Refused(ending) => Ok(ending),
     }
 }

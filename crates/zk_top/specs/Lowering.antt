@@ -13,6 +13,6 @@ abbrev pub code_found : Found Program → Found Code
 code_found (Accepted program) = Accepted (lowered program)
 code_found (Refused ending) = Refused ending
 
--- What is found in the script of a name is a program, and this is its code.
+-- the code of the program that is found in the input of this name, or the ending where none is
 abbrev pub FindsCode : List ℕ → Outside → Found Code → Outside → Type 0
 FindsCode name old code new = (program : Found Program) × (code ≡ code_found program) × Finds name (loaded name) old program new

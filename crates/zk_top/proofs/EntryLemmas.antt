@@ -7,6 +7,8 @@ use Rattle.zk_base.specs.declared.endings.Ending.TheVariants.{Usage}
 use Rattle.zk_base.specs.Shelf.{Files, Outside, HasRisen, appended}
 use Rattle.zk_pcap.specs.declared.captures.Capture.{Capture}
 use Rattle.zk_typed.specs.declared.program.Program.{Program}
+use Rattle.zk_top.specs.declared.found.Found.{Found}
+use Rattle.zk_top.specs.declared.found.Found.TheVariants.{Accepted, Refused}
 use Rattle.zk_top.specs.declared.stop.Stop.{Stop}
 use Rattle.zk_top.specs.Command.{Command, ListItems, RunScript, understand}
 use Rattle.zk_top.specs.Complaint.{complaint_of}
@@ -20,14 +22,14 @@ record IsPlain (wanted : Outcome) : Type 0 where
   files : wanted.files ≡ no_files
   complained : wanted.complained ≡ complaint_of wanted.ending
 
-plain_over : (report : Capture → Report) (names : List (List ℕ)) (found : Result Capture Ending) → IsPlain (over_capture report names found)
-plain_over report names (Ok capture) = record { files = refl; complained = refl }
-plain_over report names (Err e) = record { files = refl; complained = refl }
+plain_over : (report : Capture → Report) (names : List (List ℕ)) (found : Found Capture) → IsPlain (over_capture report names found)
+plain_over report names (Accepted capture) = record { files = refl; complained = refl }
+plain_over report names (Refused e) = record { files = refl; complained = refl }
 
-plain_running : (file script : List ℕ) (found : Result Program Ending) (inputs : Files) → IsPlain (running file script found inputs)
-plain_running file script (Ok program) inputs =
+plain_running : (file script : List ℕ) (found : Found Program) (inputs : Files) → IsPlain (running file script found inputs)
+plain_running file script (Accepted program) inputs =
     plain_over (run_report file program) (script ∷ file ∷ []) (opened file (inputs file))
-plain_running file script (Err e) inputs = record { files = refl; complained = refl }
+plain_running file script (Refused e) inputs = record { files = refl; complained = refl }
 
 plain_of : (asked : Result Command ℕ) (inputs : Files) → IsPlain (outcome_of asked inputs)
 plain_of (Err word) inputs = record { files = refl; complained = refl }

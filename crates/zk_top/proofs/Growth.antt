@@ -10,7 +10,7 @@ use Rattle.zk_typed.specs.Run.{bodies}
 use Rattle.zk_typed.specs.Text.{line_of}
 use Rattle.zk_typed.specs.World.{World}
 use Rattle.zk_top.specs.Line.{line_end}
-use Rattle.zk_top.specs.Replay.{text_of}
+use Rattle.zk_top.specs.Printed.{with_line_ends}
 use Rattle.zk_top.specs.Run.{IsFront}
 use Rattle.zk_top.proofs.Doing.{front_all, front_trans}
 
@@ -57,9 +57,9 @@ bodies_add args budget world (first ∷ others) =
 
 -- The text of lines -----------------------------------------------------------------------------------------------
 
-pub text-append : (a b : List (List ℕ)) → text_of (a ++ b) ≡ text_of a ++ text_of b
-text-append [] b = refl
-text-append (line ∷ a) b = ap (λ text. (line ++ line_end) ++ text) (text-append a b) ∙ sym (append_assoc (line ++ line_end) (text_of a) (text_of b))
+pub with_line_ends-append : (a b : List (List ℕ)) → with_line_ends (a ++ b) ≡ with_line_ends a ++ with_line_ends b
+with_line_ends-append [] b = refl
+with_line_ends-append (line ∷ a) b = ap (λ text. (line ++ line_end) ++ text) (with_line_ends-append a b) ∙ sym (append_assoc (line ++ line_end) (with_line_ends a) (with_line_ends b))
 
-pub text_front : (a b : List (List ℕ)) → IsFront a b → IsFront (text_of a) (text_of b)
-text_front a b front = record { rest = text_of front.rest; joined = ap text_of front.joined ∙ text-append a front.rest }
+pub text_front : (a b : List (List ℕ)) → IsFront a b → IsFront (with_line_ends a) (with_line_ends b)
+text_front a b front = record { rest = with_line_ends front.rest; joined = ap with_line_ends front.joined ∙ with_line_ends-append a front.rest }

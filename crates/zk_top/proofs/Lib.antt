@@ -8,7 +8,7 @@ mod Growth
 mod OverCapture
 mod OverScript
 mod Packets
-mod PlayingLemmas
+mod ReplayLemmas
 mod Rows
 mod Said
 mod SoFar

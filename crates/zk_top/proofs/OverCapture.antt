@@ -1,5 +1,5 @@
 -- What is done over a capture, or over none.
-use Rattle.std.proofs.Common.{◌≡◌, ◌≢◌, ℕ, ◌^◌, ◌<◌, inl, inr, cond, length, length-append, arith, List, [], ◌∷◌, Option, Some, None, Result, Ok, Err, IfErr, IfSome, refl, sym, ap, subst, ◌∙◌}
+use Rattle.std.proofs.Common.{◌≡◌, ◌≢◌, ℕ, ◌^◌, ◌<◌, inl, inr, cond, length, length-append, arith, List, [], ◌∷◌, Option, Some, None, Result, Ok, Err, IfSome, refl, sym, ap, subst, ◌∙◌}
 use Rattle.std.proofs.lemmas.Bool.{lt-ltb}
 use Rattle.std.proofs.lemmas.List.{take-append-le}
 use Rattle.zk_base.specs.declared.endings.Ending.{Ending}
@@ -11,9 +11,12 @@ use Rattle.zk_pcap.specs.declared.captures.CaptureEnding.TheVariants.{Whole, Cut
 use Rattle.zk_pcap.specs.declared.faults.CaptureFault.{CaptureFault}
 use Rattle.zk_pcap.specs.declared.faults.CaptureFault.TheVariants as fault
 use Rattle.zk_base.specs.declared.endings.ScriptKind.TheVariants.{TooLarge}
+use Rattle.zk_pcap.specs.CaptureFault.{place_of}
 use Rattle.zk_pcap.specs.Capture.{capture_of, capture_after, UnlessNoMemory}
 use Rattle.zk_pcap.specs.Header.{counted, header_of}
 use Rattle.zk_typed.specs.declared.program.Program.{Program}
+use Rattle.zk_top.specs.declared.found.Found.{Found}
+use Rattle.zk_top.specs.declared.found.Found.TheVariants.{Accepted, Refused}
 use Rattle.zk_top.specs.declared.stop.Stop.{Stop}
 use Rattle.zk_parse.specs.Reading.{tree_of}
 use Rattle.zk_top.specs.Script.{Refusal, script_max, program_by, script_of}
@@ -70,9 +73,9 @@ not_absent file (Cut place) name same = let never : ⊥ = cc in never
 
 -- What is wanted over a capture -----------------------------------------------------------------------------------
 
-asked : (report : Capture → Report) (names : List (List ℕ)) (found : Result Capture Ending) → (over_capture report names found).asked ≡ names
-asked report names (Ok capture) = refl
-asked report names (Err e) = refl
+asked : (report : Capture → Report) (names : List (List ℕ)) (found : Found Capture) → (over_capture report names found).asked ≡ names
+asked report names (Accepted capture) = refl
+asked report names (Refused e) = refl
 
 -- stopped before its capture was found
 pub broken_before : (report : Capture → Report) (file : List ℕ) (old : Outside) (stop : Stop) (new : Outside) → DoesPart (file ∷ []) [] [] old stop new
@@ -91,7 +94,7 @@ broken_before report file old stop new part = record {
 }
 
 -- stopped while its lines were said
-pub broken_within : (report : Capture → Report) (file : List ℕ) (capture : Capture) (old mid : Outside) (stop : Stop) (new : Outside) → Finds file (opened file) old (Ok capture) mid
+pub broken_within : (report : Capture → Report) (file : List ℕ) (capture : Capture) (old mid : Outside) (stop : Stop) (new : Outside) → Finds file (opened file) old (Accepted capture) mid
     → DoesPart [] (report capture).said [] mid stop new → BreaksOff (λ inputs. over_capture report (file ∷ []) (opened file (inputs file))) old stop new
 broken_within report file capture old mid stop new found says =
     let part : DoesPart (file ∷ []) (report capture).said [] old stop new = does_both_part (file ∷ []) [] [] (report capture).said [] [] old mid stop new found.does says in
@@ -108,7 +111,7 @@ broken_within report file capture old mid stop new found says =
     }
 
 -- its lines were said
-pub fulfilled : (report : Capture → Report) (file : List ℕ) (capture : Capture) (old mid : Outside) (e : Ending) (new : Outside) → Finds file (opened file) old (Ok capture) mid
+pub fulfilled : (report : Capture → Report) (file : List ℕ) (capture : Capture) (old mid : Outside) (e : Ending) (new : Outside) → Finds file (opened file) old (Accepted capture) mid
     → e ≡ end_of_capture file capture.ending → (report capture).ending ≡ end_of_capture file capture.ending → DoesAll [] (report capture).said [] mid new
     → Fulfils (λ inputs. over_capture report (file ∷ []) (opened file (inputs file))) [] old e new
 fulfilled report file capture old mid e new found is same says = record {
@@ -123,14 +126,14 @@ fulfilled report file capture old mid e new found is same says = record {
 }
 
 -- there is no capture
-pub fulfilled_refused : (report : Capture → Report) (file : List ℕ) (old : Outside) (e : Ending) (new : Outside) → Finds file (opened file) old (Err e) new
+pub fulfilled_refused : (report : Capture → Report) (file : List ℕ) (old : Outside) (e : Ending) (new : Outside) → Finds file (opened file) old (Refused e) new
     → Fulfils (λ inputs. over_capture report (file ∷ []) (opened file (inputs file))) [] old e new
 fulfilled_refused report file old e new found = record {
   names = file ∷ [];
   said = [];
   does = found.does;
-  whole = whole_refusal e found.refusal;
-  absent = λ name same. found.absent name (ap Err same);
+  whole = whole_refusal e (found.refusal e refl);
+  absent = λ name same. found.absent name (ap Refused same);
   ends = λ inputs told. ap (λ r. (over_capture report (file ∷ []) r).ending) (found.told inputs told);
   names_are = λ inputs told. sym (asked report (file ∷ []) (opened file (inputs file)));
   said_is = λ inputs told. ap (λ r. (over_capture report (file ∷ []) r).said) (found.told inputs told);
@@ -142,11 +145,11 @@ fulfilled_refused report file old e new found = record {
 pub told : (inputs : Option Files) (files : Files) (name : List ℕ) (found : Option (List ℕ)) (most : ℕ) → inputs ≡ Some files → IfSome inputs (λ fs. IsReadOf most (fs name) found) → IsReadOf most (files name) found
 told inputs files name found most is given = subst (λ o. IfSome o (λ fs. IsReadOf most (fs name) found)) is given
 
-judged_refusal : (file : List ℕ) (read : Result Capture CaptureFault) → IfErr (judged file read) IsRefusal
-judged_refusal file (Ok capture) = tt
-judged_refusal file (Err why) = tt
+judged_refusal : (file : List ℕ) (read : Result Capture CaptureFault) (e : Ending) → judged file read ≡ Refused e → IsRefusal e
+judged_refusal file (Ok capture) e same = absurd (let never : ⊥ = cc in never)
+judged_refusal file (Err why) e same = let is : ending.CaptureRefused file (place_of why) ≡ e = cc in subst IsRefusal is tt
 
-judged_there : (file : List ℕ) (read : Result Capture CaptureFault) (name : List ℕ) → judged file read ≡ Err (ending.NoInput name) → ⊥
+judged_there : (file : List ℕ) (read : Result Capture CaptureFault) (name : List ℕ) → judged file read ≡ Refused (ending.NoInput name) → ⊥
 judged_there file (Ok capture) name same = let never : ⊥ = cc in never
 judged_there file (Err why) name same = let never : ⊥ = cc in never
 
@@ -165,34 +168,34 @@ opened_as file bytes None read = absurd read
 opened_as file bytes (Some whole) read = ap (judged file) (capture_read whole bytes read)
 
 -- a capture was read
-pub found_capture : (file bytes : List ℕ) (old : Outside) (found : Result Capture Ending) (new : Outside) → DoesAll (file ∷ []) [] [] old new → IfSome old.inputs (λ files. IsReadOf (2 ^ 40) (files file) (Some bytes))
+pub found_capture : (file bytes : List ℕ) (old : Outside) (found : Found Capture) (new : Outside) → DoesAll (file ∷ []) [] [] old new → IfSome old.inputs (λ files. IsReadOf (2 ^ 40) (files file) (Some bytes))
     → found ≡ judged file (capture_of bytes) → Finds file (opened file) old found new
 found_capture file bytes old found new read holds is = record {
   does = read;
   told = λ inputs t. is ∙ opened_as file bytes (inputs file) (told old.inputs inputs file (Some bytes) (2 ^ 40) t holds);
-  refusal = subst (λ r. IfErr r IsRefusal) (sym is) (judged_refusal file (capture_of bytes));
+  refusal = λ e same. judged_refusal file (capture_of bytes) e (sym is ∙ same);
   absent = λ name same. absurd (judged_there file (capture_of bytes) name (sym is ∙ same));
 }
 
 -- there is no capture
-lacks_capture : (file : List ℕ) (input : Option (List ℕ)) → IsReadOf (2 ^ 40) input None → Err (ending.NoInput file) ≡ opened file input
+lacks_capture : (file : List ℕ) (input : Option (List ℕ)) → IsReadOf (2 ^ 40) input None → Refused (ending.NoInput file) ≡ opened file input
 lacks_capture file None read = refl
 lacks_capture file (Some whole) read = absurd read
 
 pub found_no_capture : (file : List ℕ) (old new : Outside) → DoesAll (file ∷ []) [] [] old new → IfSome old.inputs (λ files. IsReadOf (2 ^ 40) (files file) None) → HasRisen old.absences new.absences
-    → Finds file (opened file) old (Err (ending.NoInput file)) new
+    → Finds file (opened file) old (Refused (ending.NoInput file)) new
 found_no_capture file old new read lacks risen = record {
   does = read;
   told = λ inputs t. lacks_capture file (inputs file) (told old.inputs inputs file None (2 ^ 40) t lacks);
-  refusal = tt;
+  refusal = λ e same. let is : ending.NoInput file ≡ e = cc in subst IsRefusal is tt;
   absent = λ name same. risen;
 }
 
-accepted_refusal : (file : List ℕ) (read : Result Program Refusal) → IfErr (accepted file read) IsRefusal
-accepted_refusal file (Ok program) = tt
-accepted_refusal file (Err refusal) = tt
+accepted_refusal : (file : List ℕ) (read : Result Program Refusal) (e : Ending) → accepted file read ≡ Refused e → IsRefusal e
+accepted_refusal file (Ok program) e same = absurd (let never : ⊥ = cc in never)
+accepted_refusal file (Err refusal) e same = let is : ending.ScriptRefused file refusal.place refusal.kind ≡ e = cc in subst IsRefusal is tt
 
-accepted_there : (file : List ℕ) (read : Result Program Refusal) (name : List ℕ) → accepted file read ≡ Err (ending.NoInput name) → ⊥
+accepted_there : (file : List ℕ) (read : Result Program Refusal) (name : List ℕ) → accepted file read ≡ Refused (ending.NoInput name) → ⊥
 accepted_there file (Ok program) name same = let never : ⊥ = cc in never
 accepted_there file (Err refusal) name same = let never : ⊥ = cc in never
 
@@ -221,15 +224,15 @@ found_script file text old new read holds = record {
 }
 
 -- there is no script
-lacks_script : (file : List ℕ) (input : Option (List ℕ)) → IsReadOf script_max input None → Err (ending.NoInput file) ≡ loaded file input
+lacks_script : (file : List ℕ) (input : Option (List ℕ)) → IsReadOf script_max input None → Refused (ending.NoInput file) ≡ loaded file input
 lacks_script file None read = refl
 lacks_script file (Some whole) read = absurd read
 
 pub found_no_script : (file : List ℕ) (old new : Outside) → DoesAll (file ∷ []) [] [] old new → IfSome old.inputs (λ files. IsReadOf script_max (files file) None) → HasRisen old.absences new.absences
-    → Finds file (loaded file) old (Err (ending.NoInput file)) new
+    → Finds file (loaded file) old (Refused (ending.NoInput file)) new
 found_no_script file old new read lacks risen = record {
   does = read;
   told = λ inputs t. lacks_script file (inputs file) (told old.inputs inputs file None script_max t lacks);
-  refusal = tt;
+  refusal = λ e same. let is : ending.NoInput file ≡ e = cc in subst IsRefusal is tt;
   absent = λ name same. risen;
 }

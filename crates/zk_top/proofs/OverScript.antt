@@ -1,13 +1,15 @@
 -- What is done for a script and a capture.
-use Rattle.std.proofs.Common.{◌≡◌, ℕ, ◌≤◌, List, [], ◌∷◌, Some, Result, Ok, Err, refl, sym, ap, subst, ◌∙◌, arith}
+use Rattle.std.proofs.Common.{◌≡◌, ℕ, ◌≤◌, List, [], ◌∷◌, Some, refl, sym, ap, subst, ◌∙◌, arith}
 use Rattle.zk_base.specs.declared.endings.Ending.{Ending}
 use Rattle.zk_base.specs.Shelf.{Files, Outside, HasRisen}
 use Rattle.zk_pcap.specs.declared.captures.Capture.{Capture}
 use Rattle.zk_typed.specs.declared.program.Program.{Program}
+use Rattle.zk_top.specs.declared.found.Found.{Found}
+use Rattle.zk_top.specs.declared.found.Found.TheVariants.{Accepted, Refused}
 use Rattle.zk_top.specs.declared.stop.Stop.{Stop}
 use Rattle.zk_value.specs.declared.code.Code.{Code}
 use Rattle.zk_machine.specs.Lowered.{lowered}
-use Rattle.zk_top.specs.Lowering.{code_or_ending}
+use Rattle.zk_top.specs.Lowering.{code_found}
 use Rattle.zk_top.specs.Outcome.{Outcome, Report, over_capture, opened, loaded, run_report, running}
 use Rattle.zk_top.specs.Run.{IsFront, DoesPart, Finds, Fulfils, BreaksOff}
 use Rattle.zk_top.proofs.Doing.{front_none, front_all, front_trans, front_behind, cause_since, does_both, does_both_all}
@@ -20,12 +22,12 @@ pub record SameBut (script : List ℕ) (inner outer : Outcome) : Type 0 where
   pub complained : inner.complained ≡ outer.complained
   pub asked : script ∷ inner.asked ≡ outer.asked
 
-same_over : (report : Capture → Report) (script file : List ℕ) (found : Result Capture Ending) → SameBut script (over_capture report (file ∷ []) found) (over_capture report (script ∷ file ∷ []) found)
-same_over report script file (Ok capture) = record { ending = refl; said = refl; complained = refl; asked = refl }
-same_over report script file (Err e) = record { ending = refl; said = refl; complained = refl; asked = refl }
+same_over : (report : Capture → Report) (script file : List ℕ) (found : Found Capture) → SameBut script (over_capture report (file ∷ []) found) (over_capture report (script ∷ file ∷ []) found)
+same_over report script file (Accepted capture) = record { ending = refl; said = refl; complained = refl; asked = refl }
+same_over report script file (Refused e) = record { ending = refl; said = refl; complained = refl; asked = refl }
 
-pub same_playing : (file script : List ℕ) (program : Program) (inputs : Files) → SameBut script (over_capture (run_report file program) (file ∷ []) (opened file (inputs file))) (running file script (Ok program) inputs)
-same_playing file script program inputs = same_over (run_report file program) script file (opened file (inputs file))
+pub same_run : (file script : List ℕ) (program : Program) (inputs : Files) → SameBut script (over_capture (run_report file program) (file ∷ []) (opened file (inputs file))) (running file script (Accepted program) inputs)
+same_run file script program inputs = same_over (run_report file program) script file (opened file (inputs file))
 
 -- the inputs that are told stay
 told_still : (old mid : Outside) (inputs : Files) → mid.inputs ≡ old.inputs → old.inputs ≡ Some inputs → mid.inputs ≡ Some inputs
@@ -34,29 +36,29 @@ told_still old mid inputs stay told = stay ∙ told
 risen_before : (a b c : ℕ) → a ≤ b → HasRisen b c → HasRisen a c
 risen_before a b c le risen = record { kept = omega (arith, risen.kept); risen = omega (arith, risen.kept, risen.risen) }
 
--- the program was played
-pub played : (file script : List ℕ) (program : Program) (old mid : Outside) (e : Ending) (new : Outside) → Finds script (loaded script) old (Ok program) mid
+-- the program ran over the capture
+pub fulfilled_run : (file script : List ℕ) (program : Program) (old mid : Outside) (e : Ending) (new : Outside) → Finds script (loaded script) old (Accepted program) mid
     → Fulfils (λ inputs. over_capture (run_report file program) (file ∷ []) (opened file (inputs file))) [] mid e new
     → Fulfils (λ inputs. running file script (loaded script (inputs script)) inputs) [] old e new
-played file script program old mid e new found plays = record {
-  names = script ∷ plays.names;
-  said = plays.said;
-  does = does_both_all (script ∷ []) plays.names [] plays.said [] [] old mid new found.does plays.does;
-  whole = plays.whole;
-  absent = λ name same. risen_before old.absences mid.absences new.absences found.does.does.absences (plays.absent name same);
-  ends = λ inputs t. plays.ends inputs (told_still old mid inputs found.does.does.inputs_stay t)
-      ∙ ((same_playing file script program inputs).ending ∙ ap (λ p. (running file script p inputs).ending) (found.told inputs t));
-  names_are = λ inputs t. ap (λ names. script ∷ names) (plays.names_are inputs (told_still old mid inputs found.does.does.inputs_stay t))
-      ∙ ((same_playing file script program inputs).asked ∙ ap (λ p. (running file script p inputs).asked) (found.told inputs t));
-  said_is = λ inputs t. plays.said_is inputs (told_still old mid inputs found.does.does.inputs_stay t)
-      ∙ ((same_playing file script program inputs).said ∙ ap (λ p. (running file script p inputs).said) (found.told inputs t));
+fulfilled_run file script program old mid e new found ran = record {
+  names = script ∷ ran.names;
+  said = ran.said;
+  does = does_both_all (script ∷ []) ran.names [] ran.said [] [] old mid new found.does ran.does;
+  whole = ran.whole;
+  absent = λ name same. risen_before old.absences mid.absences new.absences found.does.does.absences (ran.absent name same);
+  ends = λ inputs t. ran.ends inputs (told_still old mid inputs found.does.does.inputs_stay t)
+      ∙ ((same_run file script program inputs).ending ∙ ap (λ p. (running file script p inputs).ending) (found.told inputs t));
+  names_are = λ inputs t. ap (λ names. script ∷ names) (ran.names_are inputs (told_still old mid inputs found.does.does.inputs_stay t))
+      ∙ ((same_run file script program inputs).asked ∙ ap (λ p. (running file script p inputs).asked) (found.told inputs t));
+  said_is = λ inputs t. ran.said_is inputs (told_still old mid inputs found.does.does.inputs_stay t)
+      ∙ ((same_run file script program inputs).said ∙ ap (λ p. (running file script p inputs).said) (found.told inputs t));
 }
 
--- it was stopped
-pub played_part : (file script : List ℕ) (program : Program) (old mid : Outside) (stop : Stop) (new : Outside) → Finds script (loaded script) old (Ok program) mid
+-- its run was stopped
+pub stopped_run : (file script : List ℕ) (program : Program) (old mid : Outside) (stop : Stop) (new : Outside) → Finds script (loaded script) old (Accepted program) mid
     → BreaksOff (λ inputs. over_capture (run_report file program) (file ∷ []) (opened file (inputs file))) mid stop new
     → BreaksOff (λ inputs. running file script (loaded script (inputs script)) inputs) old stop new
-played_part file script program old mid stop new found part = record {
+stopped_run file script program old mid stop new found part = record {
   names = script ∷ part.names;
   said = part.said;
   complained = part.complained;
@@ -65,33 +67,33 @@ played_part file script program old mid stop new found part = record {
   names_front = λ inputs t.
       let inside = part.names_front inputs (told_still old mid inputs found.does.does.inputs_stay t) in
       subst (λ names. IsFront (script ∷ part.names) names)
-      ((same_playing file script program inputs).asked ∙ ap (λ p. (running file script p inputs).asked) (found.told inputs t))
+      ((same_run file script program inputs).asked ∙ ap (λ p. (running file script p inputs).asked) (found.told inputs t))
       (front_behind (script ∷ []) part.names (over_capture (run_report file program) (file ∷ []) (opened file (inputs file))).asked inside);
   said_front = λ inputs t. subst (λ said. IsFront part.said said)
-      ((same_playing file script program inputs).said ∙ ap (λ p. (running file script p inputs).said) (found.told inputs t))
+      ((same_run file script program inputs).said ∙ ap (λ p. (running file script p inputs).said) (found.told inputs t))
       (part.said_front inputs (told_still old mid inputs found.does.does.inputs_stay t));
   complained_front = λ inputs t. subst (λ said. IsFront part.complained said)
-      ((same_playing file script program inputs).complained ∙ ap (λ p. (running file script p inputs).complained) (found.told inputs t))
+      ((same_run file script program inputs).complained ∙ ap (λ p. (running file script p inputs).complained) (found.told inputs t))
       (part.complained_front inputs (told_still old mid inputs found.does.does.inputs_stay t));
 }
 
-asked_file : (program : Program) (file : List ℕ) (found : Result Capture Ending) → (over_capture (run_report file program) (file ∷ []) found).asked ≡ file ∷ []
-asked_file program file (Ok capture) = refl
-asked_file program file (Err e) = refl
+asked_file : (program : Program) (file : List ℕ) (found : Found Capture) → (over_capture (run_report file program) (file ∷ []) found).asked ≡ file ∷ []
+asked_file program file (Accepted capture) = refl
+asked_file program file (Refused e) = refl
 
-asked_first : (file script : List ℕ) (found : Result Program Ending) (inputs : Files) → IsFront (script ∷ []) (running file script found inputs).asked
-asked_first file script (Ok program) inputs = record { rest = file ∷ []; joined = sym (same_playing file script program inputs).asked ∙ ap (λ names. script ∷ names) (asked_file program file (opened file (inputs file))) }
-asked_first file script (Err e) inputs = front_all (script ∷ [])
+asked_first : (file script : List ℕ) (found : Found Program) (inputs : Files) → IsFront (script ∷ []) (running file script found inputs).asked
+asked_first file script (Accepted program) inputs = record { rest = file ∷ []; joined = sym (same_run file script program inputs).asked ∙ ap (λ names. script ∷ names) (asked_file program file (opened file (inputs file))) }
+asked_first file script (Refused e) inputs = front_all (script ∷ [])
 
 -- there is no program
-pub not_played : (file script : List ℕ) (old : Outside) (e : Ending) (new : Outside) → Finds script (loaded script) old (Err e) new
+pub refused_script : (file script : List ℕ) (old : Outside) (e : Ending) (new : Outside) → Finds script (loaded script) old (Refused e) new
     → Fulfils (λ inputs. running file script (loaded script (inputs script)) inputs) [] old e new
-not_played file script old e new found = record {
+refused_script file script old e new found = record {
   names = script ∷ [];
   said = [];
   does = found.does;
-  whole = whole_refusal e found.refusal;
-  absent = λ name same. found.absent name (ap Err same);
+  whole = whole_refusal e (found.refusal e refl);
+  absent = λ name same. found.absent name (ap Refused same);
   ends = λ inputs t. ap (λ p. (running file script p inputs).ending) (found.told inputs t);
   names_are = λ inputs t. ap (λ p. (running file script p inputs).asked) (found.told inputs t);
   said_is = λ inputs t. ap (λ p. (running file script p inputs).said) (found.told inputs t);
@@ -115,6 +117,11 @@ stopped_script file script old stop new part = record {
 }
 
 -- the program that a code was made from
-pub meant_by : (meant : Result Program Ending) (code : Code) → Ok code ≡ code_or_ending meant → (program : Program) × (meant ≡ Ok program) × (code ≡ lowered program)
-meant_by (Ok program) code is = (program, refl, cc)
-meant_by (Err e) code is = absurd (let never : ⊥ = cc in never)
+pub meant_by : (meant : Found Program) (code : Code) → Accepted code ≡ code_found meant → (program : Program) × (meant ≡ Accepted program) × (code ≡ lowered program)
+meant_by (Accepted program) code is = (program, refl, cc)
+meant_by (Refused e) code is = absurd (let never : ⊥ = cc in never)
+
+-- there is no code where there is no program
+pub refused_by : (meant : Found Program) (e : Ending) → Refused e ≡ code_found meant → meant ≡ Refused e
+refused_by (Accepted program) e is = absurd (let never : ⊥ = cc in never)
+refused_by (Refused why) e is = cc

@@ -14,12 +14,12 @@ use Rattle.zk_typed.specs.World.{World, Queued, queued, first_world, at_time, wi
 use Rattle.zk_top.specs.Item.{Item, What, Seen, items_of}
 use Rattle.zk_top.specs.Named.{named}
 use Rattle.zk_top.specs.Outcome.{end_of_capture, end_of_run, run_report}
-use Rattle.zk_top.specs.Playing.{after_item}
-use Rattle.zk_top.specs.Replay.{budget, event_of, items_for, played, printed, text_of, turn_of}
+use Rattle.zk_top.specs.Replay.{after_item}
+use Rattle.zk_top.specs.Printed.{budget, event_of, items_for, progress_of, printed, with_line_ends, turn_of}
 use Rattle.zk_top.specs.Run.{IsFront}
 use Rattle.zk_top.proofs.Doing.{front_trans}
 use Rattle.zk_top.proofs.Growth.{bodies_add, text_front}
-use Rattle.zk_top.proofs.PlayingLemmas.{item_adds, items_add}
+use Rattle.zk_top.proofs.ReplayLemmas.{item_adds, items_add}
 
 -- The queue --------------------------------------------------------------------------------------------------------
 
@@ -106,29 +106,29 @@ run_with program (handler ∷ handlers) packets is =
     ∙ ap (ended program budget (now packets)) (turns_are program (begun_world program) (items_of packets) (begun_none program))
     ∙ ended_is program (now packets) (over_world program packets) (over_none program packets)
 
-run_is : (program : Program) (packets : List Packet) → played program packets ≡ Goes (whole_run program packets) 999_998
+run_is : (program : Program) (packets : List Packet) → progress_of program packets ≡ Goes (whole_run program packets) 999_998
 run_is program packets = run_with program (handlers_of program packet_seen) packets refl
 
 -- What comes of it -------------------------------------------------------------------------------------------------
 
-pub whole_printed : (program : Program) (packets : List Packet) → text_of (whole_run program packets).lines ≡ printed program packets
-whole_printed program packets = ap (λ (p : Progress). text_of (world_in p).lines) (sym (run_is program packets))
+pub whole_printed : (program : Program) (packets : List Packet) → with_line_ends (whole_run program packets).lines ≡ printed program packets
+whole_printed program packets = ap (λ (p : Progress). with_line_ends (world_in p).lines) (sym (run_is program packets))
 
 pub ends_with_capture : (file : List ℕ) (program : Program) (capture : Capture) → (run_report file program capture).ending ≡ end_of_capture file capture.ending
 ends_with_capture file program capture = ap (end_of_run file capture.ending) (run_is program capture.packets)
 
 -- the lines so far are a front of those in the end
-pub replayed_front : (program : Program) (packets : List Packet) → IsFront (text_of (over_world program packets).lines) (text_of (whole_run program packets).lines)
+pub replayed_front : (program : Program) (packets : List Packet) → IsFront (with_line_ends (over_world program packets).lines) (with_line_ends (whole_run program packets).lines)
 unfolding whole_run
 replayed_front program packets =
     let over : World = over_world program packets in
     text_front over.lines (whole_run program packets).lines (bodies_add [] budget (at_end (now packets) over) (handlers_of program zeek_done)).front
 
-pub begun_front : (program : Program) (packets : List Packet) → IsFront (text_of (begun_world program).lines) (text_of (whole_run program packets).lines)
+pub begun_front : (program : Program) (packets : List Packet) → IsFront (with_line_ends (begun_world program).lines) (with_line_ends (whole_run program packets).lines)
 begun_front program packets =
     let begins : World = begun_world program in
     let over : World = over_world program packets in
-    front_trans (text_of begins.lines) (text_of over.lines) (text_of (whole_run program packets).lines)
+    front_trans (with_line_ends begins.lines) (with_line_ends over.lines) (with_line_ends (whole_run program packets).lines)
     (text_front begins.lines over.lines (items_add (handlers_of program packet_seen) begins (items_of packets)).front)
     (replayed_front program packets)
 

@@ -4,7 +4,7 @@ use Rattle.zk_typed.specs.declared.program.Program.{Program}
 use Rattle.zk_typed.specs.Run.{handlers_of}
 use Rattle.zk_typed.specs.Typed.{zeek_init, zeek_done, packet_seen}
 use Rattle.zk_value.specs.declared.code.Code.{Code}
-use Rattle.zk_top.specs.declared.playing.Handlers.{Handlers}
+use Rattle.zk_top.specs.declared.replay.Handlers.{Handlers}
 use Rattle.zk_top.specs.Named.{named, AreIn}
 
 -- they are those of the program

@@ -4,9 +4,9 @@ pub mod Line
 pub mod Tokens
 pub mod Script
 pub mod Lowering
-pub mod Replay
+pub mod Printed
 pub mod Named
-pub mod Playing
+pub mod Replay
 pub mod Handlers
 pub mod Complaint
 pub mod Outcome

@@ -11,11 +11,13 @@ use Rattle.zk_pcap.specs.CaptureFault.{place_of}
 use Rattle.zk_pcap.specs.Capture.{capture_of}
 use Rattle.zk_typed.specs.declared.program.Program.{Program}
 use Rattle.zk_typed.specs.Run.{Progress, Goes, Floods}
+use Rattle.zk_top.specs.declared.found.Found.{Found}
+use Rattle.zk_top.specs.declared.found.Found.TheVariants.{Accepted, Refused}
 use Rattle.zk_top.specs.Command.{Command, ListItems, RunScript, understand}
 use Rattle.zk_top.specs.Complaint.{complaint_of}
 use Rattle.zk_top.specs.Item.{items_of}
 use Rattle.zk_top.specs.Line.{lines_of}
-use Rattle.zk_top.specs.Replay.{played, printed}
+use Rattle.zk_top.specs.Printed.{progress_of, printed}
 use Rattle.zk_top.specs.Script.{Refusal, script_of}
 
 pub record Outcome : Type 0 where
@@ -54,23 +56,23 @@ end_of_run file ending (Goes world left) = end_of_capture file ending
 end_of_run file ending (Floods world) = Flood world.time
 
 -- the capture that was read from a file, or how it ends for the fault in it
-abbrev pub judged : List ℕ → Result Capture CaptureFault → Result Capture Ending
-judged file (Err fault) = Err (CaptureRefused file (place_of fault))
-judged file (Ok capture) = Ok capture
+abbrev pub judged : List ℕ → Result Capture CaptureFault → Found Capture
+judged file (Err fault) = Refused (CaptureRefused file (place_of fault))
+judged file (Ok capture) = Accepted capture
 
 -- the capture in a file with these bytes, or how it ends where there is none
-abbrev pub opened : List ℕ → Option (List ℕ) → Result Capture Ending
-opened file None = Err (NoInput file)
+abbrev pub opened : List ℕ → Option (List ℕ) → Found Capture
+opened file None = Refused (NoInput file)
 opened file (Some bytes) = judged file (capture_of bytes)
 
 -- the program that was read from a file, or how it ends for the refusal of it
-abbrev pub accepted : List ℕ → Result Program Refusal → Result Program Ending
-accepted file (Err refusal) = Err (ScriptRefused file refusal.place refusal.kind)
-accepted file (Ok program) = Ok program
+abbrev pub accepted : List ℕ → Result Program Refusal → Found Program
+accepted file (Err refusal) = Refused (ScriptRefused file refusal.place refusal.kind)
+accepted file (Ok program) = Accepted program
 
 -- the program in a file with this text, or how it ends where there is none
-abbrev pub loaded : List ℕ → Option (List ℕ) → Result Program Ending
-loaded file None = Err (NoInput file)
+abbrev pub loaded : List ℕ → Option (List ℕ) → Found Program
+loaded file None = Refused (NoInput file)
 loaded file (Some text) = accepted file (script_of text)
 
 -- what a command reports over a capture that it reads: how it ends, and what it says
@@ -79,9 +81,9 @@ pub record Report : Type 0 where
   pub said : List ℕ
 
 -- the report over a capture, or none, after these names were asked for
-abbrev pub over_capture : (Capture → Report) → List (List ℕ) → Result Capture Ending → Outcome
-over_capture report asked (Err ending) = ending_so ending [] asked
-over_capture report asked (Ok capture) = ending_so (report capture).ending (report capture).said asked
+abbrev pub over_capture : (Capture → Report) → List (List ℕ) → Found Capture → Outcome
+over_capture report asked (Refused ending) = ending_so ending [] asked
+over_capture report asked (Accepted capture) = ending_so (report capture).ending (report capture).said asked
 
 -- what a listing reports over a capture
 abbrev pub list_report : List ℕ → Capture → Report
@@ -94,18 +96,14 @@ listing file found = over_capture (list_report file) (file ∷ []) (opened file 
 -- what a run of a program reports over a capture
 abbrev pub run_report : List ℕ → Program → Capture → Report
 run_report file program capture = record {
-  ending = end_of_run file capture.ending (played program capture.packets);
+  ending = end_of_run file capture.ending (progress_of program capture.packets);
   said = printed program capture.packets;
 }
 
--- a run of a program over a file, whose script was asked for
-abbrev pub replay : List ℕ → List ℕ → Program → Option (List ℕ) → Outcome
-replay file script program found = over_capture (run_report file program) (script ∷ file ∷ []) (opened file found)
-
 -- A run of a script over a capture. The capture is asked for once the script is accepted.
-abbrev pub running : List ℕ → List ℕ → Result Program Ending → Files → Outcome
-running file script (Err ending) inputs = ending_so ending [] (script ∷ [])
-running file script (Ok program) inputs = replay file script program (inputs file)
+abbrev pub running : List ℕ → List ℕ → Found Program → Files → Outcome
+running file script (Refused ending) inputs = ending_so ending [] (script ∷ [])
+running file script (Accepted program) inputs = over_capture (run_report file program) (script ∷ file ∷ []) (opened file (inputs file))
 
 -- what the words ask for
 abbrev pub outcome_of : Result Command ℕ → Files → Outcome

@@ -1,41 +1,37 @@
--- How far a program comes over a capture, and what it prints.
-use Rattle.std.specs.Prelude.{ℕ, List, [], ◌∷◌, ◌++◌, map}
-use Rattle.std.specs.List.{flat_map}
-use Rattle.zk_pcap.specs.declared.records.Packet.{Packet}
-use Rattle.zk_pcap.specs.NetworkTime.{now}
-use Rattle.zk_tree.specs.Value.{Count, Time}
+-- How far a replay of a capture to a program has come.
+use Rattle.std.specs.Prelude.{◌≡◌, ℕ, List, [], ◌++◌}
+use Rattle.zk_base.specs.Shelf.{Outside}
+use Rattle.zk_machine.specs.Standing.{StandsFor}
 use Rattle.zk_typed.specs.declared.program.Handler.{Handler}
 use Rattle.zk_typed.specs.declared.program.Program.{Program}
-use Rattle.zk_typed.specs.Typed.{packet_seen}
-use Rattle.zk_typed.specs.Run.{Progress, world_in, Turn, handlers_of, run}
-use Rattle.zk_typed.specs.World.{Queued, queued}
-use Rattle.zk_top.specs.Item.{Item, What, Seen, items_of}
-use Rattle.zk_top.specs.Line.{line_end}
+use Rattle.zk_typed.specs.Run.{bodies}
+use Rattle.zk_typed.specs.World.{World, at_time}
+use Rattle.zk_top.specs.declared.replay.Replay.{Replay}
+use Rattle.zk_top.specs.declared.stop.Stop.{Stop}
+use Rattle.zk_top.specs.Item.{Item}
+use Rattle.zk_top.specs.Printed.{budget, event_of, with_line_ends}
+use Rattle.zk_top.specs.Run.{DoesAll, DoesPart}
 
--- the units for one body
-abbrev pub budget : ℕ
-budget = 1_000_000
+-- The program has come to this world, and these of its lines were taken: their text is what was said
+-- since the first outside, and then the piece that waits.
+pub record HasCome (first : Outside) (program : Program) (taken : List (List ℕ)) (world : World) (replay : Replay) (now : Outside) : Type 0 where
+  pub stands : StandsFor replay.machine program taken world
+  pub said : List ℕ
+  pub does : DoesAll [] said [] first now
+  pub joined : with_line_ends taken ≡ said ++ replay.piece.items
 
--- the event of what is seen
-abbrev pub event_of : What → Queued
-event_of (Seen own captured original) = queued packet_seen (Time own ∷ Count captured ∷ Count original ∷ [])
+-- From each world that a program has come to, with all of its lines, it goes on to the one that `after` says.
+abbrev pub GoesTo : (Program → World → World) → Replay → Outside → Replay → Outside → Type 0
+GoesTo after old before new now =
+    (first : Outside) (program : Program) (world : World) → HasCome first program world.lines world old before
+    → HasCome first program (after program world).lines (after program world) new now
 
-abbrev pub turn_of : Item → Turn
-turn_of item = record { moment = item.moment; events = event_of item.what ∷ [] }
+-- It is stopped on the way there, and a front of the lines was said.
+abbrev pub StopsBefore : (Program → World → World) → Replay → Outside → Stop → Outside → Type 0
+StopsBefore after old before stop now =
+    (first : Outside) (program : Program) (world : World) → HasCome first program world.lines world old before
+    → DoesPart [] (with_line_ends (after program world).lines) [] first stop now
 
--- lines, each with its end
-abbrev pub text_of : List (List ℕ) → List ℕ
-text_of lines = flat_map (λ line. line ++ line_end) lines
-
--- The items of a run whose program has these handlers of `packet_seen`: without one no packet is asked for.
-abbrev pub items_for : List Handler → List Packet → List Item
-items_for [] packets = []
-items_for (handler ∷ handlers) packets = items_of packets
-
--- how far a program comes over these packets
-abbrev pub played : Program → List Packet → Progress
-played program packets = run program budget (map turn_of (items_for (handlers_of program packet_seen) packets)) (now packets)
-
--- the lines that it prints
-abbrev pub printed : Program → List Packet → List ℕ
-printed program packets = text_of (world_in (played program packets)).lines
+-- the world after the handlers of an item
+abbrev pub after_item : List Handler → World → Item → World
+after_item handlers world item = bodies (event_of item.what).args budget (at_time item.moment world) handlers

@@ -1,9 +1,11 @@
 -- What a run leaves of the outside, beside what was there before.
-use Rattle.std.specs.Prelude.{◌≡◌, ◌⊎◌, ◌<◌, ◌≤◌, ℕ, List, [], ◌∷◌, ◌++◌, length, Option, Some, None, Result, Err, IfErr}
+use Rattle.std.specs.Prelude.{◌≡◌, ◌⊎◌, ◌<◌, ◌≤◌, ℕ, List, [], ◌∷◌, ◌++◌, length, Option, Some, None}
 use Rattle.std.specs.Option.{option_map}
 use Rattle.zk_base.specs.declared.endings.Ending.{Ending}
 use Rattle.zk_base.specs.declared.endings.Ending.TheVariants.{Done, Usage, ScriptRefused, NoInput, CaptureRefused, CutShort, ReadFault, WriteFault, NoMemory, Flood}
 use Rattle.zk_base.specs.Shelf.{Files, Outside, HasRisen, appended}
+use Rattle.zk_top.specs.declared.found.Found.{Found}
+use Rattle.zk_top.specs.declared.found.Found.TheVariants.{Refused}
 use Rattle.zk_top.specs.declared.stop.Stop.{Stop}
 use Rattle.zk_top.specs.declared.stop.Stop.TheVariants as stop
 use Rattle.zk_top.specs.Outcome.{Outcome}
@@ -149,11 +151,11 @@ IsReadOf most (Some whole) None = ⊥
 IsReadOf most (Some whole) (Some bytes) = IsReadBeyond most whole bytes
 
 -- What is found in the input of a name, which is started and read. Where inputs are told, judge says what it is.
-pub record Finds {X : Type 0} (name : List ℕ) (judge : Option (List ℕ) → Result X Ending) (old : Outside) (found : Result X Ending) (new : Outside) : Type 0 where
+pub record Finds {X : Type 0} (name : List ℕ) (judge : Option (List ℕ) → Found X) (old : Outside) (found : Found X) (new : Outside) : Type 0 where
   pub does : DoesAll (name ∷ []) [] [] old new
   pub told : (inputs : Files) → old.inputs ≡ Some inputs → found ≡ judge (inputs name)
-  pub refusal : IfErr found IsRefusal
-  pub absent : (absentee : List ℕ) → found ≡ Err (NoInput absentee) → HasRisen old.absences new.absences
+  pub refusal : (ending : Ending) → found ≡ Refused ending → IsRefusal ending
+  pub absent : (absentee : List ℕ) → found ≡ Refused (NoInput absentee) → HasRisen old.absences new.absences
 
 -- Of a piece that waits to be said, a front is said and the rest waits on.
 pub record HandsOver (old : Outside) (piece : List ℕ) (new : Outside) (rest : List ℕ) : Type 0 where

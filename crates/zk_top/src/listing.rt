@@ -4,6 +4,7 @@ ghost use Rattle.zk_top.specs.Line.{lines_of};
 ghost use Rattle.zk_top.specs.Outcome.{listing};
 ghost use Rattle.zk_top.specs.Run.{DoesAll, DoesPart, Fulfils, BreaksOff, IsOfCommand};
 
+use crate::found::Found;
 use crate::line::push_packet_line;
 use crate::opening::{end_of, later, read_capture};
 use crate::output::{PIECE, make_room, say};
@@ -34,11 +35,11 @@ pub fn list<S: Shelf>(alloc: Global, shelf: &mut S, file: &[u8]) -> Result<Endin
     ensures stopped { IfErr result (λ stop. BreaksOff (λ inputs. listing file.now (inputs file.now)) (S.outside shelf.old) stop (S.outside shelf.new)) }
 {
     match read_capture(alloc, shelf, file)? {
-        Ok(capture) => {
+        Found::Accepted(capture) => {
             let ending = end_of(alloc, file, capture.ending)?;
             say_packets(alloc, shelf, capture.packets.as_slice())?;
             Ok(ending)
         }
-        Err(ending) => Ok(ending),
+        Found::Refused(ending) => Ok(ending),
     }
 }

@@ -4,6 +4,7 @@ ghost use Rattle.zk_pcap.specs.Capture.{capture_of};
 ghost use Rattle.zk_top.specs.Outcome.{opened, judged, end_of_capture};
 ghost use Rattle.zk_top.specs.Run.{DoesPart, Finds};
 
+use crate::found::Found;
 use crate::reading::read_input;
 use crate::stop::Stop;
 use std::alloc::Global;
@@ -18,25 +19,25 @@ pub fn read_capture<S: Shelf>(
     alloc: Global,
     shelf: &mut S,
     file: &[u8],
-) -> Result<Result<Capture, Ending>, Stop>
+) -> Result<Found<Capture>, Stop>
     ensures found { IfOk result (λ capture. Finds file.now (opened file.now) (S.outside shelf.old) capture (S.outside shelf.new)) }
     ensures stopped { IfErr result (λ stop. DoesPart (file.now ∷ []) [] [] (S.outside shelf.old) stop (S.outside shelf.new)) }
 {
     let name = Bytes::copy_of(alloc, file)?;
     match read_input(alloc, shelf, file, CAPTURE_MAX)? {
         Some(bytes) => Ok(judge_capture(alloc, name, &bytes)?),
-        None => Ok(Err(Ending::NoInput { name })),
+        None => Ok(Found::Refused(Ending::NoInput { name })),
     }
 }
 
 /// The capture that the bytes of a file are, or how a run ends where they are none.
-fn judge_capture(alloc: Global, name: Bytes, bytes: &Bytes) -> Result<Result<Capture, Ending>, Mem>
+fn judge_capture(alloc: Global, name: Bytes, bytes: &Bytes) -> Result<Found<Capture>, Mem>
     ensures { IfOk result (λ capture. capture ≡ judged name (capture_of bytes.now)) }
 {
     match packets(alloc, bytes.as_slice()) {
-        Ok(capture) => Ok(Ok(capture)),
+        Ok(capture) => Ok(Found::Accepted(capture)),
         Err(CaptureFault::NoMemory) => Err(Mem),
-        Err(fault) => Ok(Err(Ending::CaptureRefused {
+        Err(fault) => Ok(Found::Refused(Ending::CaptureRefused {
             name,
             place: fault.place(),
         })),

@@ -4,8 +4,9 @@ ghost use Rattle.zk_typed.specs.declared.program.Program.{Program};
 ghost use Rattle.zk_top.specs.Outcome.{over_capture, opened, loaded, run_report, running};
 ghost use Rattle.zk_top.specs.Run.{Fulfils, BreaksOff, IsOfCommand};
 
+use crate::found::Found;
 use crate::opening::{end_of, read_capture};
-use crate::playing::play;
+use crate::replay::replay_packets;
 use crate::script::read_script;
 use crate::stop::Stop;
 use std::alloc::Global;
@@ -24,13 +25,13 @@ pub fn run_script<S: Shelf>(
     ensures stopped { IfErr result (λ stop. BreaksOff (λ inputs. running file.now script.now (loaded script.now (inputs script.now)) inputs) (S.outside shelf.old) stop (S.outside shelf.new)) }
 {
     match read_script(alloc, shelf, script)? {
-        Ok(code) => replay(alloc, shelf, file, code),
-        Err(ending) => Ok(ending),
+        Found::Accepted(code) => run_code(alloc, shelf, file, code),
+        Found::Refused(ending) => Ok(ending),
     }
 }
 
 /// Runs a program over the capture in a file.
-fn replay<S: Shelf>(alloc: Global, shelf: &mut S, file: &[u8], code: Code) -> Result<Ending, Stop>
+fn run_code<S: Shelf>(alloc: Global, shelf: &mut S, file: &[u8], code: Code) -> Result<Ending, Stop>
     ensures done { IfOk result (λ ending. (program : Program) → code ≡ lowered program
         → Fulfils (λ inputs. over_capture (run_report file.now program) (file.now ∷ []) (opened file.now (inputs file.now))) [] (S.outside shelf.old) ending (S.outside shelf.new)) }
     ensures command { IfOk result IsOfCommand }
@@ -38,11 +39,11 @@ fn replay<S: Shelf>(alloc: Global, shelf: &mut S, file: &[u8], code: Code) -> Re
         → BreaksOff (λ inputs. over_capture (run_report file.now program) (file.now ∷ []) (opened file.now (inputs file.now))) (S.outside shelf.old) stop (S.outside shelf.new)) }
 {
     match read_capture(alloc, shelf, file)? {
-        Ok(capture) => {
+        Found::Accepted(capture) => {
             let ending = end_of(alloc, file, capture.ending)?;
-            play(alloc, shelf, code, capture.packets.as_slice())?;
+            replay_packets(alloc, shelf, code, capture.packets.as_slice())?;
             Ok(ending)
         }
-        Err(ending) => Ok(ending),
+        Found::Refused(ending) => Ok(ending),
     }
 }

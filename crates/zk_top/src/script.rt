@@ -1,11 +1,10 @@
-ghost use Rattle.std.specs.Prelude.{◌≡◌, Result as Either, [], ◌∷◌, IfOk, IfErr};
-ghost use Rattle.zk_base.specs.declared.endings.Ending.{Ending as Ends};
-ghost use Rattle.zk_typed.specs.declared.program.Program.{Program as Typed};
-ghost use Rattle.zk_top.specs.Lowering.{code_or_ending};
-ghost use Rattle.zk_top.specs.Outcome.{loaded, accepted};
-ghost use Rattle.zk_top.specs.Run.{DoesPart, Finds};
+ghost use Rattle.std.specs.Prelude.{◌≡◌, [], ◌∷◌, IfOk, IfErr};
+ghost use Rattle.zk_top.specs.Lowering.{FindsCode, code_found};
+ghost use Rattle.zk_top.specs.Outcome.{accepted};
+ghost use Rattle.zk_top.specs.Run.{DoesPart};
 ghost use Rattle.zk_top.specs.Script.{script_of, place_of_token};
 
+use crate::found::Found;
 use crate::lowering::code_of;
 use crate::reading::read_input;
 use crate::splitter::tokens;
@@ -21,28 +20,23 @@ use zk_value::Code;
 const SCRIPT_MAX: usize = 1_048_576;
 
 /// The code of the script in a file, or how a run ends where there is none.
-pub fn read_script<S: Shelf>(
-    alloc: Global,
-    shelf: &mut S,
-    file: &[u8],
-) -> Result<Result<Code, Ending>, Stop>
-    ensures found { IfOk result (λ code. (program : Either Typed Ends) × (code ≡ code_or_ending program)
-        × Finds file.now (loaded file.now) (S.outside shelf.old) program (S.outside shelf.new)) }
+pub fn read_script<S: Shelf>(alloc: Global, shelf: &mut S, file: &[u8]) -> Result<Found<Code>, Stop>
+    ensures found { IfOk result (λ code. FindsCode file.now (S.outside shelf.old) code (S.outside shelf.new)) }
     ensures stopped { IfErr result (λ stop. DoesPart (file.now ∷ []) [] [] (S.outside shelf.old) stop (S.outside shelf.new)) }
 {
     let name = Bytes::copy_of(alloc, file)?;
     match read_input(alloc, shelf, file, SCRIPT_MAX)? {
         Some(text) => Ok(compile(alloc, name, text.as_slice())?),
-        None => Ok(Err(Ending::NoInput { name })),
+        None => Ok(Found::Refused(Ending::NoInput { name })),
     }
 }
 
 /// The code of a text, or how a run ends where it is refused.
-fn compile(alloc: Global, name: Bytes, text: &[u8]) -> Result<Result<Code, Ending>, Mem>
-    ensures { IfOk result (λ code. code ≡ code_or_ending (accepted name (script_of text.now))) }
+fn compile(alloc: Global, name: Bytes, text: &[u8]) -> Result<Found<Code>, Mem>
+    ensures { IfOk result (λ code. code ≡ code_found (accepted name (script_of text.now))) }
 {
     if text.len() > SCRIPT_MAX {
-        return Ok(Err(Ending::ScriptRefused {
+        return Ok(Found::Refused(Ending::ScriptRefused {
             file: name,
             place: SCRIPT_MAX as u64,
             kind: ScriptKind::TooLarge,
@@ -52,9 +46,9 @@ fn compile(alloc: Global, name: Bytes, text: &[u8]) -> Result<Result<Code, Endin
     match parse(alloc, &tokens) {
         Ok(tree) => {
             let program = program_of(alloc, &tree)?;
-            Ok(Ok(code_of(alloc, &program)?))
+            Ok(Found::Accepted(code_of(alloc, &program)?))
         }
-        Err(ParseFault::NoTree { at }) => Ok(Err(Ending::ScriptRefused {
+        Err(ParseFault::NoTree { at }) => Ok(Found::Refused(Ending::ScriptRefused {
             file: name,
             place: place_of(&tokens, at),
             kind: ScriptKind::NoTree,

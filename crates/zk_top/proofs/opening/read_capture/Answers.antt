@@ -1,7 +1,8 @@
-use Rattle.std.proofs.Common.{[], ◌∷◌, Some, IfSome, refl, ap, subst, ◌∙◌, None, Err, IsNone, sym, ◌^◌, rules}
+use Rattle.std.proofs.Common.{[], ◌∷◌, Some, IfSome, refl, ap, subst, ◌∙◌, None, IsNone, sym, ◌^◌, rules}
 use Rattle.std.proofs.lemmas.Result.{err_from_is_err_and}
 use Rattle.zk_pcap.specs.Capture.{capture_of}
 use Rattle.zk_base.specs.declared.endings.Ending.TheVariants.{NoInput}
+use Rattle.zk_top.specs.declared.found.Found.TheVariants.{Refused}
 use Rattle.zk_top.specs.Outcome.{judged, opened}
 use Rattle.zk_top.specs.Run.{IsReadOf, Finds}
 use Rattle.zk_top.proofs.Doing.{out_of_memory}
@@ -33,5 +34,5 @@ returns-in-None-clause-found g c =
     let lacks : IfSome old.inputs (λ files. IsReadOf (2 ^ 40) (files file) None) =
     subst (λ found. IfSome old.inputs (λ files. IsReadOf (2 ^ 40) (files file) found)) c.in-None.is c.in_ok-bytes.ensures.bytes in
     let none : IsNone c.in_ok-bytes.field-0 = rw c.in-None.is (search rules) in
-    subst (λ name. Finds file (opened file) old (Err (NoInput name)) new) (sym c.in_ok-name.ensures)
+    subst (λ name. Finds file (opened file) old (Refused (NoInput name)) new) (sym c.in_ok-name.ensures)
     (found_no_capture file old new c.in_ok-bytes.ensures.read lacks (c.in_ok-bytes.ensures.absent none))

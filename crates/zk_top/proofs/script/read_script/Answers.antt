@@ -1,8 +1,9 @@
-use Rattle.std.proofs.Common.{◌≡◌, [], ◌∷◌, Err, Some, None, IfSome, IsNone, refl, ap, subst, ◌∙◌, rules}
+use Rattle.std.proofs.Common.{◌≡◌, [], ◌∷◌, Some, None, IfSome, IsNone, refl, ap, subst, ◌∙◌, rules}
 use Rattle.std.proofs.lemmas.Result.{err_from_is_err_and}
 use Rattle.zk_base.specs.declared.endings.Ending.TheVariants.{NoInput}
 use Rattle.zk_base.specs.Shelf.{HasRisen}
-use Rattle.zk_top.specs.Lowering.{code_or_ending}
+use Rattle.zk_top.specs.declared.found.Found.TheVariants.{Refused}
+use Rattle.zk_top.specs.Lowering.{code_found}
 use Rattle.zk_top.specs.Outcome.{accepted}
 use Rattle.zk_top.specs.Run.{IsReadOf}
 use Rattle.zk_top.specs.Script.{script_max, script_of}
@@ -25,7 +26,7 @@ returns-in-None-clause-found g c =
     subst (λ found. IfSome old.inputs (λ files. IsReadOf script_max (files file) found)) c.in-None.is c.in_ok-text.ensures.bytes in
     let none : IsNone c.in_ok-text.field-0 = rw c.in-None.is (search rules) in
     let risen : HasRisen old.absences new.absences = c.in_ok-text.ensures.absent none in
-    (Err (NoInput file), ap (λ name. Err (NoInput name)) c.in_ok-name.ensures, found_no_script file old new c.in_ok-text.ensures.read lacks risen)
+    (Refused (NoInput file), ap (λ name. Refused (NoInput name)) c.in_ok-name.ensures, found_no_script file old new c.in_ok-text.ensures.read lacks risen)
 
 pub returns-in_ok-compile-in-Some-clause-found : goal.returns-in_ok-compile-in-Some-clause-found
 returns-in_ok-compile-in-Some-clause-found g c =
@@ -35,8 +36,8 @@ returns-in_ok-compile-in-Some-clause-found g c =
     let text = c.in-Some.text in
     let holds : IfSome old.inputs (λ files. IsReadOf script_max (files file) (Some text)) =
     subst (λ found. IfSome old.inputs (λ files. IsReadOf script_max (files file) found)) c.in-Some.is c.in_ok-text.ensures.bytes in
-    let is : c.in_ok-compile-in-Some.field-0 ≡ code_or_ending (accepted file (script_of text)) =
+    let is : c.in_ok-compile-in-Some.field-0 ≡ code_found (accepted file (script_of text)) =
     c.in_ok-compile-in-Some.ensures
-    ∙ (ap (λ name. code_or_ending (accepted name (script_of c.as_slice.result.now))) c.in_ok-name.ensures
-    ∙ ap (λ t. code_or_ending (accepted file (script_of t))) c.as_slice.ensures) in
+    ∙ (ap (λ name. code_found (accepted name (script_of c.as_slice.result.now))) c.in_ok-name.ensures
+    ∙ ap (λ t. code_found (accepted file (script_of t))) c.as_slice.ensures) in
     (accepted file (script_of text), is, found_script file text old new c.in_ok-text.ensures.read holds)

@@ -5,8 +5,8 @@ use Rattle.zk_base.specs.declared.numbers.HandlerNo.{HandlerNo}
 use Rattle.zk_typed.specs.declared.program.Handler.{Handler}
 use Rattle.zk_value.specs.declared.code.HandlerCode.{HandlerCode}
 use Rattle.zk_top.proofs.Dispatching.{handler_at, one_found, one_passed}
-use Rattle.zk_top.proofs.playing.handlers_of.Goals as goal
-use Rattle.zk_top.proofs.playing.handlers_of.Goals.{then-eq+in_ok-handler_number+in_ok-push, else-eq}
+use Rattle.zk_top.proofs.replay.handlers_of.Goals as goal
+use Rattle.zk_top.proofs.replay.handlers_of.Goals.{then-eq+in_ok-handler_number+in_ok-push, else-eq}
 
 pub loop-n-preserved : goal.loop-n-preserved
 loop-n-preserved c =

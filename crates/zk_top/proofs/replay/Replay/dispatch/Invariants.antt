@@ -6,10 +6,10 @@ use Rattle.zk_typed.specs.Run.{bodies}
 use Rattle.zk_typed.specs.World.{World}
 use Rattle.zk_value.specs.Plain.{value_of}
 use Rattle.zk_top.specs.Named.{named}
-use Rattle.zk_top.specs.Playing.{HasCome}
-use Rattle.zk_top.specs.Replay.{budget}
-use Rattle.zk_top.proofs.PlayingLemmas.{IsLeft}
-use Rattle.zk_top.proofs.playing.Player.dispatch.Given as goal
+use Rattle.zk_top.specs.Replay.{HasCome}
+use Rattle.zk_top.specs.Printed.{budget}
+use Rattle.zk_top.proofs.ReplayLemmas.{IsLeft}
+use Rattle.zk_top.proofs.replay.Replay.dispatch.Given as goal
 
 -- what the handlers that are left do from here is what all of them do
 abbrev pub invariant-loop-handler : goal.invariant-loop-handler

@@ -4,7 +4,7 @@ use Rattle.zk_typed.specs.declared.program.Program.{Program}
 use Rattle.zk_typed.specs.Run.{handlers_of}
 use Rattle.zk_top.specs.Named.{AreIn}
 use Rattle.zk_top.specs.Named.{named}
-use Rattle.zk_top.proofs.playing.handlers_of.Given as goal
+use Rattle.zk_top.proofs.replay.handlers_of.Given as goal
 
 -- the handlers so far, and those among the rest
 abbrev pub invariant-loop-n : goal.invariant-loop-n

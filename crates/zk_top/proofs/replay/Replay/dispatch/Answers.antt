@@ -6,10 +6,10 @@ use Rattle.zk_typed.specs.Run.{bodies}
 use Rattle.zk_typed.specs.World.{World}
 use Rattle.zk_value.specs.Plain.{value_of}
 use Rattle.zk_top.specs.Named.{named}
-use Rattle.zk_top.specs.Playing.{HasCome}
-use Rattle.zk_top.specs.Replay.{budget}
-use Rattle.zk_top.proofs.PlayingLemmas.{stopped_within, IsLeft, left_front, left_more}
-use Rattle.zk_top.proofs.playing.Player.dispatch.Goals as goal
+use Rattle.zk_top.specs.Replay.{HasCome}
+use Rattle.zk_top.specs.Printed.{budget}
+use Rattle.zk_top.proofs.ReplayLemmas.{stopped_within, IsLeft, left_front, left_more}
+use Rattle.zk_top.proofs.replay.Replay.dispatch.Goals as goal
 
 pub loop-handler-preserved : goal.loop-handler-preserved
 loop-handler-preserved g c =

@@ -9,14 +9,14 @@ use Rattle.zk_typed.specs.World.{World, first_world, at_time, at_end}
 use Rattle.zk_top.specs.Handlers.{AreHandlers}
 use Rattle.zk_top.specs.Item.{items_of}
 use Rattle.zk_top.specs.Named.{named}
-use Rattle.zk_top.specs.Playing.{HasCome, after_item}
-use Rattle.zk_top.specs.Replay.{budget, text_of}
+use Rattle.zk_top.specs.Replay.{HasCome, after_item}
+use Rattle.zk_top.specs.Printed.{budget, with_line_ends}
 use Rattle.zk_top.specs.Run.{DoesAll, DoesPart}
 use Rattle.zk_top.proofs.Doing.{front_all}
-use Rattle.zk_top.proofs.PlayingLemmas.{stopped_within, stopped_in, at_world, part_at_world, at_the_end, all_said}
+use Rattle.zk_top.proofs.ReplayLemmas.{stopped_within, stopped_in, at_world, part_at_world, at_the_end, all_said}
 use Rattle.zk_top.proofs.WholeRun.{begun_world, over_world, whole_run, whole_printed, begun_front, replayed_front, begun_by, replayed_by, run_by}
-use Rattle.zk_top.proofs.playing.Player.run.Given
-use Rattle.zk_top.proofs.playing.Player.run.Goals as goal
+use Rattle.zk_top.proofs.replay.Replay.run.Given
+use Rattle.zk_top.proofs.replay.Replay.run.Goals as goal
 
 pub returns-in_err-dispatch-clause-stopped : goal.returns-in_err-dispatch-clause-stopped
 returns-in_err-dispatch-clause-stopped g c =
@@ -35,7 +35,7 @@ returns-in_err-dispatch-clause-stopped g c =
 pub returns-in_err-last-clause-stopped : goal.returns-in_err-last-clause-stopped
 returns-in_err-last-clause-stopped g c =
     let mid = g.S.Shelf.outside c.dispatch.new.shelf in
-    let new = g.S.Shelf.outside c.see_packets.new.shelf in
+    let new = g.S.Shelf.outside c.handle_packets.new.shelf in
     let stop = c.in_err-last.field-0.0 in
     let packets = c.args.packets.now in
     let init = c.deref.result.now in
@@ -56,7 +56,7 @@ returns-in_err-last-clause-stopped g c =
 pub returns-in_err-dispatch-2-clause-stopped : goal.returns-in_err-dispatch-2-clause-stopped
 returns-in_err-dispatch-2-clause-stopped g c =
     let first_mid = g.S.Shelf.outside c.dispatch.new.shelf in
-    let mid = g.S.Shelf.outside c.see_packets.new.shelf in
+    let mid = g.S.Shelf.outside c.handle_packets.new.shelf in
     let new = g.S.Shelf.outside c.dispatch-2.new.shelf in
     let stop = c.in_err-dispatch-2.field-0.0 in
     let packets = c.args.packets.now in
@@ -72,7 +72,7 @@ returns-in_err-dispatch-2-clause-stopped g c =
     let begins = at_world first program (bodies [] budget first_world (named init program)) (begun_world program) c.dispatch.new.self first_mid (begun_by program init is)
     (c.in_ok-dispatch.ensures.came first program first_world come) in
     let over : World = over_world program packets in
-    let replays = at_world first program (fold (after_item (named seen program)) (begun_world program) (items_of packets)) over c.see_packets.new.self mid (replayed_by program seen packets are_seen)
+    let replays = at_world first program (fold (after_item (named seen program)) (begun_world program) (items_of packets)) over c.handle_packets.new.self mid (replayed_by program seen packets are_seen)
     (c.in_ok-last.ensures.came first program (begun_world program) begins) in
     let timed : HasCome first program over.lines (at_end (network_time packets) over) c.set_time.new.self mid =
     at_the_end first program (network_time packets) over c.set_time.new.self mid
@@ -87,7 +87,7 @@ ended : (g : Given.Over) (c : goal.After-say g) (first : Outside) (program : Pro
     → HasCome first program (whole_run program c.args.packets.now).lines (whole_run program c.args.packets.now) c.dispatch-2.new.self (g.S.Shelf.outside c.dispatch-2.new.shelf)
 ended g c first program are come =
     let first_mid = g.S.Shelf.outside c.dispatch.new.shelf in
-    let mid = g.S.Shelf.outside c.see_packets.new.shelf in
+    let mid = g.S.Shelf.outside c.handle_packets.new.shelf in
     let last = g.S.Shelf.outside c.dispatch-2.new.shelf in
     let packets = c.args.packets.now in
     let init = c.deref.result.now in
@@ -99,7 +99,7 @@ ended g c first program are come =
     let begins = at_world first program (bodies [] budget first_world (named init program)) (begun_world program) c.dispatch.new.self first_mid (begun_by program init is)
     (c.in_ok-dispatch.ensures.came first program first_world come) in
     let over : World = over_world program packets in
-    let replays = at_world first program (fold (after_item (named seen program)) (begun_world program) (items_of packets)) over c.see_packets.new.self mid (replayed_by program seen packets are_seen)
+    let replays = at_world first program (fold (after_item (named seen program)) (begun_world program) (items_of packets)) over c.handle_packets.new.self mid (replayed_by program seen packets are_seen)
     (c.in_ok-last.ensures.came first program (begun_world program) begins) in
     let timed : HasCome first program over.lines (at_end (network_time packets) over) c.set_time.new.self mid =
     at_the_end first program (network_time packets) over c.set_time.new.self mid
@@ -126,6 +126,6 @@ returns-clause-stopped g c =
     IfErr-weaker c.say.result (λ stop. DoesPart [] c.deref-4.result.now [] last stop new) _ (λ stop part first program are come.
     let whole : World = whole_run program packets in
     subst (λ text. DoesPart [] text [] first stop new) (whole_printed program packets)
-    (stopped_in first program whole.lines whole c.dispatch-2.new.self last (text_of whole.lines) stop new (ended g c first program are come)
-    (front_all (text_of whole.lines)) (subst (λ piece. DoesPart [] piece [] last stop new) c.deref-4.ensures.value part)))
+    (stopped_in first program whole.lines whole c.dispatch-2.new.self last (with_line_ends whole.lines) stop new (ended g c first program are come)
+    (front_all (with_line_ends whole.lines)) (subst (λ piece. DoesPart [] piece [] last stop new) c.deref-4.ensures.value part)))
     c.say.ensures.stopped

@@ -9,7 +9,7 @@ ghost use Rattle.zk_typed.specs.World.{World, first_world, at_time};
 ghost use Rattle.zk_value.specs.Plain.{value_of, line_in};
 ghost use Rattle.zk_top.specs.Item.{seen_at, items_of};
 ghost use Rattle.zk_top.specs.Named.{named, AreIn};
-ghost use Rattle.zk_top.specs.Replay.{budget, printed, text_of};
+ghost use Rattle.zk_top.specs.Printed.{budget, printed, with_line_ends};
 ghost use Rattle.zk_top.specs.Run.{DoesAll, DoesPart};
 
 use crate::opening::later;
@@ -25,23 +25,23 @@ use zk_value::{Code, Out, Value};
 /// The units for one body.
 const BUDGET: u64 = 1_000_000;
 
-/// A program that plays over a capture, and what it has printed that is not yet said.
+/// A replay of a capture to a program: the machine, and what it has printed that is not yet said.
 #[derive(Drop)]
-pub struct Player {
+pub struct Replay {
     machine: Machine,
     piece: Vec<u8>,
 }
 
-impl Player {
+impl Replay {
     ghost use Rattle.zk_top.specs.Handlers.{AreHandlers, AreWithin};
-    ghost use Rattle.zk_top.specs.Playing.{HasCome, GoesTo, StopsBefore, after_item};
+    ghost use Rattle.zk_top.specs.Replay.{HasCome, GoesTo, StopsBefore, after_item};
 
     /// A program at its beginning.
-    fn new(alloc: Global, code: Code) -> Result<Player, Mem>
-        ensures came { IfOk result (λ player. (first : Outside) (program : Program) → code ≡ lowered program → HasCome first program [] first_world player first) }
-        ensures code { IfOk result (λ player. code_of player.machine ≡ code) }
+    fn new(alloc: Global, code: Code) -> Result<Replay, Mem>
+        ensures came { IfOk result (λ replay. (first : Outside) (program : Program) → code ≡ lowered program → HasCome first program [] first_world replay first) }
+        ensures code { IfOk result (λ replay. code_of replay.machine ≡ code) }
     {
-        Ok(Player {
+        Ok(Replay {
             machine: Machine::new(alloc, code)?,
             piece: Vec::with_capacity(alloc, PIECE)?,
         })
@@ -52,7 +52,7 @@ impl Player {
         ensures came { OnOk result ((first : Outside) (program : Program) (taken : List (List ℕ)) (world : World) → HasCome first program taken world self.old (S.outside shelf.old)
             → HasCome first program world.lines world self.new (S.outside shelf.new)) }
         ensures stopped { IfErr result (λ stop. (first : Outside) (program : Program) (taken : List (List ℕ)) (world : World) → HasCome first program taken world self.old (S.outside shelf.old)
-            → DoesPart [] (text_of world.lines) [] first stop (S.outside shelf.new)) }
+            → DoesPart [] (with_line_ends world.lines) [] first stop (S.outside shelf.new)) }
         ensures code { code_of self.new.machine ≡ code_of self.old.machine }
     {
         while let Some(out) = self.machine.out() {
@@ -108,7 +108,7 @@ impl Player {
     }
 
     /// Runs the handlers of what is seen of a packet, at its network time.
-    fn see<S: Shelf>(
+    fn handle_packet<S: Shelf>(
         &mut self,
         shelf: &mut S,
         handlers: &[HandlerNo],
@@ -132,7 +132,7 @@ impl Player {
     }
 
     /// Runs the handlers of what is seen of packets, in order. Answers the last network time.
-    fn see_packets<S: Shelf>(
+    fn handle_packets<S: Shelf>(
         &mut self,
         shelf: &mut S,
         handlers: &[HandlerNo],
@@ -149,7 +149,7 @@ impl Player {
         let mut now = Moment(0);
         for packet in packets {
             now = later(now, packet.moment);
-            self.see(shelf, handlers, now, packet)?;
+            self.handle_packet(shelf, handlers, now, packet)?;
         }
         Ok(now)
     }
@@ -168,7 +168,7 @@ impl Player {
             → DoesPart [] (printed program packets.now) [] first stop (S.outside shelf.new)) }
     {
         self.dispatch(shelf, &handlers.init, &[])?;
-        let last = self.see_packets(shelf, &handlers.seen, packets)?;
+        let last = self.handle_packets(shelf, &handlers.seen, packets)?;
         self.set_time(last);
         self.dispatch(shelf, &handlers.done, &[])?;
         say(shelf, &self.piece)
@@ -232,8 +232,8 @@ fn handler_number(n: usize) -> Result<HandlerNo, Mem>
     }
 }
 
-/// Runs a program over the packets of a capture, and says what it prints.
-pub fn play<S: Shelf>(
+/// Replays the packets of a capture to a program, and says what it prints.
+pub fn replay_packets<S: Shelf>(
     alloc: Global,
     shelf: &mut S,
     code: Code,
@@ -245,6 +245,6 @@ pub fn play<S: Shelf>(
         → DoesPart [] (printed program packets.now) [] (S.outside shelf.old) stop (S.outside shelf.new)) }
 {
     let handlers = Handlers::of(alloc, &code)?;
-    let mut player = Player::new(alloc, code)?;
-    player.run(shelf, &handlers, packets)
+    let mut replay = Replay::new(alloc, code)?;
+    replay.run(shelf, &handlers, packets)
 }

@@ -1,7 +1,7 @@
 use Rattle.std.proofs.Common.{refl}
 use Rattle.zk_typed.specs.World.{at_time}
-use Rattle.zk_top.proofs.PlayingLemmas.{come_with}
-use Rattle.zk_top.proofs.playing.Player.set_time.Goals as goal
+use Rattle.zk_top.proofs.ReplayLemmas.{come_with}
+use Rattle.zk_top.proofs.replay.Replay.set_time.Goals as goal
 
 pub returns-clause-came : goal.returns-clause-came
 returns-clause-came c = λ now first program world come.

@@ -17,42 +17,42 @@ use Rattle.zk_tree.specs.Value.{Value}
 use Rattle.zk_typed.specs.Exec.{exec_body}
 use Rattle.zk_typed.specs.Run.{bodies}
 use Rattle.zk_typed.specs.World.{World, at_time, at_end}
-use Rattle.zk_top.specs.declared.playing.Player.{Player}
+use Rattle.zk_top.specs.declared.replay.Replay.{Replay}
 use Rattle.zk_top.specs.declared.stop.Stop.{Stop}
 use Rattle.zk_top.specs.declared.stop.Stop.TheVariants.{NoMemory}
 use Rattle.zk_top.specs.Item.{Item}
 use Rattle.zk_top.specs.Line.{line_end}
 use Rattle.zk_top.specs.Named.{named}
-use Rattle.zk_top.specs.Playing.{HasCome, after_item}
-use Rattle.zk_top.specs.Replay.{budget, event_of, text_of}
+use Rattle.zk_top.specs.Replay.{HasCome, after_item}
+use Rattle.zk_top.specs.Printed.{budget, event_of, with_line_ends}
 use Rattle.zk_top.specs.Run.{IsFront, DoesAll, DoesPart, HandsOver}
 use Rattle.zk_top.proofs.Doing.{front_all, does_both_all, does_both_part, does_part_of, out_of_memory}
-use Rattle.zk_top.proofs.Growth.{GoesOn, goes_on_same, goes_on_trans, bodies_add, text-append, text_front}
+use Rattle.zk_top.proofs.Growth.{GoesOn, goes_on_same, goes_on_trans, bodies_add, with_line_ends-append, text_front}
 
 -- stopped while a front of what is to be said waits
-pub stopped_in : (first : Outside) (program : Program) (taken : List (List ℕ)) (world : World) (player : Player) (mid : Outside) (whole : List ℕ) (stop : Stop) (new : Outside)
-    → HasCome first program taken world player mid → IsFront (text_of taken) whole → DoesPart [] player.piece.items [] mid stop new → DoesPart [] whole [] first stop new
-stopped_in first program taken world player mid whole stop new come front part =
-    does_part_of [] [] (come.said ++ player.piece.items) whole [] [] first stop new (front_all [])
+pub stopped_in : (first : Outside) (program : Program) (taken : List (List ℕ)) (world : World) (replay : Replay) (mid : Outside) (whole : List ℕ) (stop : Stop) (new : Outside)
+    → HasCome first program taken world replay mid → IsFront (with_line_ends taken) whole → DoesPart [] replay.piece.items [] mid stop new → DoesPart [] whole [] first stop new
+stopped_in first program taken world replay mid whole stop new come front part =
+    does_part_of [] [] (come.said ++ replay.piece.items) whole [] [] first stop new (front_all [])
     (subst (λ text. IsFront text whole) come.joined front) (front_all [])
-    (does_both_part [] [] come.said player.piece.items [] [] first mid stop new come.does part)
+    (does_both_part [] [] come.said replay.piece.items [] [] first mid stop new come.does part)
 
 -- for want of memory
-pub stopped_for_memory : (first : Outside) (program : Program) (taken : List (List ℕ)) (world : World) (player : Player) (mid : Outside) (whole : List ℕ)
-    → HasCome first program taken world player mid → IsFront (text_of taken) whole → DoesPart [] whole [] first NoMemory mid
-stopped_for_memory first program taken world player mid whole come front =
-    stopped_in first program taken world player mid whole NoMemory mid come front (out_of_memory [] player.piece.items [] mid mid refl)
+pub stopped_for_memory : (first : Outside) (program : Program) (taken : List (List ℕ)) (world : World) (replay : Replay) (mid : Outside) (whole : List ℕ)
+    → HasCome first program taken world replay mid → IsFront (with_line_ends taken) whole → DoesPart [] whole [] first NoMemory mid
+stopped_for_memory first program taken world replay mid whole come front =
+    stopped_in first program taken world replay mid whole NoMemory mid come front (out_of_memory [] replay.piece.items [] mid mid refl)
 
 -- one more line is taken
-pub line_taken : (first : Outside) (program : Program) (taken : List (List ℕ)) (world : World) (old new : Player) (mid now : Outside) (line : List ℕ)
+pub line_taken : (first : Outside) (program : Program) (taken : List (List ℕ)) (world : World) (old new : Replay) (mid now : Outside) (line : List ℕ)
     → HasCome first program taken world old mid → StandsFor new.machine program (taken ++ line ∷ []) world
     → HandsOver mid (old.piece.items ++ (line ++ line_end)) now new.piece.items → HasCome first program (taken ++ line ∷ []) world new now
 line_taken first program taken world old new mid now line come stands hands = record {
   stands = stands;
   said = come.said ++ hands.said;
   does = does_both_all [] [] come.said hands.said [] [] first mid now come.does hands.does;
-  joined = text-append taken (line ∷ [])
-      ∙ (ap (λ text. text ++ text_of (line ∷ [])) come.joined
+  joined = with_line_ends-append taken (line ∷ [])
+      ∙ (ap (λ text. text ++ with_line_ends (line ∷ [])) come.joined
       ∙ (ap (λ text. (come.said ++ old.piece.items) ++ text) (append-nil (line ++ line_end))
       ∙ (append_assoc come.said old.piece.items (line ++ line_end)
       ∙ (ap (λ text. come.said ++ text) hands.joined
@@ -60,7 +60,7 @@ line_taken first program taken world old new mid now line come stands hands = re
 }
 
 -- the same lines were taken, in another world or by another machine
-pub come_with : (first : Outside) (program : Program) (taken : List (List ℕ)) (world after : World) (old new : Player) (now : Outside)
+pub come_with : (first : Outside) (program : Program) (taken : List (List ℕ)) (world after : World) (old new : Replay) (now : Outside)
     → HasCome first program taken world old now → StandsFor new.machine program taken after → new.piece.items ≡ old.piece.items → HasCome first program taken after new now
 come_with first program taken world after old new now come stands same = record {
   stands = stands;
@@ -70,22 +70,22 @@ come_with first program taken world after old new now come stands same = record 
 }
 
 -- the lines that were taken are a front of those that were printed
-pub taken_front : (first : Outside) (program : Program) (taken : List (List ℕ)) (world : World) (player : Player) (now : Outside)
-    → HasCome first program taken world player now → IsFront (text_of taken) (text_of world.lines)
-taken_front first program taken world player now come = text_front taken world.lines (record { rest = player.machine.lines.items; joined = come.stands.lines })
+pub taken_front : (first : Outside) (program : Program) (taken : List (List ℕ)) (world : World) (replay : Replay) (now : Outside)
+    → HasCome first program taken world replay now → IsFront (with_line_ends taken) (with_line_ends world.lines)
+taken_front first program taken world replay now come = text_front taken world.lines (record { rest = replay.machine.lines.items; joined = come.stands.lines })
 
 -- all lines were taken
-pub all_taken : (first : Outside) (program : Program) (taken : List (List ℕ)) (world : World) (old new : Player) (now : Outside)
+pub all_taken : (first : Outside) (program : Program) (taken : List (List ℕ)) (world : World) (old new : Replay) (now : Outside)
     → HasCome first program taken world old now → taken ≡ world.lines → StandsFor new.machine program taken world → new.piece.items ≡ old.piece.items
     → HasCome first program world.lines world new now
 all_taken first program taken world old new now come is stands same =
     subst (λ lines. HasCome first program lines world new now) is (come_with first program taken world world old new now come stands same)
 
 -- stopped while an earlier world's lines were said
-pub stopped_within : (first : Outside) (stop : Stop) (new : Outside) (at whole : World) → IsFront (text_of at.lines) (text_of whole.lines)
-    → DoesPart [] (text_of at.lines) [] first stop new → DoesPart [] (text_of whole.lines) [] first stop new
+pub stopped_within : (first : Outside) (stop : Stop) (new : Outside) (at whole : World) → IsFront (with_line_ends at.lines) (with_line_ends whole.lines)
+    → DoesPart [] (with_line_ends at.lines) [] first stop new → DoesPart [] (with_line_ends whole.lines) [] first stop new
 stopped_within first stop new at whole front part =
-    does_part_of [] [] (text_of at.lines) (text_of whole.lines) [] [] first stop new (front_all []) front (front_all []) part
+    does_part_of [] [] (with_line_ends at.lines) (with_line_ends whole.lines) [] [] first stop new (front_all []) front (front_all []) part
 
 -- Handlers by their numbers ---------------------------------------------------------------------------------------
 
@@ -122,9 +122,9 @@ left_more args program number numbers others at whole is left = record {
 }
 
 -- the lines so far are a front of those in the end
-pub left_front : (args : List Value) (program : Program) (numbers : List HandlerNo) (at whole : World) → IsLeft args program numbers at whole → IsFront (text_of at.lines) (text_of whole.lines)
+pub left_front : (args : List Value) (program : Program) (numbers : List HandlerNo) (at whole : World) → IsLeft args program numbers at whole → IsFront (with_line_ends at.lines) (with_line_ends whole.lines)
 left_front args program numbers at whole left =
-    subst (λ (w : World). IsFront (text_of at.lines) (text_of w.lines)) left.comes
+    subst (λ (w : World). IsFront (with_line_ends at.lines) (with_line_ends w.lines)) left.comes
     (text_front at.lines (bodies args budget at (named numbers program)).lines (bodies_add args budget at (named numbers program)).front)
 
 -- Items one after another -----------------------------------------------------------------------------------------
@@ -145,16 +145,16 @@ items_add handlers world (item ∷ items) =
 -- From the beginning to the end -----------------------------------------------------------------------------------
 
 -- the same world
-pub at_world : (first : Outside) (program : Program) (a b : World) (player : Player) (now : Outside) → a ≡ b → HasCome first program a.lines a player now → HasCome first program b.lines b player now
-at_world first program a b player now same come = subst (λ (w : World). HasCome first program w.lines w player now) same come
+pub at_world : (first : Outside) (program : Program) (a b : World) (replay : Replay) (now : Outside) → a ≡ b → HasCome first program a.lines a replay now → HasCome first program b.lines b replay now
+at_world first program a b replay now same come = subst (λ (w : World). HasCome first program w.lines w replay now) same come
 
-pub part_at_world : (first : Outside) (a b : World) (stop : Stop) (new : Outside) → a ≡ b → DoesPart [] (text_of a.lines) [] first stop new → DoesPart [] (text_of b.lines) [] first stop new
-part_at_world first a b stop new same part = subst (λ (w : World). DoesPart [] (text_of w.lines) [] first stop new) same part
+pub part_at_world : (first : Outside) (a b : World) (stop : Stop) (new : Outside) → a ≡ b → DoesPart [] (with_line_ends a.lines) [] first stop new → DoesPart [] (with_line_ends b.lines) [] first stop new
+part_at_world first a b stop new same part = subst (λ (w : World). DoesPart [] (with_line_ends w.lines) [] first stop new) same part
 
 -- the end begins: of that the machine holds nothing but the network time
-pub at_the_end : (first : Outside) (program : Program) (last : Moment) (world : World) (player : Player) (now : Outside)
-    → HasCome first program world.lines (at_time last world) player now → HasCome first program world.lines (at_end last world) player now
-at_the_end first program last world player now come = record {
+pub at_the_end : (first : Outside) (program : Program) (last : Moment) (world : World) (replay : Replay) (now : Outside)
+    → HasCome first program world.lines (at_time last world) replay now → HasCome first program world.lines (at_end last world) replay now
+at_the_end first program last world replay now come = record {
   stands = record { code = come.stands.code; time = come.stands.time; lines = come.stands.lines; works = come.stands.works };
   said = come.said;
   does = come.does;
@@ -162,7 +162,7 @@ at_the_end first program last world player now come = record {
 }
 
 -- the last piece is said
-pub all_said : (first : Outside) (program : Program) (world : World) (player : Player) (mid new : Outside) → HasCome first program world.lines world player mid
-    → DoesAll [] player.piece.items [] mid new → DoesAll [] (text_of world.lines) [] first new
-all_said first program world player mid new come says =
-    subst (λ text. DoesAll [] text [] first new) (sym come.joined) (does_both_all [] [] come.said player.piece.items [] [] first mid new come.does says)
+pub all_said : (first : Outside) (program : Program) (world : World) (replay : Replay) (mid new : Outside) → HasCome first program world.lines world replay mid
+    → DoesAll [] replay.piece.items [] mid new → DoesAll [] (with_line_ends world.lines) [] first new
+all_said first program world replay mid new come says =
+    subst (λ text. DoesAll [] text [] first new) (sym come.joined) (does_both_all [] [] come.said replay.piece.items [] [] first mid new come.does says)

@@ -5,13 +5,13 @@ use Rattle.zk_pcap.specs.NetworkTime.{now as network_time}
 use Rattle.zk_typed.specs.World.{World}
 use Rattle.zk_top.specs.Item.{Item, items_of, items_after, seen_at}
 use Rattle.zk_top.specs.Named.{named}
-use Rattle.zk_top.specs.Playing.{HasCome, after_item}
-use Rattle.zk_top.specs.Replay.{text_of}
+use Rattle.zk_top.specs.Replay.{HasCome, after_item}
+use Rattle.zk_top.specs.Printed.{with_line_ends}
 use Rattle.zk_top.specs.Run.{IsFront}
 use Rattle.zk_top.proofs.Growth.{text_front}
 use Rattle.zk_top.proofs.Packets.{next_now, next_item}
-use Rattle.zk_top.proofs.PlayingLemmas.{stopped_within, items_add}
-use Rattle.zk_top.proofs.playing.Player.see_packets.Goals as goal
+use Rattle.zk_top.proofs.ReplayLemmas.{stopped_within, items_add}
+use Rattle.zk_top.proofs.replay.Replay.handle_packets.Goals as goal
 
 pub loop-packet-preserved : goal.loop-packet-preserved
 loop-packet-preserved g c =
@@ -26,20 +26,20 @@ loop-packet-preserved g c =
           let far = c.loop-packet.invariant.came first program world come in
           let item = next_item packets index c.loop-packet.now after packet c.loop-packet-test.true c.packet-item.is c.loop-packet.invariant.is_now c.later-now.ensures in (
             after_item handlers far.0 (seen_at after packet),
-            c.in_ok-see.ensures.came first program far.0 far.1,
+            c.in_ok-handle_packet.ensures.came first program far.0 far.1,
             ap (fold (after_item handlers) far.0) (sym item) ∙ far.2,
           );
-      code = c.see.ensures.code ∙ c.loop-packet.invariant.code;
+      code = c.handle_packet.ensures.code ∙ c.loop-packet.invariant.code;
     }
 
-pub returns-in_err-see-clause-stopped : goal.returns-in_err-see-clause-stopped
-returns-in_err-see-clause-stopped g c =
+pub returns-in_err-handle_packet-clause-stopped : goal.returns-in_err-handle_packet-clause-stopped
+returns-in_err-handle_packet-clause-stopped g c =
     let packets = c.args.packets.now in
     let index = c.loop-packet.packet-index in
     let packet = c.packet-item.result in
     let after = c.later-now.result in
-    let new = g.S.Shelf.outside c.see.new.shelf in
-    let stop = c.in_err-see.field-0.0 in
+    let new = g.S.Shelf.outside c.handle_packet.new.shelf in
+    let stop = c.in_err-handle_packet.field-0.0 in
     let p = err_from_is_err_and c.from_residual.result c.from_residual.ensures.1 in
     rw (p.1, p.2) (λ first program world come.
     let handlers = named c.args.handlers.now program in
@@ -50,8 +50,8 @@ returns-in_err-see-clause-stopped g c =
     let whole : World = fold (after_item handlers) world (items_of packets) in
     let comes : fold (after_item handlers) here rest ≡ whole = ap (fold (after_item handlers) far.0) (sym item) ∙ far.2 in
     stopped_within first stop new here whole
-    (subst (λ (w : World). IsFront (text_of here.lines) (text_of w.lines)) comes (text_front here.lines (fold (after_item handlers) here rest).lines (items_add handlers here rest).front))
-    (c.in_err-see.ensures.stopped first program far.0 far.1))
+    (subst (λ (w : World). IsFront (with_line_ends here.lines) (with_line_ends w.lines)) comes (text_front here.lines (fold (after_item handlers) here rest).lines (items_add handlers here rest).front))
+    (c.in_err-handle_packet.ensures.stopped first program far.0 far.1))
 
 pub returns-clause-last : goal.returns-clause-last
 returns-clause-last g c = c.loop-packet.invariant.is_now ∙ ap network_time (take_all c.loop-packet.packet-index c.args.packets.now (omega arith))

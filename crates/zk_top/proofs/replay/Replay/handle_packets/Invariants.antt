@@ -6,8 +6,8 @@ use Rattle.zk_typed.specs.declared.program.Program.{Program}
 use Rattle.zk_typed.specs.World.{World}
 use Rattle.zk_top.specs.Item.{items_of, items_after}
 use Rattle.zk_top.specs.Named.{named}
-use Rattle.zk_top.specs.Playing.{HasCome, after_item}
-use Rattle.zk_top.proofs.playing.Player.see_packets.Given as goal
+use Rattle.zk_top.specs.Replay.{HasCome, after_item}
+use Rattle.zk_top.proofs.replay.Replay.handle_packets.Given as goal
 
 -- what the packets that are left do from here is what all of them do
 abbrev pub invariant-loop-packet : goal.invariant-loop-packet

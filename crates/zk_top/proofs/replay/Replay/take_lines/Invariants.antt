@@ -3,8 +3,8 @@ use Rattle.zk_base.specs.Shelf.{Outside}
 use Rattle.zk_machine.specs.Standing.{code_of, waiting}
 use Rattle.zk_typed.specs.declared.program.Program.{Program}
 use Rattle.zk_typed.specs.World.{World}
-use Rattle.zk_top.specs.Playing.{HasCome}
-use Rattle.zk_top.proofs.playing.Player.take_lines.Given as goal
+use Rattle.zk_top.specs.Replay.{HasCome}
+use Rattle.zk_top.proofs.replay.Replay.take_lines.Given as goal
 
 -- the lines so far were taken
 abbrev pub invariant-loop-out : goal.invariant-loop-out

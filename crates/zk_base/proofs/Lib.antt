@@ -1,3 +1,4 @@
 mod ChecksumLemmas
+mod CountLemmas
 mod FileLemmas
 mod MemShelfLemmas

@@ -1,4 +1,3 @@
 mod ChecksumLemmas
-mod CountLemmas
 mod FileLemmas
 mod MemShelfLemmas

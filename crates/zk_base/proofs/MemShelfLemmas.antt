@@ -1,5 +1,6 @@
 -- What a call of a shelf leaves that fails where it is told to is what the trait allows.
-use Rattle.std.proofs.Common.{◌≡◌, ℕ, ◌/◌, List, [], length, Bool, true, false, cond, Option, Some, None, is_some, refl, sym, ap, ◌∙◌, subst, if◌then◌else◌}
+use Rattle.std.proofs.Common.{◌≡◌, ℕ, ◌/◌, List, [], length, Bool, true, false, cond, Option, Some, None, is_some, refl, sym, ap, ◌∙◌, subst, arith, if◌then◌else◌}
+use Rattle.std.proofs.lemmas.Bool.Decides.{nat_tests}
 use Rattle.std.specs.Option.{option_map}
 use Rattle.std.specs.Str.{bytes_eq}
 use Rattle.zk_base.specs.declared.shelf.Started.{Started}
@@ -11,8 +12,11 @@ use Rattle.zk_base.specs.declared.shelf.Wrote.TheVariants as wrote
 use Rattle.zk_base.specs.Faults.{one_more, with_emptied, first_half}
 use Rattle.zk_base.specs.Shelf.{Files, Outside, HasRisen, Starts, Reads, Creates, Puts, with_file, without_file}
 use Rattle.zk_base.specs.MemShelf.{MemState, Succeeds, Fails, MemStarts, MemReads, MemCreates, MemPuts}
-use Rattle.zk_base.proofs.CountLemmas.{has_risen}
 use Rattle.zk_base.proofs.FileLemmas.{same_name}
+
+-- one more is a rise
+has_risen : (n : ℕ) → HasRisen n (one_more n)
+has_risen n = record { kept = grind (arith, nat_tests); risen = grind (arith, nat_tests) }
 
 -- what a call leaves of the outside
 left : (old : MemState) (outside : Outside) (new : MemState) → Succeeds old outside new → new.outside ≡ outside

@@ -116,8 +116,7 @@ pub struct Contents {
 
 impl Contents {
     ghost use Rattle.zk_base.specs.Contents.{outside_of, at_first};
-    ghost use Rattle.zk_base.specs.Counts.{with_absence};
-    ghost use Rattle.zk_base.specs.Faults.{after_failed_start, after_failed_read, after_failed_create, with_write_fault};
+    ghost use Rattle.zk_base.specs.Faults.{after_absence, after_failed_start, after_failed_read, after_failed_create, with_write_fault};
     ghost use Rattle.zk_base.specs.Shelf.{Starts, is_open, Reads, Creates, IsCreated, Puts, after_append, after_say, after_complaint};
 
     /// These inputs, nothing written and no count risen. No memory is taken.
@@ -140,7 +139,7 @@ impl Contents {
     pub fn start(&mut self, name: &[u8]) -> Started
         ensures leaves { Starts (outside_of self.old) name.now result (outside_of self.new) }
         ensures sure { result ≢ Started.Failed }
-        ensures absence { result ≡ Started.Absent → self.new.counts ≡ with_absence self.old.counts }
+        ensures absent { result ≡ Started.Absent → outside_of self.new ≡ after_absence (outside_of self.old) name.now }
     {
         let Ok(()) = note(self.alloc, &mut self.started, name) else {
             return Started::NoMemory;

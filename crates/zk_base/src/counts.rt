@@ -10,7 +10,6 @@ pub struct Counts {
     pub absences: u64,
 }
 
-#[tactic(auto, using(crate::proofs::CountLemmas::has_risen))]
 impl Counts {
     ghost use Rattle.zk_base.specs.Counts.{with_read_fault, with_write_fault, with_absence};
 

@@ -1,4 +1,4 @@
-use Rattle.std.proofs.Common.{◌≡◌, [], Some, None, IsSome, IsNone, arith, sym, subst, refl}
+use Rattle.std.proofs.Common.{◌≡◌, [], Some, None, IsSome, IsNone, sym, subst, refl}
 use Rattle.zk_base.specs.Contents.{outside_of}
 use Rattle.zk_base.specs.Files.{number_of, IsAt}
 use Rattle.zk_base.specs.Shelf.{Closed}

@@ -1,10 +1,13 @@
 -- What a shelf of real files shows of the outside.
-use Rattle.std.specs.Prelude.{ℕ, List, ⊤, take, Bool, Option, Some, None, if◌then◌else◌}
+use Rattle.std.specs.Prelude.{◌≡◌, ℕ, List, ⊤, take, Bool, Option, Some, None, if◌then◌else◌}
 use Rattle.std.specs.Io.KnownBytes.{Consumes, Keeps, IsAtEnd}
 use Rattle.zk_base.specs.declared.shelf.Got.{Got}
 use Rattle.zk_base.specs.declared.shelf.Got.TheVariants as got
-use Rattle.zk_base.specs.Shelf.{Outside, Closed, Untold}
-use Rattle.zeekoff.specs.declared.counts.Counts.{Counts}
+use Rattle.zk_base.specs.declared.shelf.Wrote.{Wrote}
+use Rattle.zk_base.specs.declared.shelf.Wrote.TheVariants as wrote
+use Rattle.zk_base.specs.declared.counts.Counts.{Counts}
+use Rattle.zk_base.specs.Counts.{with_write_fault}
+use Rattle.zk_base.specs.Shelf.{Outside, Closed, Untold, HasRisen}
 
 -- whether an input is open, and the counts; nothing of what files hold
 abbrev pub untold : Bool → Counts → Outside
@@ -19,6 +22,12 @@ untold is_open counts = record {
   write_faults = counts.write_faults;
   absences = counts.absences;
 }
+
+-- what a write counts; it takes no memory, so it never wants any
+abbrev pub CountsWrite : Counts → Wrote → Counts → Type 0
+CountsWrite old wrote.Done new = new ≡ old
+CountsWrite old wrote.Failed new = (new ≡ with_write_fault old) × HasRisen old.write_faults new.write_faults
+CountsWrite old wrote.NoMemory new = ⊥
 
 -- what a read took of a file whose bytes are known: those that it gave, and nothing where it gave none
 abbrev pub TakesBytes : Option (List ℕ) → Got → List ℕ → Option (List ℕ) → Type 0

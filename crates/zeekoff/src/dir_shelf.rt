@@ -3,13 +3,12 @@ ghost use Rattle.std.specs.IoError.{error_kind};
 ghost use Rattle.std.specs.Str.{IsUtf8};
 ghost use Rattle.std.specs.Io.{ReadsAtMost};
 ghost use Rattle.std.specs.Io.KnownBytes.{Consumes, Keeps, IsAtEnd};
-ghost use Rattle.zeekoff.specs.Counts.{CountsWrite};
+ghost use Rattle.zeekoff.specs.DirShelf.{CountsWrite};
 
-use crate::counts::Counts;
 use std::fs::{File, Files};
 use std::io::{ErrorKind, Read, Write};
 use std::{io, str};
-use zk_base::{Got, Shelf, Started, Wrote};
+use zk_base::{Counts, Got, Shelf, Started, Wrote};
 
 /// The outside as it is: inputs are files by path, outputs are files in the working folder, and
 /// what is said and complained goes to two writers, as standard output and standard error.
@@ -26,7 +25,7 @@ pub struct DirShelf<F: Files, O, E> {
 }
 
 impl<F: Files, O: Write, E: Write> DirShelf<F, O, E> {
-    ghost use Rattle.zeekoff.specs.Counts.{none_counted};
+    ghost use Rattle.zk_base.specs.Counts.{none_counted};
 
     /// A shelf with no open input, which has counted nothing.
     pub fn new(files: F, out: O, err: E) -> DirShelf<F, O, E>
@@ -50,7 +49,6 @@ impl<F: Files, O: Write, E: Write> Shelf for DirShelf<F, O, E> {
 
     ghost outside = { λ shelf. untold (is_some shelf.input) shelf.counts };
 
-    #[tactic(auto, using(crate::proofs::CountLemmas::has_risen))]
     fn start(&mut self, name: &[u8]) -> Started {
         self.input = None;
         match open(&self.files, name) {
@@ -69,7 +67,6 @@ impl<F: Files, O: Write, E: Write> Shelf for DirShelf<F, O, E> {
         }
     }
 
-    #[tactic(auto, using(crate::proofs::CountLemmas::has_risen))]
     fn read(&mut self, buf: &mut [u8]) -> Got
         requires room { 0 < length buf.old }
         requires input { IsTrue (is_open (untold (is_some self.old.input) self.old.counts).reading) }
@@ -89,7 +86,6 @@ impl<F: Files, O: Write, E: Write> Shelf for DirShelf<F, O, E> {
         }
     }
 
-    #[tactic(auto, using(crate::proofs::CountLemmas::has_risen))]
     fn create(&mut self, name: &[u8]) -> Wrote {
         let created = create(&self.files, name);
         wrote(created, &mut self.counts)

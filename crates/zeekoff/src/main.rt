@@ -2,7 +2,6 @@
 #![tactic(auto)]
 
 mod arguments;
-mod counts;
 mod dir_shelf;
 
 use arguments::words;

@@ -1,5 +1,5 @@
 -- What a shelf that lies in memory holds.
-use Rattle.std.specs.Prelude.{◌≡◌, ℕ, List, [], Some, None}
+use Rattle.std.specs.Prelude.{ℕ, List, [], Some, None}
 use Rattle.zk_base.specs.declared.contents.Contents.{Contents}
 use Rattle.zk_base.specs.Files.{files_of, reading_of}
 use Rattle.zk_base.specs.Shelf.{Outside, Closed}
@@ -13,9 +13,9 @@ outside_of c = record {
   complained = Some c.complained;
   started = Some c.started.items;
   reading = reading_of c.inputs.items c.position;
-  read_faults = c.read_faults;
-  write_faults = c.write_faults;
-  absences = c.absences;
+  read_faults = c.counts.read_faults;
+  write_faults = c.counts.write_faults;
+  absences = c.counts.absences;
 }
 
 -- nothing is written or started yet
@@ -31,8 +31,3 @@ at_first inputs = record {
   write_faults = 0;
   absences = 0;
 }
-
--- no fault is counted
-pub record SameFaults (old new : Contents) : Type 0 where
-  pub read : new.read_faults ≡ old.read_faults
-  pub write : new.write_faults ≡ old.write_faults

@@ -1,5 +1,6 @@
 pub mod Checksum
 pub mod Contents
+pub mod Counts
 pub mod Ending
 pub mod Faults
 pub mod Files

@@ -6,15 +6,15 @@ use Rattle.zk_base.specs.declared.shelf.Wrote.{Wrote}
 use Rattle.zk_base.specs.declared.shelf.Wrote.TheVariants as wrote
 use Rattle.zk_base.specs.declared.sure_shelf.SureShelf.{SureShelf}
 use Rattle.zk_base.specs.Shelf.{Outside}
-use Rattle.zk_base.specs.Contents.{outside_of}
+use Rattle.zk_base.specs.MemShelf.{state_of, mem_outside}
 use Rattle.zk_base.specs.Faults.{one_more}
 
 abbrev pub sure_outside : SureShelf → Outside
-sure_outside shelf = outside_of shelf.contents
+sure_outside shelf = mem_outside shelf.shelf
 
 -- the number of the last call, and 0 before the first
 abbrev pub calls_of : SureShelf → ℕ
-calls_of shelf = shelf.calls
+calls_of shelf = (state_of shelf.shelf).calls
 
 -- A call that found no memory has no number.
 abbrev pub after_start : Started → ℕ → ℕ

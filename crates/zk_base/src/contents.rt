@@ -4,7 +4,7 @@ ghost use Rattle.zk_base.specs.Files.{files_of, number_of, IsAt};
 ghost use Rattle.zk_base.specs.Shelf.{with_file, with_piece};
 ghost use Rattle.zk_base.specs.Faults.{with_emptied};
 
-use crate::{Bytes, Got, Mem, Started, Wrote};
+use crate::{Bytes, Counts, Got, Mem, Started, Wrote};
 use std::alloc::Global;
 
 /// A file in memory: its name and its content.
@@ -110,15 +110,13 @@ pub struct Contents {
     complained: Bytes,
     started: Vec<Bytes>,
     position: Option<Position>,
-    read_faults: u64,
-    write_faults: u64,
-    absences: u64,
+    counts: Counts,
     ghost found: { ForSome position (IsAt inputs.items) },
 }
 
 impl Contents {
-    ghost use Rattle.zk_base.specs.Contents.{outside_of, at_first, SameFaults};
-    ghost use Rattle.zk_base.specs.Faults.{one_more, after_failed_start, after_failed_read, after_failed_create, with_write_fault};
+    ghost use Rattle.zk_base.specs.Contents.{outside_of, at_first};
+    ghost use Rattle.zk_base.specs.Faults.{after_absence, after_failed_start, after_failed_read, after_failed_create, with_write_fault};
     ghost use Rattle.zk_base.specs.Shelf.{Starts, is_open, Reads, Creates, IsCreated, Puts, after_append, after_say, after_complaint};
 
     /// These inputs, nothing written and no count risen. No memory is taken.
@@ -133,9 +131,7 @@ impl Contents {
             complained: Bytes::new(alloc),
             started: Vec::new(alloc),
             position: None,
-            read_faults: 0,
-            write_faults: 0,
-            absences: 0,
+            counts: Counts::default(),
         }
     }
 
@@ -143,8 +139,7 @@ impl Contents {
     pub fn start(&mut self, name: &[u8]) -> Started
         ensures leaves { Starts (outside_of self.old) name.now result (outside_of self.new) }
         ensures sure { result ≢ Started.Failed }
-        ensures faults { SameFaults self.old self.new }
-        ensures absence { result ≡ Started.Absent → self.new.absences ≡ one_more self.old.absences }
+        ensures absent { result ≡ Started.Absent → outside_of self.new ≡ after_absence (outside_of self.old) name.now }
     {
         let Ok(()) = note(self.alloc, &mut self.started, name) else {
             return Started::NoMemory;
@@ -156,7 +151,7 @@ impl Contents {
             }
             None => {
                 self.position = None;
-                self.absences = self.absences.saturating_add(1);
+                self.counts.add_absence();
                 Started::Absent
             }
         }
@@ -172,7 +167,7 @@ impl Contents {
             return Started::NoMemory;
         };
         self.position = None;
-        self.read_faults = self.read_faults.saturating_add(1);
+        self.counts.add_read_fault();
         Started::Failed
     }
 
@@ -182,7 +177,6 @@ impl Contents {
         requires input { IsTrue (is_open (outside_of self.old).reading) }
         ensures leaves { Reads (outside_of self.old) buf.old result buf.new (outside_of self.new) }
         ensures sure { result ≢ Got.Failed }
-        ensures faults { SameFaults self.old self.new }
     {
         let Some(position) = self.position else {
             unreachable!()
@@ -204,7 +198,7 @@ impl Contents {
         ensures failed { result ≡ Got.Failed }
         ensures leaves { outside_of self.new ≡ after_failed_read (outside_of self.old) }
     {
-        self.read_faults = self.read_faults.saturating_add(1);
+        self.counts.add_read_fault();
         Got::Failed
     }
 
@@ -212,7 +206,6 @@ impl Contents {
     pub fn create(&mut self, name: &[u8]) -> Wrote
         ensures leaves { Creates (outside_of self.old) name.now result (outside_of self.new) }
         ensures sure { result ≢ Wrote.Failed }
-        ensures faults { SameFaults self.old self.new }
     {
         let Ok(name) = Bytes::copy_of(self.alloc, name) else {
             return Wrote::NoMemory;
@@ -236,7 +229,6 @@ impl Contents {
         requires { IsCreated (outside_of self.old) name.now }
         ensures leaves { Puts (after_append (outside_of self.old) name.now) (outside_of self.old) bytes.now result (outside_of self.new) }
         ensures sure { result ≢ Wrote.Failed }
-        ensures faults { SameFaults self.old self.new }
     {
         wrote(add_piece(&mut self.outputs, name, bytes))
     }
@@ -245,7 +237,6 @@ impl Contents {
     pub fn say(&mut self, bytes: &[u8]) -> Wrote
         ensures leaves { Puts (after_say (outside_of self.old)) (outside_of self.old) bytes.now result (outside_of self.new) }
         ensures sure { result ≢ Wrote.Failed }
-        ensures faults { SameFaults self.old self.new }
     {
         wrote(self.said.append(bytes))
     }
@@ -254,7 +245,6 @@ impl Contents {
     pub fn complain(&mut self, bytes: &[u8]) -> Wrote
         ensures leaves { Puts (after_complaint (outside_of self.old)) (outside_of self.old) bytes.now result (outside_of self.new) }
         ensures sure { result ≢ Wrote.Failed }
-        ensures faults { SameFaults self.old self.new }
     {
         wrote(self.complained.append(bytes))
     }
@@ -263,7 +253,7 @@ impl Contents {
     pub fn count_write_fault(&mut self)
         ensures { outside_of self.new ≡ with_write_fault (outside_of self.old) }
     {
-        self.write_faults = self.write_faults.saturating_add(1);
+        self.counts.add_write_fault();
     }
 
     /// What lies under a name among the outputs.

@@ -4,6 +4,7 @@
 mod bytes;
 mod checksum;
 mod contents;
+mod counts;
 mod endings;
 mod mem_shelf;
 mod memory;
@@ -16,6 +17,7 @@ mod time;
 
 pub use bytes::{Bytes, Word};
 pub use checksum::{is_right, word_sum};
+pub use counts::Counts;
 pub use endings::{Ending, ScriptKind};
 pub use mem_shelf::MemShelf;
 pub use memory::Mem;

@@ -1,26 +1,24 @@
-ghost use Rattle.std.specs.Prelude.{◌≡◌, ◌≢◌, ◌<◌, Some, IfOk, IsTrue, length};
+ghost use Rattle.std.specs.Prelude.{◌≡◌, ◌≢◌, ◌<◌, Some, [], IfOk, IsTrue, length};
 ghost use Rattle.std.specs.Option.{option_copied};
 ghost use Rattle.zk_base.specs.Shelf.{lies_under};
 ghost use Rattle.zk_base.specs.Contents.{at_first};
+ghost use Rattle.zk_base.specs.MemShelf.{state_of, mem_outside};
 
-use crate::contents::Contents;
-use crate::{Bytes, Got, Mem, Shelf, Started, Wrote};
+use crate::{Bytes, Got, Mem, MemShelf, Shelf, Started, Wrote};
 use std::alloc::Global;
 
-/// A shelf in memory that tells everything and never fails: its counts of faults are 0.
-///
-/// The six calls of the trait are numbered from 1, as those of `MemShelf` are.
+/// A shelf in memory that tells everything and never fails: a `MemShelf` that no call is to fail
+/// of. Its counts of faults are 0, and its calls are numbered as those of `MemShelf` are.
 #[derive(Debug, Drop)]
 pub struct SureShelf {
-    contents: Contents,
-    calls: u64,
-    ghost no_read_faults: { contents.read_faults ≡ 0 },
-    ghost no_write_faults: { contents.write_faults ≡ 0 },
+    shelf: MemShelf,
+    ghost no_call_fails: { (state_of shelf).fails ≡ [] },
+    ghost no_read_faults: { (mem_outside shelf).read_faults ≡ 0 },
+    ghost no_write_faults: { (mem_outside shelf).write_faults ≡ 0 },
 }
 
 impl SureShelf {
-    ghost use Rattle.zk_base.specs.Faults.{one_more};
-    ghost use Rattle.zk_base.specs.SureShelf.{sure_outside, calls_of, after_write};
+    ghost use Rattle.zk_base.specs.SureShelf.{sure_outside, calls_of};
 
     /// A shelf with these inputs, each a name and what lies under it. Of two with one name the
     /// first counts.
@@ -28,58 +26,36 @@ impl SureShelf {
         ensures outside { IfOk result (λ shelf. sure_outside shelf ≡ at_first inputs.items) }
         ensures calls { IfOk result (λ shelf. calls_of shelf ≡ 0) }
     {
-        Ok(SureShelf {
-            contents: Contents::new(alloc, inputs),
-            calls: 0,
-        })
+        let shelf = MemShelf::new(alloc, inputs, Vec::new(alloc))?;
+        Ok(SureShelf { shelf })
     }
 
     /// The bytes of an output. None where no output of that name was created.
     pub fn output(&self, name: &[u8]) -> Option<&[u8]>
         ensures { option_copied result ≡ lies_under (sure_outside self.now).outputs name.now }
     {
-        self.contents.output(name)
+        self.shelf.output(name)
     }
 
     /// The bytes of standard output.
     pub fn said(&self) -> &[u8]
         ensures { (sure_outside self.now).said ≡ Some result.now }
     {
-        self.contents.said()
+        self.shelf.said()
     }
 
     /// The bytes of standard error.
     pub fn complained(&self) -> &[u8]
         ensures { (sure_outside self.now).complained ≡ Some result.now }
     {
-        self.contents.complained()
+        self.shelf.complained()
     }
 
     /// The number of the last call, and 0 before the first. It stops at 2^64 - 1.
     pub fn calls(&self) -> u64
         ensures { result ≡ calls_of self.now }
     {
-        self.calls
-    }
-
-    /// Gives a call its number.
-    fn count(&mut self)
-        ensures number { calls_of self.new ≡ one_more (calls_of self.old) }
-        ensures outside { sure_outside self.new ≡ sure_outside self.old }
-    {
-        self.calls = self.calls.saturating_add(1);
-    }
-
-    /// Gives a write its number, unless it found no memory.
-    fn end_write(&mut self, wrote: Wrote) -> Wrote
-        ensures same { result ≡ wrote }
-        ensures number { calls_of self.new ≡ after_write wrote (calls_of self.old) }
-        ensures outside { sure_outside self.new ≡ sure_outside self.old }
-    {
-        if wrote != Wrote::NoMemory {
-            self.count();
-        }
-        wrote
+        self.shelf.calls()
     }
 }
 
@@ -95,11 +71,7 @@ impl Shelf for SureShelf {
         ensures sure { result ≢ Started.Failed }
         ensures number { calls_of self.new ≡ after_start result (calls_of self.old) }
     {
-        let started = self.contents.start(name);
-        if started != Started::NoMemory {
-            self.count();
-        }
-        started
+        self.shelf.start(name)
     }
 
     fn read(&mut self, buf: &mut [u8]) -> Got
@@ -109,9 +81,7 @@ impl Shelf for SureShelf {
         ensures sure { result ≢ Got.Failed }
         ensures number { calls_of self.new ≡ one_more (calls_of self.old) }
     {
-        let got = self.contents.read(buf);
-        self.count();
-        got
+        self.shelf.read(buf)
     }
 
     fn create(&mut self, name: &[u8]) -> Wrote
@@ -119,8 +89,7 @@ impl Shelf for SureShelf {
         ensures sure { result ≢ Wrote.Failed }
         ensures number { calls_of self.new ≡ after_write result (calls_of self.old) }
     {
-        let wrote = self.contents.create(name);
-        self.end_write(wrote)
+        self.shelf.create(name)
     }
 
     fn append(&mut self, name: &[u8], bytes: &[u8]) -> Wrote
@@ -129,8 +98,7 @@ impl Shelf for SureShelf {
         ensures sure { result ≢ Wrote.Failed }
         ensures number { calls_of self.new ≡ after_write result (calls_of self.old) }
     {
-        let wrote = self.contents.append(name, bytes);
-        self.end_write(wrote)
+        self.shelf.append(name, bytes)
     }
 
     fn say(&mut self, bytes: &[u8]) -> Wrote
@@ -138,8 +106,7 @@ impl Shelf for SureShelf {
         ensures sure { result ≢ Wrote.Failed }
         ensures number { calls_of self.new ≡ after_write result (calls_of self.old) }
     {
-        let wrote = self.contents.say(bytes);
-        self.end_write(wrote)
+        self.shelf.say(bytes)
     }
 
     fn complain(&mut self, bytes: &[u8]) -> Wrote
@@ -147,8 +114,7 @@ impl Shelf for SureShelf {
         ensures sure { result ≢ Wrote.Failed }
         ensures number { calls_of self.new ≡ after_write result (calls_of self.old) }
     {
-        let wrote = self.contents.complain(bytes);
-        self.end_write(wrote)
+        self.shelf.complain(bytes)
     }
 }
 

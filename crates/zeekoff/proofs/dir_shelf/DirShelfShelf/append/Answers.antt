@@ -1,7 +1,7 @@
 use Rattle.std.proofs.Common.{is_some, refl}
 use Rattle.zk_base.specs.Shelf.{after_append}
 use Rattle.zeekoff.specs.DirShelf.{untold}
-use Rattle.zeekoff.proofs.CountLemmas.{puts}
+use Rattle.zeekoff.proofs.WriteLemmas.{puts}
 use Rattle.zeekoff.proofs.dir_shelf.DirShelfShelf.append.Goals as goal
 
 pub returns : goal.returns

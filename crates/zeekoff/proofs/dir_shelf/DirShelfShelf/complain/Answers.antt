@@ -1,7 +1,7 @@
 use Rattle.std.proofs.Common.{is_some, refl}
 use Rattle.zk_base.specs.Shelf.{after_complaint}
 use Rattle.zeekoff.specs.DirShelf.{untold}
-use Rattle.zeekoff.proofs.CountLemmas.{puts}
+use Rattle.zeekoff.proofs.WriteLemmas.{puts}
 use Rattle.zeekoff.proofs.dir_shelf.DirShelfShelf.complain.Goals as goal
 
 pub returns-clause-leaves : goal.returns-clause-leaves

@@ -1,4 +1,4 @@
-use Rattle.std.proofs.Common.{◌≡◌, [], Some, None, IsSome, IsNone, arith, sym, subst, refl}
+use Rattle.std.proofs.Common.{◌≡◌, [], Some, None, IsSome, IsNone, sym, subst, refl}
 use Rattle.zk_base.specs.Contents.{outside_of}
 use Rattle.zk_base.specs.Files.{number_of, IsAt}
 use Rattle.zk_base.specs.Shelf.{Closed}
@@ -27,8 +27,14 @@ returns-in-None-clause-leaves c =
     let inputs = c.args.self.now.inputs.items in
     let at : number_of inputs c.args.name.now ≡ None = cc in
     record {
-      count = c.saturating_add-self.result;
-      risen = record { kept = omega arith; risen = omega arith };
-      after = λ p. record (outside_of c.args.self.now) { started = Some (c.in-Ok.ensures.ok p); reading = Closed; absences = c.saturating_add-self.result };
+      count = c.add_absence.new.self.absences;
+      risen = c.add_absence.ensures.risen;
+      after = λ p. record (outside_of c.args.self.now) {
+        started = Some (c.in-Ok.ensures.ok p);
+        reading = Closed;
+        read_faults = (c.add_absence.ensures.counted p).read_faults;
+        write_faults = (c.add_absence.ensures.counted p).write_faults;
+        absences = c.add_absence.new.self.absences;
+      };
       lacks = subst (λ found. IsNone found) (sym (is_new inputs c.args.name.now 0 at).none) refl;
     }

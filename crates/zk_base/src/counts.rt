@@ -1,8 +1,8 @@
 ghost use Rattle.std.specs.Prelude.{◌≡◌};
-ghost use Rattle.zeekoff.specs.Counts.{with_read_fault, with_write_fault, with_absence};
+ghost use Rattle.zk_base.specs.Shelf.{HasRisen};
 
 /// How often an input has failed, an output has failed, and an input was absent. Each count stops
-/// at its last value.
+/// at 2^64 - 1.
 #[derive(Clone, Copy, Debug, Default, PartialEq, Eq)]
 pub struct Counts {
     pub read_faults: u64,
@@ -11,23 +11,28 @@ pub struct Counts {
 }
 
 impl Counts {
+    ghost use Rattle.zk_base.specs.Counts.{with_read_fault, with_write_fault, with_absence};
+
     /// Counts an input that failed.
     pub fn add_read_fault(&mut self)
-        ensures { self.new ≡ with_read_fault self.old }
+        ensures counted { self.new ≡ with_read_fault self.old }
+        ensures risen { HasRisen self.old.read_faults self.new.read_faults }
     {
         self.read_faults = self.read_faults.saturating_add(1);
     }
 
     /// Counts an output that failed.
     pub fn add_write_fault(&mut self)
-        ensures { self.new ≡ with_write_fault self.old }
+        ensures counted { self.new ≡ with_write_fault self.old }
+        ensures risen { HasRisen self.old.write_faults self.new.write_faults }
     {
         self.write_faults = self.write_faults.saturating_add(1);
     }
 
     /// Counts an input that was absent.
     pub fn add_absence(&mut self)
-        ensures { self.new ≡ with_absence self.old }
+        ensures counted { self.new ≡ with_absence self.old }
+        ensures risen { HasRisen self.old.absences self.new.absences }
     {
         self.absences = self.absences.saturating_add(1);
     }

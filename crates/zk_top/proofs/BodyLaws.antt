@@ -34,7 +34,7 @@ use Rattle.zk_parse.specs.Reading.{tree_of}
 use Rattle.zk_parse.proofs.TreeLaws.{tree_taken}
 use Rattle.zk_top.specs.Bodies.{parameter_count, HasItsArguments, EndsNormally}
 use Rattle.zk_top.specs.Item.{What, Seen}
-use Rattle.zk_top.specs.Replay.{budget, event_of}
+use Rattle.zk_top.specs.Printed.{budget, event_of}
 use Rattle.zk_top.specs.Script.{script_max, program_by, script_of}
 use Rattle.zk_top.specs.Tokens.{in_front, items_from, next_token, unread_at, behind_separators, tokens_of}
 

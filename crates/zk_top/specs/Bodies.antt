@@ -7,7 +7,7 @@ use Rattle.zk_tree.specs.Value.{Value}
 use Rattle.zk_typed.specs.declared.program.Handler.{Handler}
 use Rattle.zk_typed.specs.Exec.{Normal, exec_body}
 use Rattle.zk_typed.specs.World.{World, Queued, queued}
-use Rattle.zk_top.specs.Replay.{budget}
+use Rattle.zk_top.specs.Printed.{budget}
 
 -- how many parameters the event of a number has
 abbrev pub parameter_count : EventNo → ℕ

@@ -4,7 +4,7 @@ ghost use Rattle.zk_typed.specs.Typed.{zeek_init, zeek_done};
 ghost use Rattle.zk_typed.specs.World.{queued};
 ghost use Rattle.zk_top.specs.Bodies.{HasItsArguments, EndsNormally};
 ghost use Rattle.zk_top.specs.Item.{What};
-ghost use Rattle.zk_top.specs.Replay.{event_of};
+ghost use Rattle.zk_top.specs.Printed.{event_of};
 ghost use Rattle.zk_top.specs.Script.{script_of};
 
 /// What the bodies of a script come to: none is at fault, and none is spent, since a text of at most

@@ -5,10 +5,10 @@ use Rattle.std.proofs.lemmas.List.Sums.{sum_by-cons}
 use Rattle.zk_base.specs.Checksum.{words, AreWords, folded, end_around, ones_complement_sum}
 
 -- A sum is right exactly where it is above 0 and a multiple of 2^16 - 1.
-pub folded-is_right : (n : ℕ) → (folded n ≡ 0xffff) ↔ ((0 < n) × (n % 0xffff ≡ 0))
+pub folded-is_right_checksum : (n : ℕ) → (folded n ≡ 0xffff) ↔ ((0 < n) × (n % 0xffff ≡ 0))
 unfolding folded
-folded-is_right zero = ((λ h. omega (arith, h)), (λ h. omega (arith, h.0)))
-folded-is_right (suc n) = ((λ h. (omega arith, omega (arith, h))), (λ h. omega (arith, h.1)))
+folded-is_right_checksum zero = ((λ h. omega (arith, h)), (λ h. omega (arith, h.0)))
+folded-is_right_checksum (suc n) = ((λ h. (omega arith, omega (arith, h))), (λ h. omega (arith, h.1)))
 
 folded-above : (n : ℕ) → 0 < n → folded n ≡ (n - 1) % 0xffff + 1
 unfolding folded
@@ -34,11 +34,11 @@ fold-end_around n (w ∷ ws) h =
     ap (λ a. fold end_around a ws) (end_around-folded n w first) ∙ rest ∙ ap folded (omega (arith, sum_by-cons (λ x. x) w ws))
 
 -- Words have a right checksum, added one by one, exactly where their exact sum is right.
-pub ones_complement_sum-is_right : (ws : List ℕ) (n : ℕ) → AreWords ws → sum ws ≡ n → (ones_complement_sum ws ≡ 0xffff) ↔ ((0 < n) × (n % 0xffff ≡ 0))
+pub ones_complement_sum-is_right_checksum : (ws : List ℕ) (n : ℕ) → AreWords ws → sum ws ≡ n → (ones_complement_sum ws ≡ 0xffff) ↔ ((0 < n) × (n % 0xffff ≡ 0))
 unfolding folded
-ones_complement_sum-is_right ws n h e =
+ones_complement_sum-is_right_checksum ws n h e =
     let folds : ones_complement_sum ws ≡ folded n = fold-end_around 0 ws h ∙ ap folded (omega (arith, e)) in
-    let right = folded-is_right n in
+    let right = folded-is_right_checksum n in
     ((λ all. right.0 (sym folds ∙ all)), (λ fits. folds ∙ right.1 fits))
 
 -- The words of a piece of even length and of what follows it are the words of both.

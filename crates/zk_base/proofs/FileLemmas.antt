@@ -1,5 +1,5 @@
 -- Files in a list: what the first of a name holds, and what putting one leaves under each name.
-use Rattle.std.proofs.Common.{◌≡◌, ℕ, suc, ◌+◌, ◌<◌, ◌≤◌, true, false, cond, List, [], ◌∷◌, ◌++◌, ◌-◌, take, drop, IfSome, length-drop, length, get_or, set, Option, Some, None, is_some, refl, sym, ap, subst, ◌∙◌, arith}
+use Rattle.std.proofs.Common.{◌≡◌, ℕ, suc, ◌+◌, ◌<◌, ◌≤◌, true, false, cond, List, [], ◌∷◌, ◌++◌, ◌-◌, take, drop, min, IfSome, length-drop, length, get_or, set, Option, Some, None, is_some, refl, sym, ap, subst, ◌∙◌, arith}
 use Rattle.std.specs.List.{position_from, slice_get}
 use Rattle.std.specs.Option.{option_map}
 use Rattle.std.specs.Str.{bytes_eq}
@@ -175,6 +175,13 @@ module _ (files : Pairs) (held : Option Position) (position : Position) (file : 
   gives n before after within copied =
       subst (λ rest. IfSome rest (λ bytes. (n ≤ length bytes) × (after ≡ take n bytes ++ drop n before))) (sym rest_at)
       (omega (arith, length-drop position.place file.1), copied)
+
+  -- how much that is
+  pub fills : (n : ℕ) (before : List ℕ) → n ≡ min (length file.1 - position.place) (length before)
+      → IfSome (bytes_from (Some (files_of files)) (reading_of files held)) (λ rest. n ≡ min (length rest) (length before))
+  fills n before many =
+      subst (λ rest. IfSome rest (λ bytes. n ≡ min (length bytes) (length before))) (sym rest_at)
+      (many ∙ ap (λ left. min left (length before)) (sym (length-drop position.place file.1)))
 
   -- and further on
   pub reading_on : (n : ℕ) → reading_of files (Some (record { file = position.file; place = position.place + n })) ≡ advanced (reading_of files held) n

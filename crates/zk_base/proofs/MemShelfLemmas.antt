@@ -35,7 +35,7 @@ pub reads : (old : MemState) (before : List ℕ) (result : Got) (after : List �
     → MemReads old before result after new → Reads old.outside before result after new.outside
 reads old before (got.Bytes n) after new done = done.1
 reads old before got.End after new done = done.1
-reads old before got.Failed after new failed = record { count = _; risen = has_risen old.outside.read_faults; after = left_failed old _ new failed.0 }
+reads old before got.Failed after new failed = record { count = _; risen = has_risen old.outside.read_faults; after = left_failed old _ new failed }
 
 -- to empty a file that isn't there changes nothing
 without_absent : (files : Files) (name : List ℕ) → files name ≡ None → files ≡ without_file files name

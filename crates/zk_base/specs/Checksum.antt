@@ -7,6 +7,7 @@ words [] = []
 words (high ∷ []) = (256 * high) ∷ []
 words (high ∷ low ∷ rest) = (256 * high + low) ∷ words rest
 
+-- each is a word of 16 bits
 abbrev pub AreWords : List ℕ → Type 0
 AreWords ws = All (λ w. w < 0x10000) ws
 
@@ -19,10 +20,6 @@ folded (suc n) = n % 0xffff + 1
 -- words of this sum, the checksum field among them, have the right checksum: their one's complement sum is all ones
 abbrev pub is_right_sum : ℕ → Bool
 is_right_sum total = folded total == 0xffff
-
--- the words have the right checksum
-abbrev pub IsRight : List ℕ → Type 0
-IsRight ws = IsTrue (is_right_sum (sum ws))
 
 -- the one's complement sum of two words: the carry goes round to the low end (RFC 1071, section 1)
 abbrev pub end_around : ℕ → ℕ → ℕ

@@ -57,7 +57,7 @@ MemStarts old name started.NoMemory new = new ≡ old
 abbrev pub MemReads : MemState → List ℕ → Got → List ℕ → MemState → Type 0
 MemReads old before (got.Bytes n) after new = Succeeds old new.outside new × GivesBytes old.outside before n after new.outside
 MemReads old before got.End after new = Succeeds old new.outside new × IsReadOut old.outside new.outside
-MemReads old before got.Failed after new = Fails old (after_failed_read old.outside) new × (after ≡ before)
+MemReads old before got.Failed after new = Fails old (after_failed_read old.outside) new
 
 -- Making and writing outputs -------------------------------------------------------------------------------
 

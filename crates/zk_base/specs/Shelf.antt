@@ -53,11 +53,15 @@ pub record HasRisen (old new : ℕ) : Type 0 where
   pub kept : old ≤ new
   pub risen : min (old + 1) (2 ^ 64 - 1) ≤ new
 
+-- more at the end of a list, where it is told
+abbrev pub appended : {X : Type 0} → Option (List X) → List X → Option (List X)
+appended before more = option_map (λ told. told ++ more) before
+
 -- Starting an input ---------------------------------------------------------------------------------------
 
 -- one more name in the list, where it is told
 abbrev pub named : Option (List (List ℕ)) → List ℕ → Option (List (List ℕ))
-named names name = option_map (λ told. told ++ name ∷ []) names
+named names name = appended names (name ∷ [])
 
 -- the open input after one of this name is opened
 abbrev pub opened : Option Files → List ℕ → Reading
@@ -163,10 +167,6 @@ Creates old name wrote.NoMemory new = new ≡ old
 abbrev pub IsCreated : Outside → List ℕ → Type 0
 IsCreated o name = IfSome o.outputs (λ files. IsSome (files name))
 
--- a piece at the end of what was written, where that is told
-abbrev pub appended : Option (List ℕ) → List ℕ → Option (List ℕ)
-appended written piece = option_map (λ bytes. bytes ++ piece) written
-
 -- the files after a piece is put at the end of one of them
 abbrev pub with_piece : Files → List ℕ → List ℕ → Files
 with_piece files name piece = λ other. if bytes_eq name other then appended (files other) piece else files other
@@ -181,8 +181,8 @@ after_say o piece = record o { said = appended o.said piece }
 abbrev pub after_complaint : Outside → List ℕ → Outside
 after_complaint o piece = record o { complained = appended o.complained piece }
 
--- a write that fails is counted, and has put a front of its piece
-pub record PutsFront (after : List ℕ → Outside) (old : Outside) (piece : List ℕ) (new : Outside) : Type 0 where
+-- a write that fails is counted, and has put a prefix of its piece
+pub record PutsPrefix (after : List ℕ → Outside) (old : Outside) (piece : List ℕ) (new : Outside) : Type 0 where
   pub length : ℕ
   pub count : ℕ
   pub risen : HasRisen old.write_faults count
@@ -191,5 +191,5 @@ pub record PutsFront (after : List ℕ → Outside) (old : Outside) (piece : Lis
 -- what a write of a piece leaves, where after says how the outside is after a piece
 abbrev pub Puts : (List ℕ → Outside) → Outside → List ℕ → Wrote → Outside → Type 0
 Puts after old piece wrote.Done new = new ≡ after piece
-Puts after old piece wrote.Failed new = PutsFront after old piece new
+Puts after old piece wrote.Failed new = PutsPrefix after old piece new
 Puts after old piece wrote.NoMemory new = new ≡ old

@@ -23,7 +23,7 @@ pub fn word_sum(bytes: &[u8]) -> u64
 
 /// Whether words with this sum, the checksum field among them, have a right checksum: their one's
 /// complement sum is all ones (RFC 1071, section 1).
-pub fn is_right(total: u64) -> bool
+pub fn is_right_checksum(total: u64) -> bool
     ensures value { result ≡ is_right_sum total }
 
     // The same as adding any words of this sum one by one, each carry taken round to the low end.
@@ -45,8 +45,8 @@ mod tests {
         assert_eq!(rt; word_sum(&bytes), 0x2ddf0);
         assert_eq!(rt; word_sum(&bytes[..7]), 0x2ddf0 - 0xf7);
         let checksum = 0xffff - 0xddf2;
-        assert!(rt; is_right(0x2ddf0 + checksum));
-        assert!(rt; !is_right(0x2ddf0 + checksum + 1));
-        assert!(rt; !is_right(0));
+        assert!(rt; is_right_checksum(0x2ddf0 + checksum));
+        assert!(rt; !is_right_checksum(0x2ddf0 + checksum + 1));
+        assert!(rt; !is_right_checksum(0));
     }
 }

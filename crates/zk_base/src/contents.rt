@@ -99,8 +99,8 @@ pub struct Position {
     pub place: usize,
 }
 
-/// What a shelf holds that lies in memory, with its counts. Its calls are those of a shelf that
-/// never fails, and beside them what such a shelf needs to fail at a call.
+/// What a shelf in memory holds, with its counts. Its plain calls never fail; those named
+/// `fail_to_` do what a call does that fails.
 #[derive(Debug, Drop)]
 pub struct Contents {
     alloc: Global,
@@ -115,7 +115,7 @@ pub struct Contents {
 }
 
 impl Contents {
-    ghost use Rattle.zk_base.specs.Contents.{outside_of, at_first};
+    ghost use Rattle.zk_base.specs.Contents.{outside_of, at_first, Fills};
     ghost use Rattle.zk_base.specs.Faults.{after_absence, after_failed_start, after_failed_read, after_failed_create, with_write_fault};
     ghost use Rattle.zk_base.specs.Shelf.{Starts, is_open, Reads, Creates, IsCreated, Puts, after_append, after_say, after_complaint};
 
@@ -176,6 +176,7 @@ impl Contents {
         requires room { 0 < length buf.old }
         requires input { IsTrue (is_open (outside_of self.old).reading) }
         ensures leaves { Reads (outside_of self.old) buf.old result buf.new (outside_of self.new) }
+        ensures fills { Fills (outside_of self.old) buf.old result buf.new }
         ensures sure { result ≢ Got.Failed }
     {
         let Some(position) = self.position else {

@@ -1,5 +1,5 @@
 ghost use Rattle.std.specs.Prelude.{◌≡◌};
-ghost use Rattle.zk_base.specs.Ending.{exit_status};
+ghost use Rattle.zk_base.specs.Ending.{exit_status, kind_name};
 
 use crate::{Bytes, Moment};
 
@@ -64,7 +64,7 @@ pub enum ScriptKind {
     NoTree,
     /// A name means nothing visible.
     Unknown,
-    /// Something is declared twice, two logs of one path have other columns, or a path is that of
+    /// Something is declared twice, two logs of one path have different columns, or a path is that of
     /// `reporter`.
     Twice,
     /// A value has another type than its place asks.
@@ -105,6 +105,34 @@ impl Ending {
             Ending::NoMemory => 7,
             Ending::Flood { .. } => 8,
             Ending::NoInput { .. } => 9,
+        }
+    }
+}
+
+impl ScriptKind {
+    /// The bare name of the kind, as a complaint gives it.
+    pub fn name(self) -> &'static [u8]
+        ensures { result.now ≡ kind_name self }
+    {
+        match self {
+            ScriptKind::TooLarge => b"TooLarge",
+            ScriptKind::TooMany => b"TooMany",
+            ScriptKind::BadByte => b"BadByte",
+            ScriptKind::OpenString => b"OpenString",
+            ScriptKind::BigNumber => b"BigNumber",
+            ScriptKind::NoTree => b"NoTree",
+            ScriptKind::Unknown => b"Unknown",
+            ScriptKind::Twice => b"Twice",
+            ScriptKind::WrongType => b"WrongType",
+            ScriptKind::Field => b"Field",
+            ScriptKind::Recursive => b"Recursive",
+            ScriptKind::NotConst => b"NotConst",
+            ScriptKind::FixedGlobal => b"FixedGlobal",
+            ScriptKind::Arguments => b"Arguments",
+            ScriptKind::Return => b"Return",
+            ScriptKind::Break => b"Break",
+            ScriptKind::Attribute => b"Attribute",
+            ScriptKind::Format => b"Format",
         }
     }
 }

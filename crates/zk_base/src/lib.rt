@@ -16,7 +16,7 @@ mod sure_shelf;
 mod time;
 
 pub use bytes::{Bytes, Word};
-pub use checksum::{is_right, word_sum};
+pub use checksum::{is_right_checksum, word_sum};
 pub use counts::Counts;
 pub use endings::{Ending, ScriptKind};
 pub use mem_shelf::MemShelf;

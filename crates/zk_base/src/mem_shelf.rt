@@ -117,6 +117,7 @@ impl MemShelf {
 
 impl Shelf for MemShelf {
     ghost use Rattle.zk_base.specs.Shelf.{Starts, is_open, Reads, Creates, IsCreated, Puts, after_append, after_say, after_complaint};
+    ghost use Rattle.zk_base.specs.Contents.{Fills};
     ghost use Rattle.zk_base.specs.MemShelf.{state_of, mem_outside, MemStarts, MemReads, MemCreates, MemPuts};
 
     ghost outside = { mem_outside };
@@ -140,6 +141,7 @@ impl Shelf for MemShelf {
         requires room { 0 < length buf.old }
         requires input { IsTrue (is_open (mem_outside self.old).reading) }
         ensures leaves { Reads (mem_outside self.old) buf.old result buf.new (mem_outside self.new) }
+        ensures fills { Fills (mem_outside self.old) buf.old result buf.new }
         ensures exact { MemReads (state_of self.old) buf.old result buf.new (state_of self.new) }
     {
         let got = if self.fails_next() {

@@ -61,6 +61,7 @@ impl SureShelf {
 
 impl Shelf for SureShelf {
     ghost use Rattle.zk_base.specs.Shelf.{Starts, is_open, Reads, Creates, IsCreated, Puts, after_append, after_say, after_complaint};
+    ghost use Rattle.zk_base.specs.Contents.{Fills};
     ghost use Rattle.zk_base.specs.Faults.{one_more};
     ghost use Rattle.zk_base.specs.SureShelf.{sure_outside, calls_of, after_start, after_write};
 
@@ -78,6 +79,7 @@ impl Shelf for SureShelf {
         requires room { 0 < length buf.old }
         requires input { IsTrue (is_open (sure_outside self.old).reading) }
         ensures leaves { Reads (sure_outside self.old) buf.old result buf.new (sure_outside self.new) }
+        ensures fills { Fills (sure_outside self.old) buf.old result buf.new }
         ensures sure { result ≢ Got.Failed }
         ensures number { calls_of self.new ≡ one_more (calls_of self.old) }
     {

@@ -2,7 +2,7 @@ ghost use Rattle.std.specs.Prelude.{◌≡◌, ◌^◌, ◌<◌, ◌≤◌, leng
 ghost use Rattle.zk_base.specs.Checksum.{words};
 ghost use Rattle.zk_l4.specs.PseudoHeader.{address_bytes, has_right_checksum};
 
-use zk_base::{Addr, is_right, word_sum};
+use zk_base::{Addr, is_right_checksum, word_sum};
 
 /// The sum of an address's 16-bit words.
 fn address_sum(address: Addr) -> u64
@@ -24,5 +24,5 @@ pub fn is_checksum_right(src: Addr, dst: Addr, protocol: u8, datagram: &[u8]) ->
     // Protocol and length are words of their own in either pseudo header: the words of 32 bits that
     // hold them in that of IPv6 have a high half of zero.
     let header = address_sum(src) + address_sum(dst) + u64::from(protocol) + datagram.len() as u64;
-    is_right(header + word_sum(datagram))
+    is_right_checksum(header + word_sum(datagram))
 }

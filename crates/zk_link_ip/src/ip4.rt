@@ -3,7 +3,7 @@ ghost use Rattle.zk_link_ip.specs.Ip4.{header_len, ihl, total_length};
 
 use byteorder::{BigEndian, ByteOrder};
 use thiserror::Error;
-use zk_base::{Addr, IP4_TOTAL_LENGTH_MAX, is_right, word_sum};
+use zk_base::{Addr, IP4_TOTAL_LENGTH_MAX, is_right_checksum, word_sum};
 
 /// Why bytes begin with no IPv4 packet: the first fault that holds, in this order.
 #[derive(Clone, Copy, Debug, PartialEq, Eq, Error)]
@@ -92,7 +92,7 @@ impl<'a> Ip4<'a> {
         if total_length != 0 && total_length < header_len {
             return Err(IpFault::Total);
         }
-        if check && !is_right(word_sum(&bytes[..header_len])) {
+        if check && !is_right_checksum(word_sum(&bytes[..header_len])) {
             return Err(IpFault::Checksum);
         }
         Ok(Ip4 { bytes })

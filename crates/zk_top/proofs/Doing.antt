@@ -1,7 +1,7 @@
 -- What parts of a run do, put together.
 use Rattle.std.proofs.Common.{◌≡◌, ℕ, List, [], ◌∷◌, ◌++◌, take, drop, Option, Some, None, refl, sym, ap, subst, ◌∙◌, arith, append_assoc}
 use Rattle.std.proofs.lemmas.List.{take-append-drop, append-nil}
-use Rattle.zk_base.specs.Shelf.{Outside, HasRisen, FailsToStart, OpensInput, PutsFront, after_say, after_complaint, appended}
+use Rattle.zk_base.specs.Shelf.{Outside, HasRisen, FailsToStart, OpensInput, PutsPrefix, after_say, after_complaint, appended}
 use Rattle.zk_top.specs.declared.stop.Stop.{Stop}
 use Rattle.zk_top.specs.declared.stop.Stop.TheVariants.{ReadFault, WriteFault, NoMemory}
 use Rattle.zk_top.specs.Run.{IsFront, all_named, SameFaults, HasCause, Does, DoesAll, DoesPart}
@@ -136,7 +136,7 @@ out_of_memory names said complained old new same =
 
 -- a write that failed --------------------------------------------------------------------------------------
 
-pub said_part : (piece : List ℕ) (old new : Outside) → PutsFront (after_say old) old piece new → DoesPart [] piece [] old WriteFault new
+pub said_part : (piece : List ℕ) (old new : Outside) → PutsPrefix (after_say old) old piece new → DoesPart [] piece [] old WriteFault new
 said_part piece old new puts = record {
   names_part = [];
   names_front = front_none [];
@@ -155,7 +155,7 @@ said_part piece old new puts = record {
   cause = (subst (λ n. HasRisen old.write_faults n) (sym (ap (λ (o : Outside). o.write_faults) puts.left)) puts.risen, ap (λ (o : Outside). o.read_faults) puts.left);
 }
 
-pub complained_part : (piece : List ℕ) (old new : Outside) → PutsFront (after_complaint old) old piece new → DoesPart [] [] piece old WriteFault new
+pub complained_part : (piece : List ℕ) (old new : Outside) → PutsPrefix (after_complaint old) old piece new → DoesPart [] [] piece old WriteFault new
 complained_part piece old new puts = record {
   names_part = [];
   names_front = front_none [];

@@ -1,6 +1,7 @@
 ghost use Rattle.std.specs.Prelude.{◌≡◌, [], ◌++◌, codes, decimal, OnOk, IfOk, IfErr};
 ghost use Rattle.zk_text.specs.Span.{span_decimal};
-ghost use Rattle.zk_top.specs.Complaint.{complaint_of, kind_name, line};
+ghost use Rattle.zk_base.specs.Ending.{kind_name};
+ghost use Rattle.zk_top.specs.Complaint.{complaint_of, line};
 ghost use Rattle.zk_top.specs.Run.{DoesAll, DoesPart};
 
 use crate::stop::Stop;
@@ -78,7 +79,7 @@ fn script_refused(
     text.extend_from_slice(b", byte ")?;
     push_count(&mut text, place)?;
     text.extend_from_slice(b": ")?;
-    text.extend_from_slice(name_of(kind))?;
+    text.extend_from_slice(kind.name())?;
     text.push(b'\n')?;
     Ok(text)
 }
@@ -113,30 +114,4 @@ fn flood(alloc: Global, moment: i64) -> Result<Vec<u8>, AllocError>
     push_span(&mut text, moment)?;
     text.push(b'\n')?;
     Ok(text)
-}
-
-/// The bare name of a kind.
-fn name_of(kind: ScriptKind) -> &'static [u8]
-    ensures { result.now ≡ kind_name kind }
-{
-    match kind {
-        ScriptKind::TooLarge => b"TooLarge",
-        ScriptKind::TooMany => b"TooMany",
-        ScriptKind::BadByte => b"BadByte",
-        ScriptKind::OpenString => b"OpenString",
-        ScriptKind::BigNumber => b"BigNumber",
-        ScriptKind::NoTree => b"NoTree",
-        ScriptKind::Unknown => b"Unknown",
-        ScriptKind::Twice => b"Twice",
-        ScriptKind::WrongType => b"WrongType",
-        ScriptKind::Field => b"Field",
-        ScriptKind::Recursive => b"Recursive",
-        ScriptKind::NotConst => b"NotConst",
-        ScriptKind::FixedGlobal => b"FixedGlobal",
-        ScriptKind::Arguments => b"Arguments",
-        ScriptKind::Return => b"Return",
-        ScriptKind::Break => b"Break",
-        ScriptKind::Attribute => b"Attribute",
-        ScriptKind::Format => b"Format",
-    }
 }

@@ -13,4 +13,4 @@ returns c =
     let total : ℕ = c.address_sum.result + c.address_sum-2.result + c.from.result + len + c.word_sum.result in
     let all : total ≡ sum (words (pseudo_header c.args.src c.args.dst c.args.protocol len ++ datagram)) =
     omega (arith, sum_words-pseudo_header c.args.src c.args.dst c.args.protocol len datagram small) in
-    c.is_right.ensures.value ∙ ap is_right_sum all
+    c.is_right_checksum.ensures.value ∙ ap is_right_sum all

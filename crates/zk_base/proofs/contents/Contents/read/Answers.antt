@@ -1,9 +1,9 @@
-use Rattle.std.proofs.Common.{◌≡◌, ◌+◌, ◌≤◌, ◌++◌, length, take, drop, Some, arith, ap, ◌∙◌, subst, refl}
+use Rattle.std.proofs.Common.{◌≡◌, ◌+◌, ◌-◌, ◌≤◌, ◌++◌, min, length, take, drop, Some, arith, ap, ◌∙◌, subst, refl}
 use Rattle.std.specs.List.{slice_get}
 use Rattle.std.proofs.lemmas.Option.{slice_get_read}
 use Rattle.zk_base.specs.Contents.{outside_of}
 use Rattle.zk_base.specs.Files.{IsAt}
-use Rattle.zk_base.proofs.FileLemmas.{is_read_out, gives, reading_on, at_on}
+use Rattle.zk_base.proofs.FileLemmas.{is_read_out, gives, fills, reading_on, at_on}
 use Rattle.zk_base.proofs.contents.Contents.read.Goals as goal
 
 pub copy_from-n-requires : goal.copy_from-n-requires
@@ -64,3 +64,15 @@ returns-clause-leaves c =
           (c.copy_from-n.ensures.copied ∙ ap (λ content. take n (drop position.place content) ++ drop n c.args.buf.now) c.as_slice-content.ensures);
       goes_on = λ p. record (outside_of c.args.self.now) { reading = reading_on inputs held position file is at here n p };
     }
+
+pub returns-clause-fills : goal.returns-clause-fills
+returns-clause-fills c =
+    let inputs = c.args.self.now.inputs.items in
+    let held = c.args.self.now.position in
+    let position = c.in-Some.position in
+    let file = c.index.result.now in
+    let is : held ≡ Some position = c.in-Some.is in
+    let at : IsAt inputs position = c.args.self.now.found position is in
+    let here : slice_get inputs position.file ≡ Some file = slice_get_read inputs (length inputs) position.file file refl at.0 c.index.ensures in
+    fills inputs held position file is at here c.copy_from-n.result c.args.buf.now
+    (c.copy_from-n.ensures.count ∙ ap (λ content. min (length content - position.place) (length c.args.buf.now)) c.as_slice-content.ensures)

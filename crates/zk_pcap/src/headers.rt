@@ -15,7 +15,7 @@ pub struct Header {
     pub nano: bool,
     /// The most bytes that were to be captured of a packet.
     pub snaplen: u32,
-    /// The link type of the frames: `LINKTYPE_ETHERNET` or `LINKTYPE_RAW`.
+    /// The link type of the frames: 1 is Ethernet, 101 raw IP.
     pub link: u16,
 }
 

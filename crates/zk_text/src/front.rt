@@ -8,7 +8,7 @@ use thiserror::Error;
 pub struct Short;
 
 /// Copies a text to the front of a buffer.
-pub(crate) fn write_front(text: &[u8], out: &mut [u8]) -> Result<usize, Short>
+pub fn write_front(text: &[u8], out: &mut [u8]) -> Result<usize, Short>
     ensures len { IfOk result (λ len. len ≡ length text.now) }
     ensures text { OnOk result (out.new ≡ text.now ++ drop (length text.now) out.old) }
     ensures short { IsErr result ↔ (length out.old < length text.now) }

@@ -9,7 +9,7 @@ use Rattle.std.proofs.lemmas.List.FromFn.{fill_by_all}
 use Rattle.std.proofs.lemmas.Simd.{map-map}
 use Rattle.zk_frag.specs.declared.assembly.Assembly.{Assembly}
 use Rattle.zk_frag.specs.Fragment.{Fragment, byte_of, end}
-use Rattle.zk_frag.specs.Group.{byte_at, end_of, bytes_below, covered_to, datagram}
+use Rattle.zk_frag.specs.Group.{byte_at, named_end, bytes_below, covered_to, datagram}
 use Rattle.zk_frag.specs.Buffer.{byte_held}
 use Rattle.zk_frag.specs.Standing.{Holds, Carries}
 use Rattle.zk_frag.proofs.PlaceLemmas.{option_or_assoc}
@@ -46,12 +46,12 @@ option_map-or f None p = refl
 option_map-or f (Some x) p = refl
 
 -- one more fragment names the end where no earlier one does
-pub end_of-append : (group : List Fragment) (last : Fragment)
-    → end_of (group ++ last ∷ []) ≡ option_or (end_of group) (cond (not last.more) (Some (end last)) None)
-end_of-append group last =
+pub named_end-append : (group : List Fragment) (last : Fragment)
+    → named_end (group ++ last ∷ []) ≡ option_or (named_end group) (cond (not last.more) (Some (end last)) None)
+named_end-append group last =
     ap (option_map end) (find-append (λ (f : Fragment). not f.more) group (last ∷ []))
     ∙ option_map-or end (find (λ (f : Fragment). not f.more) group) (cond (not last.more) (Some last) None)
-    ∙ ap (option_or (end_of group)) (of_last (not last.more))
+    ∙ ap (option_or (named_end group)) (of_last (not last.more))
   where
     of_last : (b : Bool) → option_map end (cond b (Some last) None) ≡ cond b (Some (end last)) None
     of_last true = refl
@@ -140,7 +140,7 @@ holds_added old new place more payload adds group fragment holds carries = recor
       ∙ ap (λ p. option_or (byte_held old.bytes.items old.covered.items i) (byte_of p fragment.payload i)) carries.place_is
       ∙ ap (λ xs. option_or (byte_held old.bytes.items old.covered.items i) (byte_of place xs i)) carries.payload_is
       ∙ sym (adds.first i);
-  end = end_of-append group fragment
+  end = named_end-append group fragment
       ∙ ap (λ o. option_or o (cond (not fragment.more) (Some (end fragment)) None)) holds.end
       ∙ ap (λ b. option_or old.end (cond (not b) (Some (end fragment)) None)) carries.more_is
       ∙ ap (λ n. option_or old.end (cond (not more) (Some n) None)) end_is

@@ -1,4 +1,5 @@
--- The fragments of one datagram, in the order in which they were captured.
+-- The fragments of one datagram, in the order in which they were captured (RFC 791, section 3.2, but for two rules of this
+-- project's own: of two copies of a byte the first stands, and a group lasts 30 seconds from its first fragment on).
 use Rattle.std.specs.Prelude.{ℕ, Bool, false, not, List, [], ◌∷◌, ◌++◌, map, find, Option, None, Some, is_some, unwrap_or, if◌then◌else◌, ◌+ℤ◌, pos, int_lt}
 use Rattle.std.specs.List.{list_all, range_with_len}
 use Rattle.std.specs.Option.{option_map, option_and_then}
@@ -11,9 +12,9 @@ byte_at group place =
     option_and_then (λ fragment. byte_of fragment.place fragment.payload place)
     (find (λ fragment. is_some (byte_of fragment.place fragment.payload place)) group)
 
--- the datagram's length: the first fragment without MF names it
-abbrev pub end_of : List Fragment → Option ℕ
-end_of group = option_map end (find (λ fragment. not fragment.more) group)
+-- the datagram's end: the first fragment without MF names it
+abbrev pub named_end : List Fragment → Option ℕ
+named_end group = option_map end (find (λ fragment. not fragment.more) group)
 
 -- what there is at the first n places
 abbrev pub bytes_below : List Fragment → ℕ → List (Option ℕ)
@@ -25,11 +26,11 @@ covered_to group None = false
 covered_to group (Some n) = list_all is_some (bytes_below group n)
 
 abbrev pub is_covered : List Fragment → Bool
-is_covered group = covered_to group (end_of group)
+is_covered group = covered_to group (named_end group)
 
 -- the bytes from place 0 to the end
 abbrev pub datagram : List Fragment → List ℕ
-datagram group = map (λ byte. unwrap_or byte 0) (bytes_below group (unwrap_or (end_of group) 0))
+datagram group = map (λ byte. unwrap_or byte 0) (bytes_below group (unwrap_or (named_end group) 0))
 
 abbrev pub first_moment : List Fragment → Option Moment
 first_moment [] = None

@@ -12,13 +12,13 @@ use Rattle.zk_frag.specs.declared.key.Key.{Key}
 use Rattle.zk_frag.specs.contracts.key.KeyOrd.TheImpl as key_ord
 use Rattle.zk_frag.specs.Buffer.{byte_held}
 use Rattle.zk_frag.specs.Fragment.{Fragment}
-use Rattle.zk_frag.specs.Group.{byte_at, end_of, first_moment, is_covered, datagram}
+use Rattle.zk_frag.specs.Group.{byte_at, named_end, first_moment, is_covered, datagram}
 use Rattle.zk_frag.specs.Histories.{left_of, open_group, joined_of, datagram_of}
 
 -- an assembly has the first copies of a group's bytes, the end that the group names, and the first place that is not covered
 pub record Holds (assembly : Assembly) (group : List Fragment) : Type 0 where
   pub bytes : (place : ℕ) → byte_at group place ≡ byte_held assembly.bytes.items assembly.covered.items place
-  pub end : end_of group ≡ assembly.end
+  pub end : named_end group ≡ assembly.end
   pub before : (place : ℕ) → place < assembly.front → slice_index_or assembly.covered.items place false ≡ true
   pub gap : slice_index_or assembly.covered.items assembly.front false ≡ false
   pub room : length assembly.covered.items ≤ length assembly.bytes.items
@@ -60,7 +60,8 @@ pub record Carries (fragment : Fragment) (place : ℕ) (more : Bool) (payload : 
   pub more_is : fragment.more ≡ more
   pub payload_is : fragment.payload ≡ payload
 
--- the value was given these fragments, and no others
+-- The value goes on as one that was given exactly these fragments: of each key it keeps the open group, and behind a
+-- fragment that made a datagram whole it has the bytes of the datagram.
 pub record StandsFor (frags : Frags) (given : List Fragment) : Type 0 where
   pub groups : (key : Key) → Keeps (group_at frags key) (open_group key given)
   pub whole : (earlier : List Fragment) (last : Fragment) → given ≡ earlier ++ last ∷ [] → joined_of earlier last ≡ Whole

@@ -17,3 +17,9 @@ pub const ACK: u8 = 0x10;
 
 /// The urgent pointer counts.
 pub const URG: u8 = 0x20;
+
+/// The sender has noticed congestion, or knows of such notices (ECN-Echo).
+pub const ECE: u8 = 0x40;
+
+/// The sender sends less than before, for a notice of congestion (congestion window reduced).
+pub const CWR: u8 = 0x80;

@@ -101,6 +101,22 @@ const SEGMENTS: [(Addr, Addr, &[u8], Fields); 5] = [
     ),
 ];
 
+/// The control bits as RFC 9293, section 3.1 draws them, from the right.
+#[test]
+fn each_control_bit_has_its_place(rt: HostRuntime) {
+    let bits = [
+        flags::FIN,
+        flags::SYN,
+        flags::RST,
+        flags::PSH,
+        flags::ACK,
+        flags::URG,
+        flags::ECE,
+        flags::CWR,
+    ];
+    assert_eq!(rt; bits, [1, 2, 4, 8, 16, 32, 64, 128]);
+}
+
 fn fields_of(tcp: Tcp<'_>) -> Fields {
     (
         tcp.src_port(),

@@ -1,15 +1,15 @@
 -- Headers that show what the definitions of `Ip4` say.
-use Rattle.std.proofs.Common.{◌≡◌, ℕ, List, [], ◌∷◌, ◌++◌, true, false, Ok, Err, refl}
+use Rattle.std.proofs.Common.{◌≡◌, ℕ, List, [], ◌∷◌, ◌++◌, true, false, Some, None, refl}
 use Rattle.zk_base.specs.Checksum.{folded}
 use Rattle.zk_base.specs.declared.network.Addr.TheVariants.{V4}
-use Rattle.zk_link_ip.specs.Ip4.{ip4_of, identification, more, offset, protocol, source, destination, full_len, was_cut, payload}
+use Rattle.zk_link_ip.specs.Ip4.{ip4_fault, identification, more, offset, protocol, source, destination, full_len, was_cut, payload}
 use Rattle.zk_link_ip.specs.declared.ip4.IpFault.TheVariants.{Short, NotFour, Ihl, Total, Checksum}
 
 -- a header of UDP with its first byte, total length and checksum left open
 header : ℕ → ℕ → ℕ → List ℕ
 header first total checksum = first ∷ 0x00 ∷ 0x00 ∷ total ∷ 0x00 ∷ 0x00 ∷ 0x40 ∷ 0x00 ∷ 0x40 ∷ 0x11 ∷ 0xb8 ∷ checksum ∷ 0xc0 ∷ 0xa8 ∷ 0x00 ∷ 0x01 ∷ 0xc0 ∷ 0xa8 ∷ 0x00 ∷ 0xc7 ∷ []
 
-right : ip4_of (header 0x45 0x73 0x61) true ≡ Ok (header 0x45 0x73 0x61)
+right : ip4_fault (header 0x45 0x73 0x61) true ≡ None
 unfolding header folded
 right = refl
 
@@ -37,31 +37,31 @@ right-was_cut : was_cut (header 0x45 0x73 0x61) ≡ true
 unfolding header
 right-was_cut = refl
 
-wrong_checksum : ip4_of (header 0x45 0x73 0x62) true ≡ Err Checksum
+wrong_checksum : ip4_fault (header 0x45 0x73 0x62) true ≡ Some Checksum
 unfolding header folded
 wrong_checksum = refl
 
-wrong_checksum-not_asked : ip4_of (header 0x45 0x73 0x62) false ≡ Ok (header 0x45 0x73 0x62)
+wrong_checksum-not_asked : ip4_fault (header 0x45 0x73 0x62) false ≡ None
 unfolding header
 wrong_checksum-not_asked = refl
 
-version_six : ip4_of (header 0x65 0x73 0x61) true ≡ Err NotFour
+version_six : ip4_fault (header 0x65 0x73 0x61) true ≡ Some NotFour
 unfolding header
 version_six = refl
 
-header_of_four_words : ip4_of (header 0x44 0x73 0x61) true ≡ Err Ihl
+header_of_four_words : ip4_fault (header 0x44 0x73 0x61) true ≡ Some Ihl
 unfolding header
 header_of_four_words = refl
 
-header_past_the_bytes : ip4_of (header 0x46 0x73 0x61) true ≡ Err Ihl
+header_past_the_bytes : ip4_fault (header 0x46 0x73 0x61) true ≡ Some Ihl
 unfolding header
 header_past_the_bytes = refl
 
-total_within_the_header : ip4_of (header 0x45 0x13 0x61) true ≡ Err Total
+total_within_the_header : ip4_fault (header 0x45 0x13 0x61) true ≡ Some Total
 unfolding header
 total_within_the_header = refl
 
-too_short : ip4_of (0x45 ∷ []) false ≡ Err Short
+too_short : ip4_fault (0x45 ∷ []) false ≡ Some Short
 too_short = refl
 
 -- no total length: the packet ends with the bytes

@@ -1,4 +1,4 @@
--- What a captured frame holds, by places (IEEE 802.3 3.2; IEEE 802.1Q 9.6 for tags; the list of link types
+-- What a captured frame holds, by places (IEEE 802.3 3.2; IEEE 802.1Q 9.5 and 9.6 for tags; the list of link types
 -- of the capture format).
 use Rattle.std.specs.Prelude.{ℕ, ◌+◌, ◌/◌, Bool, ◌==◌, ◌&&◌, ◌||◌, not, nat_le, if◌then◌else◌, List, length, drop, slice_index, Option, Some, None, option_and_then}
 use Rattle.byteorder.specs.Endian.{big_number}

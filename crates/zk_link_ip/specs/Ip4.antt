@@ -1,5 +1,5 @@
 -- An IPv4 packet (RFC 791, section 3.1), by the places of its header's fields.
-use Rattle.std.specs.Prelude.{ℕ, ◌-◌, ◌*◌, ◌/◌, ◌%◌, ◌^◌, Bool, ◌==◌, ◌&&◌, ◌||◌, not, nat_lt, min, if◌then◌else◌, List, length, take, drop, sum, slice_index, Result, Ok, Err}
+use Rattle.std.specs.Prelude.{ℕ, ◌-◌, ◌*◌, ◌/◌, ◌%◌, ◌^◌, Bool, ◌==◌, ◌&&◌, ◌||◌, not, nat_lt, min, if◌then◌else◌, List, length, take, drop, sum, slice_index, Option, Some, None}
 use Rattle.byteorder.specs.Endian.{big_number}
 use Rattle.zk_base.specs.Checksum.{words, is_right_sum}
 use Rattle.zk_base.specs.declared.network.TheConstants.{IP4_TOTAL_LENGTH_MAX}
@@ -45,7 +45,8 @@ source bytes = V4 (big_number 4 (drop 12 bytes))
 abbrev pub destination : List ℕ → Addr
 destination bytes = V4 (big_number 4 (drop 16 bytes))
 
--- where the packet ends: at its total length, or where that is 0 with the bytes, after the greatest total length at the latest
+-- Where the packet ends: at its total length. Where that is 0, which is no form of RFC 791, it ends with the bytes, after
+-- the greatest total length at the latest: that is this project's own rule.
 abbrev pub packet_len : List ℕ → ℕ
 packet_len bytes = if total_length bytes == 0 then min (length bytes) IP4_TOTAL_LENGTH_MAX else total_length bytes
 
@@ -65,12 +66,12 @@ payload bytes = take (full_len bytes) (drop (header_len bytes) bytes)
 abbrev pub checksum_is_right : List ℕ → Bool
 checksum_is_right bytes = is_right_sum (sum (words (take (header_len bytes) bytes)))
 
--- the packet that begins the bytes, which stands for all of them; or the first fault that it has
-abbrev pub ip4_of : List ℕ → Bool → Result (List ℕ) IpFault
-ip4_of bytes check =
-    if nat_lt (length bytes) 20 then Err Short
-    else if not (version bytes == 4) then Err NotFour
-    else if nat_lt (ihl bytes) 5 || nat_lt (length bytes) (header_len bytes) then Err Ihl
-    else if not (total_length bytes == 0) && nat_lt (total_length bytes) (header_len bytes) then Err Total
-    else if check && not (checksum_is_right bytes) then Err Checksum
-    else Ok bytes
+-- the first fault of the packet that begins the bytes, where checksums are asked for or not
+abbrev pub ip4_fault : List ℕ → Bool → Option IpFault
+ip4_fault bytes check =
+    if nat_lt (length bytes) 20 then Some Short
+    else if not (version bytes == 4) then Some NotFour
+    else if nat_lt (ihl bytes) 5 || nat_lt (length bytes) (header_len bytes) then Some Ihl
+    else if not (total_length bytes == 0) && nat_lt (total_length bytes) (header_len bytes) then Some Total
+    else if check && not (checksum_is_right bytes) then Some Checksum
+    else None

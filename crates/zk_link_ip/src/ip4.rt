@@ -1,4 +1,4 @@
-ghost use Rattle.std.specs.Prelude.{◌≡◌, ◌≢◌, ◌≤◌, ◌<◌, ◌^◌, length, false, IfOk, MatchResult, Ok, Err};
+ghost use Rattle.std.specs.Prelude.{◌≡◌, ◌≢◌, ◌≤◌, ◌<◌, ◌^◌, length, false, IfOk, MatchResult, None, Some};
 ghost use Rattle.zk_link_ip.specs.Ip4.{header_len, ihl, total_length};
 
 use byteorder::{BigEndian, ByteOrder};
@@ -68,15 +68,15 @@ pub struct Ip4<'a> {
 
 impl<'a> Ip4<'a> {
     ghost use Rattle.zk_base.specs.Slices.{BeginsAt};
-    ghost use Rattle.zk_link_ip.specs.Ip4.{destination, flags_and_offset, full_len, identification, ip4_of, more, offset, payload, protocol, source, was_cut};
+    ghost use Rattle.zk_link_ip.specs.Ip4.{destination, flags_and_offset, full_len, identification, ip4_fault, more, offset, payload, protocol, source, was_cut};
     ghost use Rattle.zk_link_ip.specs.Views.{packet};
 
     /// The packet at the front of `bytes`, its header judged once: afterwards no accessor can
     /// fail. `check` asks for the header's checksum.
     pub fn read(bytes: &'a [u8], check: bool) -> Result<Ip4<'a>, IpFault>
-        ensures exact { MatchResult result (λ ip. ip4_of bytes.now check ≡ Ok (packet ip).now)
-            (λ fault. ip4_of bytes.now check ≡ Err fault) }
-        ensures whole { IfOk result (λ ip. packet ip ≡ bytes.entry) }
+        ensures fault { MatchResult result (λ _. ip4_fault bytes.now check ≡ None)
+            (λ fault. ip4_fault bytes.now check ≡ Some fault) }
+        ensures bytes { IfOk result (λ ip. packet ip ≡ bytes.entry) }
     {
         if bytes.len() < HEADER_LEN_MIN {
             return Err(IpFault::Short);
@@ -119,7 +119,7 @@ impl<'a> Ip4<'a> {
         self.bytes[PROTOCOL]
     }
 
-    /// What the fragments of one datagram have in common.
+    /// The sender's number for the datagram, the same in all of its fragments.
     pub fn identification(&self) -> u16
         ensures { result ≡ identification (packet self.now).now }
     {

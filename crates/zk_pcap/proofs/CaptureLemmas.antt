@@ -1,17 +1,19 @@
 -- The capture that a file is, by the packets that stand in it.
-use Rattle.std.proofs.Common.{◌≡◌, ℕ, zero, suc, ◌+◌, ◌*◌, ◌/◌, ◌<◌, ◌≤◌, ◌^◌, Bool, true, false, nat_le, if◌then◌else◌, List, [], ◌∷◌, length, take, drop, slice_index, Some, None, Result, Ok, refl, sym, ap, subst, ◌∙◌, arith}
+use Rattle.std.proofs.Common.{◌≡◌, ℕ, zero, suc, ◌+◌, ◌*◌, ◌/◌, ◌<◌, ◌≤◌, ◌^◌, Bool, true, false, nat_le, if◌then◌else◌, List, [], ◌∷◌, length, take, drop, slice_index, Some, None, Result, Ok, Err, refl, sym, ap, subst, ◌∙◌, arith}
 use Rattle.std.specs.List.{All}
 use Rattle.std.proofs.lemmas.Bool.{and_parts, leb-true}
+use Rattle.std.proofs.lemmas.Bool.Decides.{nat_tests}
 use Rattle.std.proofs.lemmas.List.{get_or-drop, length-take}
 use Rattle.std.proofs.lemmas.Option.{cond_some}
 use Rattle.byteorder.specs.Numbers.{big_from-lt, little_from-lt}
 use Rattle.zk_pcap.specs.declared.headers.Header.{Header}
 use Rattle.zk_pcap.specs.declared.records.Packet.{Packet}
+use Rattle.zk_pcap.specs.declared.captures.Capture.{Capture}
 use Rattle.zk_pcap.specs.declared.faults.CaptureFault.{CaptureFault}
-use Rattle.zk_pcap.specs.Header.{number_of, header_of}
+use Rattle.zk_pcap.specs.Header.{number_of, header_of, counted}
 use Rattle.zk_pcap.specs.Record.{record_by, record_at, end_of, IsWithinLimits}
-use Rattle.zk_pcap.specs.Capture.{end_from, ending_at, capture_after, StandBetween, HasPackets, IsAlone}
-use Rattle.zk_pcap.proofs.RecordLemmas.{packets_from-stand, end_from-stand, stand_alone, length-stand, all-stand}
+use Rattle.zk_pcap.specs.Capture.{packets_from, end_from, ending_at, capture_after, capture_of, StandBetween, HasPackets, IsRead, IsAlone}
+use Rattle.zk_pcap.proofs.RecordLemmas.{packets_from-stand, packets_from-stands, packets_from-no_more, end_from-stand, stand_alone, length-stand, all-stand}
 
 -- a record ends at a later place than it begins at
 record_by-later : (number : ℕ → List ℕ → ℕ) (nano : Bool) (bytes : List ℕ) (place : ℕ) (p : Packet)
@@ -96,3 +98,34 @@ pub packets-within : (bytes : List ℕ) (header : Header) (packets : List Packet
     → All IsWithinLimits packets
 packets-within bytes header packets place small counted stand =
     all-stand IsWithinLimits (record_at header bytes) (record_at-within header bytes small counted) 24 packets place stand
+
+-- no record begins behind the bytes
+record_by-past : (number : ℕ → List ℕ → ℕ) (nano : Bool) (bytes : List ℕ) (place : ℕ) → length bytes ≤ place → record_by number nano bytes place ≡ None
+record_by-past number nano bytes place past =
+    let far : nat_le (place + 16 + number 4 (drop (place + 8) bytes)) (length bytes) ≡ false = grind (arith, nat_tests) in
+    rw far refl
+
+-- the capture that the definition gives for a file with this header is what the file has
+capture_after-read : (bytes : List ℕ) (header : Header) (capture : Capture) → header_of bytes ≡ Ok header → capture_after (Ok header) bytes ≡ Ok capture
+    → IsRead bytes capture × IsAlone bytes capture
+capture_after-read bytes header capture opens is =
+    let read = record_at header bytes in
+    let packets = packets_from (length bytes) read 24 in
+    let place = end_from 24 packets in
+    let has : HasPackets bytes header packets place = record {
+      opens = opens;
+      records = packets_from-stands (length bytes) read 24;
+      no_more = packets_from-no_more (length bytes) read (record_by-later (number_of header.big) header.nano bytes) (length bytes)
+          (record_by-past (number_of header.big) header.nano bytes) 24 (omega arith);
+    } in
+    let same : record { packets = packets; ending = ending_at bytes place } ≡ capture = cc in
+    (subst (IsRead bytes) same (header, place, has, refl), subst (IsAlone bytes) same (packets-alone bytes header packets place has))
+
+-- a capture of the definition is what its file has, and nothing else
+pub capture_of-read : (bytes : List ℕ) (capture : Capture) → capture_of bytes ≡ Ok capture → IsRead (counted bytes) capture × IsAlone (counted bytes) capture
+capture_of-read bytes capture =
+    elim (header_of (counted bytes)) as (λ found. header_of (counted bytes) ≡ found → capture_after found (counted bytes) ≡ Ok capture
+    → IsRead (counted bytes) capture × IsAlone (counted bytes) capture) [
+      | Err fault ↦ λ opens is. absurd cc
+      | Ok header ↦ λ opens is. capture_after-read (counted bytes) header capture opens is
+    ] refl

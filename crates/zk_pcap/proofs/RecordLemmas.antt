@@ -1,5 +1,6 @@
 -- Packets that stand one behind another.
 use Rattle.std.proofs.Common.{◌≡◌, ℕ, zero, suc, ◌+◌, ◌<◌, ◌≤◌, List, [], ◌∷◌, ◌++◌, length, Option, Some, None, refl, sym, ap, ◌∙◌, arith}
+use Rattle.std.specs.Option.{option_map_or}
 use Rattle.std.specs.List.{All}
 use Rattle.std.proofs.lemmas.List.Elements.{All-nil, All-cons}
 use Rattle.zk_pcap.specs.declared.records.Packet.{Packet}
@@ -50,3 +51,27 @@ pub all-stand : (P : Packet → Type 0) (read : ℕ → Option Packet) → ((pla
 all-stand P read each from [] to stand = All-nil P
 all-stand P read each from (p ∷ packets) to stand =
     All-cons P p packets (each from p stand.0) (all-stand P read each (end_of p) packets to stand.1)
+
+-- the packets from a place on, n + 1 of them at most, where this is read there
+abbrev packets_with : ℕ → (ℕ → Option Packet) → Option Packet → List Packet
+packets_with n read found = option_map_or (λ packet. packet ∷ packets_from n read (end_of packet)) found []
+
+-- the packets of the definition stand one behind another
+pub packets_from-stands : (n : ℕ) (read : ℕ → Option Packet) (from : ℕ) → StandBetween read from (packets_from n read from) (end_from from (packets_from n read from))
+packets_from-stands zero read from = refl
+packets_from-stands (suc n) read from =
+    elim (read from) as (λ found. read from ≡ found → StandBetween read from (packets_with n read found) (end_from from (packets_with n read found))) [
+      | None ↦ λ none. refl
+      | Some p ↦ λ here. (here, packets_from-stands n read (end_of p))
+    ] refl
+
+-- and no record follows them, where none begins from a limit on and n reaches it
+pub packets_from-no_more : (n : ℕ) (read : ℕ → Option Packet) → ((place : ℕ) (p : Packet) → read place ≡ Some p → place < end_of p)
+    → (limit : ℕ) → ((place : ℕ) → limit ≤ place → read place ≡ None) → (from : ℕ) → limit ≤ from + n
+    → read (end_from from (packets_from n read from)) ≡ None
+packets_from-no_more zero read later limit none from enough = none from (omega arith)
+packets_from-no_more (suc n) read later limit none from enough =
+    elim (read from) as (λ found. read from ≡ found → read (end_from from (packets_with n read found)) ≡ None) [
+      | None ↦ λ here. here
+      | Some p ↦ λ here. packets_from-no_more n read later limit none (end_of p) (let behind = later from p here in omega arith)
+    ] refl

@@ -24,7 +24,7 @@ abbrev pub end_from : ℕ → List Packet → ℕ
 end_from place [] = place
 end_from place (packet ∷ packets) = end_from (end_of packet) packets
 
--- the file ends at this place, or it is cut there
+-- the bytes that count end at this place, or the capture is cut there
 abbrev pub ending_at : List ℕ → ℕ → CaptureEnding
 ending_at bytes place = if place == length bytes then Whole else Cut place
 
@@ -65,7 +65,7 @@ abbrev pub IsRead : List ℕ → Capture → Type 0
 IsRead bytes capture =
     (header : Header) × (place : ℕ) × HasPackets bytes header capture.packets place × (capture.ending ≡ ending_at bytes place)
 
--- and nothing else
+-- no other packets and no other ending are what the file has
 abbrev pub IsAlone : List ℕ → Capture → Type 0
 IsAlone bytes capture =
     (header : Header) (packets : List Packet) (place : ℕ) → HasPackets bytes header packets place

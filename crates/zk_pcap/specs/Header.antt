@@ -22,8 +22,8 @@ abbrev pub nano_of : ℕ → Option Bool
 nano_of magic =
     if magic == 0xa1b2c3d4 then Some false else (if magic == 0xa1b23c4d then Some true else None)
 
--- The magic number, as it reads in either order, names the fractions. In which order it reads as one,
--- the numbers of the file stand.
+-- The numbers of a file stand in the byte order in which its first four bytes are a magic number. Which of the two it is
+-- tells the unit of the fractions.
 abbrev pub form_after : Option Bool → Option Bool → Option Form
 form_after (Some nano) big = Some (record { big = false; nano = nano })
 form_after None (Some nano) = Some (record { big = true; nano = nano })

@@ -12,7 +12,7 @@ later a b = if int_lt a.0 b.0 then b else a
 abbrev pub now : List Packet → Moment
 now packets = fold (λ time packet. later time packet.moment) (record { 0 = pos 0 }) packets
 
--- one more packet
+-- one more packet makes network time the later of both
 pub now-append : (packets : List Packet) (packet : Packet) → now (packets ++ packet ∷ []) ≡ later (now packets) packet.moment
 now-append packets packet =
     fold-append (λ (time : Moment) (p : Packet). later time p.moment) (record { 0 = pos 0 }) packets (packet ∷ [])

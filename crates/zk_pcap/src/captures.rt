@@ -1,8 +1,9 @@
-ghost use Rattle.std.specs.Prelude.{◌≡◌, ◌≤◌, length, IfOk, All};
+ghost use Rattle.std.specs.Prelude.{◌≡◌, ◌≤◌, length, Ok, IfOk, All};
 ghost use Rattle.zk_pcap.specs.Header.{counted};
 ghost use Rattle.zk_pcap.specs.Record.{IsWithinLimits, record_at, record_by};
 ghost use Rattle.zk_pcap.specs.Capture.{capture_of, UnlessNoMemory, StandBetween, IsRead, IsAlone, ending_at};
 ghost use Rattle.zk_pcap.specs.NetworkTime.{HasNetworkTime};
+ghost use Rattle.zk_pcap.specs.declared.captures.Capture.{Capture as CaptureData};
 
 use crate::headers::HEADER_LEN;
 use crate::records::RecordView;
@@ -21,9 +22,9 @@ pub struct Capture {
 /// How a capture ends.
 #[derive(Clone, Copy, Debug, PartialEq, Eq)]
 pub enum CaptureEnding {
-    /// The last record ends with the file.
+    /// The last record ends with the bytes that count.
     Whole,
-    /// No whole record begins at this place, though the file goes on.
+    /// No whole record begins at this place, though the bytes that count go on.
     Cut { place: u64 },
 }
 
@@ -36,9 +37,9 @@ pub const CAPTURE_MAX: usize = 1 << 40;
 pub fn packets(alloc: Global, bytes: &[u8]) -> Result<Capture, CaptureFault>
     ensures exact { UnlessNoMemory result (capture_of bytes.now) }
 
-    // The packets are the records that stand one behind another from place 24 on, and no others.
-    ensures read { IfOk result (λ capture. IsRead (counted bytes.now) capture) }
-    ensures alone { IfOk result (λ capture. IsAlone (counted bytes.now) capture) }
+    // Its packets are the records that stand one behind another from place 24 on, and no others.
+    ensures read { (capture : CaptureData) → capture_of bytes.now ≡ Ok capture
+        → IsRead (counted bytes.now) capture × IsAlone (counted bytes.now) capture }
 
     ensures limits { IfOk result (λ capture. All IsWithinLimits capture.packets) }
     ensures time { IfOk result (λ capture. HasNetworkTime capture.packets) }

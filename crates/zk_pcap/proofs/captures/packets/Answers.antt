@@ -1,7 +1,6 @@
 use Rattle.std.proofs.Common.{ℕ, ◌<◌, ◌≤◌, ◌^◌, length, slice_index, sym, arith}
 use Rattle.std.proofs.lemmas.List.{length-take}
-use Rattle.zk_pcap.specs.Capture.{HasPackets}
-use Rattle.zk_pcap.proofs.CaptureLemmas.{capture_after-stand, packets-alone, packets-within, bytes-take}
+use Rattle.zk_pcap.proofs.CaptureLemmas.{capture_after-stand, capture_of-read, packets-within, bytes-take}
 use Rattle.zk_pcap.proofs.TimeLemmas.{now_of_file}
 use Rattle.zk_pcap.proofs.captures.packets.Goals as goal
 
@@ -11,15 +10,8 @@ returns-clause-exact c =
     (sym c.in_ok-header.ensures.exact) c.in_ok-packets.ensures.stand c.in_ok-packets.ensures.no_more c.in_ok-packets.ensures.within in
     rw (c.from.ensures, c.ending_at.ensures, ← c.first_bytes-file.ensures) e
 
-pub returns-clause-alone : goal.returns-clause-alone
-returns-clause-alone c =
-    let has : HasPackets c.first_bytes-file.result.now c.in_ok-header.header c.in_ok-packets.packets.items c.in_ok-packets.place = record {
-      opens = sym c.in_ok-header.ensures.exact;
-      records = c.in_ok-packets.ensures.stand;
-      no_more = c.in_ok-packets.ensures.no_more;
-    } in
-    let alone = packets-alone c.first_bytes-file.result.now c.in_ok-header.header c.in_ok-packets.packets.items c.in_ok-packets.place has in
-    rw (c.from.ensures, c.ending_at.ensures, ← c.first_bytes-file.ensures) alone
+pub returns-clause-read : goal.returns-clause-read
+returns-clause-read c = capture_of-read c.args.bytes.now
 
 pub returns-clause-limits : goal.returns-clause-limits
 returns-clause-limits c =
@@ -30,3 +22,6 @@ returns-clause-limits c =
 
 pub returns-clause-time : goal.returns-clause-time
 returns-clause-time c = now_of_file c.from.result (returns-clause-limits c)
+
+pub returns-in_err-packets-clause-read : goal.returns-in_err-packets-clause-read
+returns-in_err-packets-clause-read c = capture_of-read c.args.bytes.now

@@ -197,9 +197,9 @@ record IsFirstFrom (whole : List (List ℕ)) (least place : ℕ) : Type 0 where
   before : (n : ℕ) → least ≤ n → n < place → IsTrue (begins (take (n + 1) whole))
   there : place < length whole → begins (take (place + 1) whole) ≡ false
 
-first_at_end : (whole front : List (List ℕ)) → whole ≡ front ++ [] → IsFirstFrom whole (length front) (length front)
-first_at_end whole front is =
-    let size : length whole ≡ length front = ap length (is ∙ append-nil front) in
+first_at_end : (whole prefix : List (List ℕ)) → whole ≡ prefix ++ [] → IsFirstFrom whole (length prefix) (length prefix)
+first_at_end whole prefix is =
+    let size : length whole ≡ length prefix = ap length (is ∙ append-nil prefix) in
     record {
       within = omega arith;
       before = λ n above below. absurd (omega arith);
@@ -207,27 +207,27 @@ first_at_end whole front is =
     }
 
 -- the words before, and one more
-front_taken : (whole front rest : List (List ℕ)) (word : List ℕ) → whole ≡ front ++ word ∷ rest → take (length front + 1) whole ≡ front ++ word ∷ []
-front_taken whole front rest word is =
-    let one : List (List ℕ) = front ++ word ∷ [] in
-    let size : length one ≡ length front + 1 = length-append front (word ∷ []) in
-    subst (λ n. take n whole ≡ one) size (ap (take (length one)) (is ∙ sym (append_assoc front (word ∷ []) rest)) ∙ take-append_seam one rest)
+prefix_taken : (whole prefix rest : List (List ℕ)) (word : List ℕ) → whole ≡ prefix ++ word ∷ rest → take (length prefix + 1) whole ≡ prefix ++ word ∷ []
+prefix_taken whole prefix rest word is =
+    let one : List (List ℕ) = prefix ++ word ∷ [] in
+    let size : length one ≡ length prefix + 1 = length-append prefix (word ∷ []) in
+    subst (λ n. take n whole ≡ one) size (ap (take (length one)) (is ∙ sym (append_assoc prefix (word ∷ []) rest)) ∙ take-append_seam one rest)
 
-first_from : (whole front rest : List (List ℕ)) → whole ≡ front ++ rest → IsFirstFrom whole (length front) (understood front rest)
-first_from whole front [] is = first_at_end whole front is
-first_from whole front (word ∷ rest) is =
-    let one : List (List ℕ) = front ++ word ∷ [] in
-    let taken : take (length front + 1) whole ≡ one = front_taken whole front rest word is in
-    let size : length one ≡ length front + 1 = length-append front (word ∷ []) in
-    let long : length whole ≡ length front + suc (length rest) = ap length is ∙ length-append front (word ∷ rest) in
-    elim (begins one) as (λ b. begins one ≡ b → IsFirstFrom whole (length front) (cond b (understood one rest) (length front))) [
+first_from : (whole prefix rest : List (List ℕ)) → whole ≡ prefix ++ rest → IsFirstFrom whole (length prefix) (understood prefix rest)
+first_from whole prefix [] is = first_at_end whole prefix is
+first_from whole prefix (word ∷ rest) is =
+    let one : List (List ℕ) = prefix ++ word ∷ [] in
+    let taken : take (length prefix + 1) whole ≡ one = prefix_taken whole prefix rest word is in
+    let size : length one ≡ length prefix + 1 = length-append prefix (word ∷ []) in
+    let long : length whole ≡ length prefix + suc (length rest) = ap length is ∙ length-append prefix (word ∷ rest) in
+    elim (begins one) as (λ b. begins one ≡ b → IsFirstFrom whole (length prefix) (cond b (understood one rest) (length prefix))) [
       | true ↦ λ begun.
-          let later = first_from whole one rest (is ∙ sym (append_assoc front (word ∷ []) rest)) in
+          let later = first_from whole one rest (is ∙ sym (append_assoc prefix (word ∷ []) rest)) in
           record {
             within = later.within;
-            before = λ n above below. elim (cases_lt (length front) n) [
+            before = λ n above below. elim (cases_lt (length prefix) n) [
               | inl beyond ↦ later.before n (omega arith) below
-              | inr upto ↦ let here : length front ≡ n = omega arith in subst (λ m. IsTrue (begins (take (m + 1) whole))) here (ap begins taken ∙ begun)
+              | inr upto ↦ let here : length prefix ≡ n = omega arith in subst (λ m. IsTrue (begins (take (m + 1) whole))) here (ap begins taken ∙ begun)
             ];
             there = later.there;
           }

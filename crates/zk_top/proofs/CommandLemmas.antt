@@ -13,7 +13,7 @@ understood-step words n within =
     let rest : drop n words ≡ word ∷ drop (n + 1) words = rw add-one (drop-cons words n [] within) in
     let size : length (take n words) ≡ n = length-take-le n words (omega arith) in
     ap (understood (take n words)) rest
-    ∙ ap (λ front. cond (begins front) (understood front (drop (n + 1) words)) (length (take n words))) (sym next)
+    ∙ ap (λ prefix. cond (begins prefix) (understood prefix (drop (n + 1) words)) (length (take n words))) (sym next)
     ∙ ap (cond (begins (take (n + 1) words)) (understood (take (n + 1) words) (drop (n + 1) words))) size
 
 pub understood_here : (words : List (List ℕ)) (n : ℕ) → n < length words → begins (take (n + 1) words) ≡ false

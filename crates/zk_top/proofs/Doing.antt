@@ -4,28 +4,29 @@ use Rattle.std.proofs.lemmas.List.{take-append-drop, append-nil}
 use Rattle.zk_base.specs.Shelf.{Outside, HasRisen, FailsToStart, OpensInput, PutsPrefix, after_say, after_complaint, appended}
 use Rattle.zk_top.specs.declared.stop.Stop.{Stop}
 use Rattle.zk_top.specs.declared.stop.Stop.TheVariants.{ReadFault, WriteFault, NoMemory}
-use Rattle.zk_top.specs.Run.{IsFront, all_named, SameFaults, HasCause, Does, DoesAll, DoesPart}
+use Rattle.zk_top.specs.Parts.{HasCause, Does, DoesAll, DoesPart}
+use Rattle.zk_top.specs.Run.{IsPrefix, SameFaults}
 
 -- Fronts ---------------------------------------------------------------------------------------------------
 
-pub front_none : {X : Type 0} (whole : List X) → IsFront [] whole
-front_none whole = record { rest = whole; joined = refl }
+pub prefix_none : {X : Type 0} (whole : List X) → IsPrefix [] whole
+prefix_none whole = record { rest = whole; joined = refl }
 
-pub front_all : {X : Type 0} (whole : List X) → IsFront whole whole
-front_all whole = record { rest = []; joined = sym (append-nil whole) }
+pub prefix_all : {X : Type 0} (whole : List X) → IsPrefix whole whole
+prefix_all whole = record { rest = []; joined = sym (append-nil whole) }
 
-pub front_take : {X : Type 0} (n : ℕ) (whole : List X) → IsFront (take n whole) whole
-front_take n whole = record { rest = drop n whole; joined = sym (take-append-drop n whole) }
+pub prefix_take : {X : Type 0} (n : ℕ) (whole : List X) → IsPrefix (take n whole) whole
+prefix_take n whole = record { rest = drop n whole; joined = sym (take-append-drop n whole) }
 
--- behind a common front
-pub front_behind : {X : Type 0} (before part whole : List X) → IsFront part whole → IsFront (before ++ part) (before ++ whole)
-front_behind before part whole front = record { rest = front.rest; joined = ap (λ xs. before ++ xs) front.joined ∙ sym (append_assoc before part front.rest) }
+-- behind a common prefix
+pub prefix_behind : {X : Type 0} (before part whole : List X) → IsPrefix part whole → IsPrefix (before ++ part) (before ++ whole)
+prefix_behind before part whole prefix = record { rest = prefix.rest; joined = ap (λ xs. before ++ xs) prefix.joined ∙ sym (append_assoc before part prefix.rest) }
 
-pub front_more : {X : Type 0} (part whole more : List X) → IsFront part whole → IsFront part (whole ++ more)
-front_more part whole more front = record { rest = front.rest ++ more; joined = ap (λ xs. xs ++ more) front.joined ∙ append_assoc part front.rest more }
+pub prefix_more : {X : Type 0} (part whole more : List X) → IsPrefix part whole → IsPrefix part (whole ++ more)
+prefix_more part whole more prefix = record { rest = prefix.rest ++ more; joined = ap (λ xs. xs ++ more) prefix.joined ∙ append_assoc part prefix.rest more }
 
-pub front_trans : {X : Type 0} (a b c : List X) → IsFront a b → IsFront b c → IsFront a c
-front_trans a b c ab bc = record { rest = ab.rest ++ bc.rest; joined = bc.joined ∙ ap (λ xs. xs ++ bc.rest) ab.joined ∙ append_assoc a ab.rest bc.rest }
+pub prefix_trans : {X : Type 0} (a b c : List X) → IsPrefix a b → IsPrefix b c → IsPrefix a c
+prefix_trans a b c ab bc = record { rest = ab.rest ++ bc.rest; joined = bc.joined ∙ ap (λ xs. xs ++ bc.rest) ab.joined ∙ append_assoc a ab.rest bc.rest }
 
 -- What is told, after nothing and after two parts ----------------------------------------------------------
 
@@ -33,7 +34,7 @@ none_appended : (o : Option (List ℕ)) → o ≡ appended o []
 none_appended None = refl
 none_appended (Some bytes) = ap Some (sym (append-nil bytes))
 
-none_named : (o : Option (List (List ℕ))) → o ≡ all_named o []
+none_named : (o : Option (List (List ℕ))) → o ≡ appended o []
 none_named None = refl
 none_named (Some names) = ap Some (sym (append-nil names))
 
@@ -41,7 +42,7 @@ both_appended : (o : Option (List ℕ)) (a b : List ℕ) → appended (appended 
 both_appended None a b = refl
 both_appended (Some bytes) a b = ap Some (append_assoc bytes a b)
 
-both_named : (o : Option (List (List ℕ))) (a b : List (List ℕ)) → all_named (all_named o a) b ≡ all_named o (a ++ b)
+both_named : (o : Option (List (List ℕ))) (a b : List (List ℕ)) → appended (appended o a) b ≡ appended o (a ++ b)
 both_named None a b = refl
 both_named (Some names) a b = ap Some (append_assoc names a b)
 
@@ -70,7 +71,7 @@ does_both n m s t c d a b e first second = record {
   outputs_stay = second.outputs_stay ∙ first.outputs_stay;
   says = second.says ∙ ap (λ o. appended o t) first.says ∙ both_appended a.said s t;
   complains = second.complains ∙ ap (λ o. appended o d) first.complains ∙ both_appended a.complained c d;
-  starts = second.starts ∙ ap (λ o. all_named o m) first.starts ∙ both_named a.started n m;
+  starts = second.starts ∙ ap (λ o. appended o m) first.starts ∙ both_named a.started n m;
   absences = omega arith;
 }
 
@@ -94,25 +95,25 @@ pub does_both_part : (n m : List (List ℕ)) (s t c d : List ℕ) (a b : Outside
     → DoesAll n s c a b → DoesPart m t d b stop e → DoesPart (n ++ m) (s ++ t) (c ++ d) a stop e
 does_both_part n m s t c d a b stop e first second = record {
   names_part = n ++ second.names_part;
-  names_front = front_behind n second.names_part m second.names_front;
+  names_prefix = prefix_behind n second.names_part m second.names_prefix;
   said_part = s ++ second.said_part;
-  said_front = front_behind s second.said_part t second.said_front;
+  said_prefix = prefix_behind s second.said_part t second.said_prefix;
   complained_part = c ++ second.complained_part;
-  complained_front = front_behind c second.complained_part d second.complained_front;
+  complained_prefix = prefix_behind c second.complained_part d second.complained_prefix;
   does = does_both n second.names_part s second.said_part c second.complained_part a b e first.does second.does;
   cause = cause_since a b stop e first.faults second.cause;
 }
 
--- a front of a front
+-- a prefix of a prefix
 pub does_part_of : (n m : List (List ℕ)) (s t c d : List ℕ) (a : Outside) (stop : Stop) (e : Outside)
-    → IsFront n m → IsFront s t → IsFront c d → DoesPart n s c a stop e → DoesPart m t d a stop e
+    → IsPrefix n m → IsPrefix s t → IsPrefix c d → DoesPart n s c a stop e → DoesPart m t d a stop e
 does_part_of n m s t c d a stop e names said complained part = record {
   names_part = part.names_part;
-  names_front = front_trans part.names_part n m part.names_front names;
+  names_prefix = prefix_trans part.names_part n m part.names_prefix names;
   said_part = part.said_part;
-  said_front = front_trans part.said_part s t part.said_front said;
+  said_prefix = prefix_trans part.said_part s t part.said_prefix said;
   complained_part = part.complained_part;
-  complained_front = front_trans part.complained_part c d part.complained_front complained;
+  complained_prefix = prefix_trans part.complained_part c d part.complained_prefix complained;
   does = part.does;
   cause = part.cause;
 }
@@ -121,11 +122,11 @@ does_part_of n m s t c d a stop e names said complained part = record {
 pub stopped_before : (names : List (List ℕ)) (said complained : List ℕ) (old : Outside) (stop : Stop) → HasCause old stop old → DoesPart names said complained old stop old
 stopped_before names said complained old stop cause = record {
   names_part = [];
-  names_front = front_none names;
+  names_prefix = prefix_none names;
   said_part = [];
-  said_front = front_none said;
+  said_prefix = prefix_none said;
   complained_part = [];
-  complained_front = front_none complained;
+  complained_prefix = prefix_none complained;
   does = does_nothing old;
   cause = cause;
 }
@@ -139,11 +140,11 @@ out_of_memory names said complained old new same =
 pub said_part : (piece : List ℕ) (old new : Outside) → PutsPrefix (after_say old) old piece new → DoesPart [] piece [] old WriteFault new
 said_part piece old new puts = record {
   names_part = [];
-  names_front = front_none [];
+  names_prefix = prefix_none [];
   said_part = take puts.length piece;
-  said_front = front_take puts.length piece;
+  said_prefix = prefix_take puts.length piece;
   complained_part = [];
-  complained_front = front_none [];
+  complained_prefix = prefix_none [];
   does = record {
     inputs_stay = ap (λ (o : Outside). o.inputs) puts.left;
     outputs_stay = ap (λ (o : Outside). o.outputs) puts.left;
@@ -158,11 +159,11 @@ said_part piece old new puts = record {
 pub complained_part : (piece : List ℕ) (old new : Outside) → PutsPrefix (after_complaint old) old piece new → DoesPart [] [] piece old WriteFault new
 complained_part piece old new puts = record {
   names_part = [];
-  names_front = front_none [];
+  names_prefix = prefix_none [];
   said_part = [];
-  said_front = front_none [];
+  said_prefix = prefix_none [];
   complained_part = take puts.length piece;
-  complained_front = front_take puts.length piece;
+  complained_prefix = prefix_take puts.length piece;
   does = record {
     inputs_stay = ap (λ (o : Outside). o.inputs) puts.left;
     outputs_stay = ap (λ (o : Outside). o.outputs) puts.left;
@@ -179,11 +180,11 @@ complained_part piece old new puts = record {
 pub start_part : (name : List ℕ) (old new : Outside) → FailsToStart old name new → DoesPart (name ∷ []) [] [] old ReadFault new
 start_part name old new fails = record {
   names_part = name ∷ [];
-  names_front = front_all (name ∷ []);
+  names_prefix = prefix_all (name ∷ []);
   said_part = [];
-  said_front = front_none [];
+  said_prefix = prefix_none [];
   complained_part = [];
-  complained_front = front_none [];
+  complained_prefix = prefix_none [];
   does = record {
     inputs_stay = ap (λ (o : Outside). o.inputs) fails.after;
     outputs_stay = ap (λ (o : Outside). o.outputs) fails.after;

@@ -13,8 +13,9 @@ use Rattle.zk_top.specs.declared.stop.Stop.{Stop}
 use Rattle.zk_top.specs.Command.{Command, ListItems, RunScript, understand}
 use Rattle.zk_top.specs.Complaint.{complaint_of}
 use Rattle.zk_top.specs.Outcome.{Outcome, Report, no_files, opened, loaded, over_capture, list_report, run_report, running, outcome_of, outcome}
-use Rattle.zk_top.specs.Run.{IsOfCommand, IsFront, files_over, IsDone, OutputsBegun, StaysWithin, DoesAll, DoesPart, Fulfils, BreaksOff}
-use Rattle.zk_top.proofs.Doing.{front_all, does_nothing_all, does_both_all, does_both_part}
+use Rattle.zk_top.specs.Parts.{IsOfCommand, DoesAll, DoesPart, Fulfils, BreaksOff}
+use Rattle.zk_top.specs.Run.{IsPrefix, files_over, IsDone, OutputsBegun, StaysWithin}
+use Rattle.zk_top.proofs.Doing.{prefix_all, does_nothing_all, does_both_all, does_both_part}
 
 -- Of what is wanted: no file is written, and the complaint is that of the ending ---------------------------------
 
@@ -68,13 +69,13 @@ within_of_done words inputs old ending new told does =
     record {
       files = outputs_begun (outcome words inputs).files old.outputs new.outputs does.does.does.outputs_stay;
       said = (outcome words inputs).said;
-      said_front = front_all (outcome words inputs).said;
+      said_prefix = prefix_all (outcome words inputs).said;
       said_is = done.said;
       complained = (outcome words inputs).complained;
-      complained_front = front_all (outcome words inputs).complained;
+      complained_prefix = prefix_all (outcome words inputs).complained;
       complained_is = done.complained;
       started = (outcome words inputs).asked;
-      started_front = front_all (outcome words inputs).asked;
+      started_prefix = prefix_all (outcome words inputs).asked;
       started_is = done.started;
     }
 
@@ -83,13 +84,13 @@ pub within_of_broken : (words : List (List ℕ)) (inputs : Files) (old : Outside
 within_of_broken words inputs old stop new told broken = record {
   files = outputs_begun (outcome words inputs).files old.outputs new.outputs broken.does.outputs_stay;
   said = broken.said;
-  said_front = broken.said_front inputs told;
+  said_prefix = broken.said_prefix inputs told;
   said_is = broken.does.says;
   complained = broken.complained;
-  complained_front = broken.complained_front inputs told;
+  complained_prefix = broken.complained_prefix inputs told;
   complained_is = broken.does.complains;
   started = broken.names;
-  started_front = broken.names_front inputs told;
+  started_prefix = broken.names_prefix inputs told;
   started_is = broken.does.starts;
 }
 
@@ -122,9 +123,9 @@ broken_complaint words old mid ending stop new does part =
       complained = both.complained_part;
       does = both.does;
       cause = both.cause;
-      names_front = λ inputs told. subst (λ names. IsFront both.names_part names) (append-nil does.names ∙ does.names_are inputs told) both.names_front;
-      said_front = λ inputs told. subst (λ said. IsFront both.said_part said) (append-nil does.said ∙ does.said_is inputs told) both.said_front;
-      complained_front = λ inputs told. subst (λ text. IsFront both.complained_part text) (ap complaint_of (does.ends inputs told) ∙ sym (plain words inputs).complained) both.complained_front;
+      names_prefix = λ inputs told. subst (λ names. IsPrefix both.names_part names) (append-nil does.names ∙ does.names_are inputs told) both.names_prefix;
+      said_prefix = λ inputs told. subst (λ said. IsPrefix both.said_part said) (append-nil does.said ∙ does.said_is inputs told) both.said_prefix;
+      complained_prefix = λ inputs told. subst (λ text. IsPrefix both.complained_part text) (ap complaint_of (does.ends inputs told) ∙ sym (plain words inputs).complained) both.complained_prefix;
     }
 
 -- words that are no command

@@ -11,22 +11,22 @@ use Rattle.zk_typed.specs.Text.{line_of}
 use Rattle.zk_typed.specs.World.{World}
 use Rattle.zk_top.specs.Line.{line_end}
 use Rattle.zk_top.specs.Printed.{with_line_ends}
-use Rattle.zk_top.specs.Run.{IsFront}
-use Rattle.zk_top.proofs.Doing.{front_all, front_trans}
+use Rattle.zk_top.specs.Run.{IsPrefix}
+use Rattle.zk_top.proofs.Doing.{prefix_all, prefix_trans}
 
 -- one world's lines go on with another's, and the same events wait
 pub record GoesOn (old new : World) : Type 0 where
-  pub front : IsFront old.lines new.lines
+  pub prefix : IsPrefix old.lines new.lines
   pub queue : new.queue ≡ old.queue
 
 pub goes_on_same : (world : World) → GoesOn world world
-goes_on_same world = record { front = front_all world.lines; queue = refl }
+goes_on_same world = record { prefix = prefix_all world.lines; queue = refl }
 
 pub goes_on_trans : (a b c : World) → GoesOn a b → GoesOn b c → GoesOn a c
-goes_on_trans a b c ab bc = record { front = front_trans a.lines b.lines c.lines ab.front bc.front; queue = bc.queue ∙ ab.queue }
+goes_on_trans a b c ab bc = record { prefix = prefix_trans a.lines b.lines c.lines ab.prefix bc.prefix; queue = bc.queue ∙ ab.queue }
 
 printed_adds : (place : Place) (world : World) (values : Result (List Value × ℕ) Stop) → GoesOn world (printed place world values).world
-printed_adds place world (Ok values) = record { front = record { rest = line_of values.0 ∷ []; joined = refl }; queue = refl }
+printed_adds place world (Ok values) = record { prefix = record { rest = line_of values.0 ∷ []; joined = refl }; queue = refl }
 printed_adds place world (Err (Faults kind left)) = goes_on_same world
 printed_adds place world (Err Spends) = goes_on_same world
 
@@ -61,5 +61,5 @@ pub with_line_ends-append : (a b : List (List ℕ)) → with_line_ends (a ++ b) 
 with_line_ends-append [] b = refl
 with_line_ends-append (line ∷ a) b = ap (λ text. (line ++ line_end) ++ text) (with_line_ends-append a b) ∙ sym (append_assoc (line ++ line_end) (with_line_ends a) (with_line_ends b))
 
-pub text_front : (a b : List (List ℕ)) → IsFront a b → IsFront (with_line_ends a) (with_line_ends b)
-text_front a b front = record { rest = with_line_ends front.rest; joined = ap with_line_ends front.joined ∙ with_line_ends-append a front.rest }
+pub text_prefix : (a b : List (List ℕ)) → IsPrefix a b → IsPrefix (with_line_ends a) (with_line_ends b)
+text_prefix a b prefix = record { rest = with_line_ends prefix.rest; joined = ap with_line_ends prefix.joined ∙ with_line_ends-append a prefix.rest }

@@ -22,8 +22,9 @@ use Rattle.zk_parse.specs.Reading.{tree_of}
 use Rattle.zk_top.specs.Script.{Refusal, script_max, program_by, script_of}
 use Rattle.zk_top.specs.Tokens.{tokens_of}
 use Rattle.zk_top.specs.Outcome.{Report, over_capture, judged, opened, accepted, loaded, end_of_capture}
-use Rattle.zk_top.specs.Run.{IsWhole, IsRefusal, IsOfCommand, IsFront, IsReadBeyond, IsReadOf, DoesAll, DoesPart, Finds, Fulfils, BreaksOff}
-use Rattle.zk_top.proofs.Doing.{front_none, front_trans, does_both_all, does_both_part}
+use Rattle.zk_top.specs.Parts.{IsRefusal, IsOfCommand, IsReadBeyond, IsReadOf, DoesAll, DoesPart, Finds, Fulfils, BreaksOff}
+use Rattle.zk_top.specs.Run.{IsNotStopped, IsPrefix}
+use Rattle.zk_top.proofs.Doing.{prefix_none, prefix_trans, does_both_all, does_both_part}
 
 -- a refusal that isn't for want of memory
 pub refused : (why : CaptureFault) (wanted : Result Capture CaptureFault) → UnlessNoMemory (Err why) wanted → why ≢ fault.NoMemory → wanted ≡ Err why
@@ -35,7 +36,7 @@ refused fault.NoMemory wanted given other = absurd (other refl)
 
 -- Endings -------------------------------------------------------------------------------------------------------
 
-pub whole_refusal : (e : Ending) → IsRefusal e → IsWhole e
+pub whole_refusal : (e : Ending) → IsRefusal e → IsNotStopped e
 whole_refusal ending.Done is = absurd is
 whole_refusal (ending.Usage word) is = absurd is
 whole_refusal (ending.ScriptRefused file place kind) is = tt
@@ -59,7 +60,7 @@ command_refusal ending.WriteFault is = is
 command_refusal ending.NoMemory is = is
 command_refusal (ending.Flood moment) is = absurd is
 
-whole_end : (file : List ℕ) (e : CaptureEnding) → IsWhole (end_of_capture file e)
+whole_end : (file : List ℕ) (e : CaptureEnding) → IsNotStopped (end_of_capture file e)
 whole_end file Whole = tt
 whole_end file (Cut place) = tt
 
@@ -86,11 +87,11 @@ broken_before report file old stop new part = record {
   complained = part.complained_part;
   does = part.does;
   cause = part.cause;
-  names_front = λ inputs told. subst (λ names. IsFront part.names_part names) (sym (asked report (file ∷ []) (opened file (inputs file)))) part.names_front;
-  said_front = λ inputs told. let whole : List ℕ = (over_capture report (file ∷ []) (opened file (inputs file))).said in
-      front_trans part.said_part [] whole part.said_front (front_none whole);
-  complained_front = λ inputs told. let whole : List ℕ = (over_capture report (file ∷ []) (opened file (inputs file))).complained in
-      front_trans part.complained_part [] whole part.complained_front (front_none whole);
+  names_prefix = λ inputs told. subst (λ names. IsPrefix part.names_part names) (sym (asked report (file ∷ []) (opened file (inputs file)))) part.names_prefix;
+  said_prefix = λ inputs told. let whole : List ℕ = (over_capture report (file ∷ []) (opened file (inputs file))).said in
+      prefix_trans part.said_part [] whole part.said_prefix (prefix_none whole);
+  complained_prefix = λ inputs told. let whole : List ℕ = (over_capture report (file ∷ []) (opened file (inputs file))).complained in
+      prefix_trans part.complained_part [] whole part.complained_prefix (prefix_none whole);
 }
 
 -- stopped while its lines were said
@@ -104,10 +105,10 @@ broken_within report file capture old mid stop new found says =
       complained = part.complained_part;
       does = part.does;
       cause = part.cause;
-      names_front = λ inputs told. subst (λ names. IsFront part.names_part names) (sym (asked report (file ∷ []) (opened file (inputs file)))) part.names_front;
-      said_front = λ inputs told. subst (λ r. IsFront part.said_part (over_capture report (file ∷ []) r).said) (found.told inputs told) part.said_front;
-      complained_front = λ inputs told. let whole : List ℕ = (over_capture report (file ∷ []) (opened file (inputs file))).complained in
-          front_trans part.complained_part [] whole part.complained_front (front_none whole);
+      names_prefix = λ inputs told. subst (λ names. IsPrefix part.names_part names) (sym (asked report (file ∷ []) (opened file (inputs file)))) part.names_prefix;
+      said_prefix = λ inputs told. subst (λ r. IsPrefix part.said_part (over_capture report (file ∷ []) r).said) (found.told inputs told) part.said_prefix;
+      complained_prefix = λ inputs told. let whole : List ℕ = (over_capture report (file ∷ []) (opened file (inputs file))).complained in
+          prefix_trans part.complained_part [] whole part.complained_prefix (prefix_none whole);
     }
 
 -- its lines were said
@@ -118,7 +119,7 @@ fulfilled report file capture old mid e new found is same says = record {
   names = file ∷ [];
   said = (report capture).said;
   does = does_both_all (file ∷ []) [] [] (report capture).said [] [] old mid new found.does says;
-  whole = subst IsWhole (sym is) (whole_end file capture.ending);
+  whole = subst IsNotStopped (sym is) (whole_end file capture.ending);
   absent = λ name same. absurd (not_absent file capture.ending name (sym is ∙ same));
   ends = λ inputs told. is ∙ sym same ∙ ap (λ r. (over_capture report (file ∷ []) r).ending) (found.told inputs told);
   names_are = λ inputs told. sym (asked report (file ∷ []) (opened file (inputs file)));
@@ -157,7 +158,7 @@ judged_there file (Err why) name same = let never : ⊥ = cc in never
 counted_read : (whole bytes : List ℕ) → IsReadBeyond (2 ^ 40) whole bytes → counted bytes ≡ counted whole
 counted_read whole bytes read = elim read.enough [
   | inl same ↦ ap counted same
-  | inr long ↦ sym (ap counted read.front.joined ∙ take-append-le (2 ^ 40) bytes read.front.rest (omega arith))
+  | inr long ↦ sym (ap counted read.prefix.joined ∙ take-append-le (2 ^ 40) bytes read.prefix.rest (omega arith))
 ]
 
 capture_read : (whole bytes : List ℕ) → IsReadBeyond (2 ^ 40) whole bytes → capture_of bytes ≡ capture_of whole
@@ -206,7 +207,7 @@ too_large text long = ap (λ b. cond b (Err (record { place = script_max; kind =
 script_read : (whole text : List ℕ) → IsReadBeyond script_max whole text → script_of text ≡ script_of whole
 script_read whole text read = elim read.enough [
   | inl same ↦ ap script_of same
-  | inr long ↦ too_large text long ∙ sym (too_large whole (omega (arith, ap length read.front.joined, length-append text read.front.rest)))
+  | inr long ↦ too_large text long ∙ sym (too_large whole (omega (arith, ap length read.prefix.joined, length-append text read.prefix.rest)))
 ]
 
 loaded_as : (file text : List ℕ) (input : Option (List ℕ)) → IsReadOf script_max input (Some text) → accepted file (script_of text) ≡ loaded file input

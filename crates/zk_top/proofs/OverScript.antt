@@ -11,8 +11,9 @@ use Rattle.zk_value.specs.declared.code.Code.{Code}
 use Rattle.zk_machine.specs.Lowered.{lowered}
 use Rattle.zk_top.specs.Lowering.{code_found}
 use Rattle.zk_top.specs.Outcome.{Outcome, Report, over_capture, opened, loaded, run_report, running}
-use Rattle.zk_top.specs.Run.{IsFront, DoesPart, Finds, Fulfils, BreaksOff}
-use Rattle.zk_top.proofs.Doing.{front_none, front_all, front_trans, front_behind, cause_since, does_both, does_both_all}
+use Rattle.zk_top.specs.Parts.{DoesPart, Finds, Fulfils, BreaksOff}
+use Rattle.zk_top.specs.Run.{IsPrefix}
+use Rattle.zk_top.proofs.Doing.{prefix_none, prefix_all, prefix_trans, prefix_behind, cause_since, does_both, does_both_all}
 use Rattle.zk_top.proofs.OverCapture.{whole_refusal}
 
 -- the same with that name before
@@ -64,26 +65,26 @@ stopped_run file script program old mid stop new found part = record {
   complained = part.complained;
   does = does_both (script ∷ []) part.names [] part.said [] part.complained old mid new found.does.does part.does;
   cause = cause_since old mid stop new found.does.faults part.cause;
-  names_front = λ inputs t.
-      let inside = part.names_front inputs (told_still old mid inputs found.does.does.inputs_stay t) in
-      subst (λ names. IsFront (script ∷ part.names) names)
+  names_prefix = λ inputs t.
+      let inside = part.names_prefix inputs (told_still old mid inputs found.does.does.inputs_stay t) in
+      subst (λ names. IsPrefix (script ∷ part.names) names)
       ((same_run file script program inputs).asked ∙ ap (λ p. (running file script p inputs).asked) (found.told inputs t))
-      (front_behind (script ∷ []) part.names (over_capture (run_report file program) (file ∷ []) (opened file (inputs file))).asked inside);
-  said_front = λ inputs t. subst (λ said. IsFront part.said said)
+      (prefix_behind (script ∷ []) part.names (over_capture (run_report file program) (file ∷ []) (opened file (inputs file))).asked inside);
+  said_prefix = λ inputs t. subst (λ said. IsPrefix part.said said)
       ((same_run file script program inputs).said ∙ ap (λ p. (running file script p inputs).said) (found.told inputs t))
-      (part.said_front inputs (told_still old mid inputs found.does.does.inputs_stay t));
-  complained_front = λ inputs t. subst (λ said. IsFront part.complained said)
+      (part.said_prefix inputs (told_still old mid inputs found.does.does.inputs_stay t));
+  complained_prefix = λ inputs t. subst (λ said. IsPrefix part.complained said)
       ((same_run file script program inputs).complained ∙ ap (λ p. (running file script p inputs).complained) (found.told inputs t))
-      (part.complained_front inputs (told_still old mid inputs found.does.does.inputs_stay t));
+      (part.complained_prefix inputs (told_still old mid inputs found.does.does.inputs_stay t));
 }
 
 asked_file : (program : Program) (file : List ℕ) (found : Found Capture) → (over_capture (run_report file program) (file ∷ []) found).asked ≡ file ∷ []
 asked_file program file (Accepted capture) = refl
 asked_file program file (Refused e) = refl
 
-asked_first : (file script : List ℕ) (found : Found Program) (inputs : Files) → IsFront (script ∷ []) (running file script found inputs).asked
+asked_first : (file script : List ℕ) (found : Found Program) (inputs : Files) → IsPrefix (script ∷ []) (running file script found inputs).asked
 asked_first file script (Accepted program) inputs = record { rest = file ∷ []; joined = sym (same_run file script program inputs).asked ∙ ap (λ names. script ∷ names) (asked_file program file (opened file (inputs file))) }
-asked_first file script (Refused e) inputs = front_all (script ∷ [])
+asked_first file script (Refused e) inputs = prefix_all (script ∷ [])
 
 -- there is no program
 pub refused_script : (file script : List ℕ) (old : Outside) (e : Ending) (new : Outside) → Finds script (loaded script) old (Refused e) new
@@ -108,12 +109,12 @@ stopped_script file script old stop new part = record {
   complained = part.complained_part;
   does = part.does;
   cause = part.cause;
-  names_front = λ inputs t. let whole : Outcome = running file script (loaded script (inputs script)) inputs in
-      front_trans part.names_part (script ∷ []) whole.asked part.names_front (asked_first file script (loaded script (inputs script)) inputs);
-  said_front = λ inputs t. let whole : Outcome = running file script (loaded script (inputs script)) inputs in
-      front_trans part.said_part [] whole.said part.said_front (front_none whole.said);
-  complained_front = λ inputs t. let whole : Outcome = running file script (loaded script (inputs script)) inputs in
-      front_trans part.complained_part [] whole.complained part.complained_front (front_none whole.complained);
+  names_prefix = λ inputs t. let whole : Outcome = running file script (loaded script (inputs script)) inputs in
+      prefix_trans part.names_part (script ∷ []) whole.asked part.names_prefix (asked_first file script (loaded script (inputs script)) inputs);
+  said_prefix = λ inputs t. let whole : Outcome = running file script (loaded script (inputs script)) inputs in
+      prefix_trans part.said_part [] whole.said part.said_prefix (prefix_none whole.said);
+  complained_prefix = λ inputs t. let whole : Outcome = running file script (loaded script (inputs script)) inputs in
+      prefix_trans part.complained_part [] whole.complained part.complained_prefix (prefix_none whole.complained);
 }
 
 -- the program that a code was made from

@@ -25,23 +25,24 @@ use Rattle.zk_top.specs.Line.{line_end}
 use Rattle.zk_top.specs.Named.{named}
 use Rattle.zk_top.specs.Replay.{HasCome, after_item}
 use Rattle.zk_top.specs.Printed.{budget, event_of, with_line_ends}
-use Rattle.zk_top.specs.Run.{IsFront, DoesAll, DoesPart, HandsOver}
-use Rattle.zk_top.proofs.Doing.{front_all, does_both_all, does_both_part, does_part_of, out_of_memory}
-use Rattle.zk_top.proofs.Growth.{GoesOn, goes_on_same, goes_on_trans, bodies_add, with_line_ends-append, text_front}
+use Rattle.zk_top.specs.Parts.{DoesAll, DoesPart, HandsOver}
+use Rattle.zk_top.specs.Run.{IsPrefix}
+use Rattle.zk_top.proofs.Doing.{prefix_all, does_both_all, does_both_part, does_part_of, out_of_memory}
+use Rattle.zk_top.proofs.Growth.{GoesOn, goes_on_same, goes_on_trans, bodies_add, with_line_ends-append, text_prefix}
 
--- stopped while a front of what is to be said waits
+-- stopped while a prefix of what is to be said waits
 pub stopped_in : (first : Outside) (program : Program) (taken : List (List ℕ)) (world : World) (replay : Replay) (mid : Outside) (whole : List ℕ) (stop : Stop) (new : Outside)
-    → HasCome first program taken world replay mid → IsFront (with_line_ends taken) whole → DoesPart [] replay.piece.items [] mid stop new → DoesPart [] whole [] first stop new
-stopped_in first program taken world replay mid whole stop new come front part =
-    does_part_of [] [] (come.said ++ replay.piece.items) whole [] [] first stop new (front_all [])
-    (subst (λ text. IsFront text whole) come.joined front) (front_all [])
+    → HasCome first program taken world replay mid → IsPrefix (with_line_ends taken) whole → DoesPart [] replay.piece.items [] mid stop new → DoesPart [] whole [] first stop new
+stopped_in first program taken world replay mid whole stop new come prefix part =
+    does_part_of [] [] (come.said ++ replay.piece.items) whole [] [] first stop new (prefix_all [])
+    (subst (λ text. IsPrefix text whole) come.joined prefix) (prefix_all [])
     (does_both_part [] [] come.said replay.piece.items [] [] first mid stop new come.does part)
 
 -- for want of memory
 pub stopped_for_memory : (first : Outside) (program : Program) (taken : List (List ℕ)) (world : World) (replay : Replay) (mid : Outside) (whole : List ℕ)
-    → HasCome first program taken world replay mid → IsFront (with_line_ends taken) whole → DoesPart [] whole [] first NoMemory mid
-stopped_for_memory first program taken world replay mid whole come front =
-    stopped_in first program taken world replay mid whole NoMemory mid come front (out_of_memory [] replay.piece.items [] mid mid refl)
+    → HasCome first program taken world replay mid → IsPrefix (with_line_ends taken) whole → DoesPart [] whole [] first NoMemory mid
+stopped_for_memory first program taken world replay mid whole come prefix =
+    stopped_in first program taken world replay mid whole NoMemory mid come prefix (out_of_memory [] replay.piece.items [] mid mid refl)
 
 -- one more line is taken
 pub line_taken : (first : Outside) (program : Program) (taken : List (List ℕ)) (world : World) (old new : Replay) (mid now : Outside) (line : List ℕ)
@@ -69,10 +70,10 @@ come_with first program taken world after old new now come stands same = record 
   joined = come.joined ∙ ap (λ piece. come.said ++ piece) (sym same);
 }
 
--- the lines that were taken are a front of those that were printed
-pub taken_front : (first : Outside) (program : Program) (taken : List (List ℕ)) (world : World) (replay : Replay) (now : Outside)
-    → HasCome first program taken world replay now → IsFront (with_line_ends taken) (with_line_ends world.lines)
-taken_front first program taken world replay now come = text_front taken world.lines (record { rest = replay.machine.lines.items; joined = come.stands.lines })
+-- the lines that were taken are a prefix of those that were printed
+pub taken_prefix : (first : Outside) (program : Program) (taken : List (List ℕ)) (world : World) (replay : Replay) (now : Outside)
+    → HasCome first program taken world replay now → IsPrefix (with_line_ends taken) (with_line_ends world.lines)
+taken_prefix first program taken world replay now come = text_prefix taken world.lines (record { rest = replay.machine.lines.items; joined = come.stands.lines })
 
 -- all lines were taken
 pub all_taken : (first : Outside) (program : Program) (taken : List (List ℕ)) (world : World) (old new : Replay) (now : Outside)
@@ -82,10 +83,10 @@ all_taken first program taken world old new now come is stands same =
     subst (λ lines. HasCome first program lines world new now) is (come_with first program taken world world old new now come stands same)
 
 -- stopped while an earlier world's lines were said
-pub stopped_within : (first : Outside) (stop : Stop) (new : Outside) (at whole : World) → IsFront (with_line_ends at.lines) (with_line_ends whole.lines)
+pub stopped_within : (first : Outside) (stop : Stop) (new : Outside) (at whole : World) → IsPrefix (with_line_ends at.lines) (with_line_ends whole.lines)
     → DoesPart [] (with_line_ends at.lines) [] first stop new → DoesPart [] (with_line_ends whole.lines) [] first stop new
-stopped_within first stop new at whole front part =
-    does_part_of [] [] (with_line_ends at.lines) (with_line_ends whole.lines) [] [] first stop new (front_all []) front (front_all []) part
+stopped_within first stop new at whole prefix part =
+    does_part_of [] [] (with_line_ends at.lines) (with_line_ends whole.lines) [] [] first stop new (prefix_all []) prefix (prefix_all []) part
 
 -- Handlers by their numbers ---------------------------------------------------------------------------------------
 
@@ -121,11 +122,11 @@ left_more args program number numbers others at whole is left = record {
   comes = sym (bodies-first args at program number others) ∙ (ap (λ ns. bodies args budget at (named ns program)) (sym is) ∙ left.comes);
 }
 
--- the lines so far are a front of those in the end
-pub left_front : (args : List Value) (program : Program) (numbers : List HandlerNo) (at whole : World) → IsLeft args program numbers at whole → IsFront (with_line_ends at.lines) (with_line_ends whole.lines)
-left_front args program numbers at whole left =
-    subst (λ (w : World). IsFront (with_line_ends at.lines) (with_line_ends w.lines)) left.comes
-    (text_front at.lines (bodies args budget at (named numbers program)).lines (bodies_add args budget at (named numbers program)).front)
+-- the lines so far are a prefix of those in the end
+pub left_prefix : (args : List Value) (program : Program) (numbers : List HandlerNo) (at whole : World) → IsLeft args program numbers at whole → IsPrefix (with_line_ends at.lines) (with_line_ends whole.lines)
+left_prefix args program numbers at whole left =
+    subst (λ (w : World). IsPrefix (with_line_ends at.lines) (with_line_ends w.lines)) left.comes
+    (text_prefix at.lines (bodies args budget at (named numbers program)).lines (bodies_add args budget at (named numbers program)).prefix)
 
 -- Items one after another -----------------------------------------------------------------------------------------
 
@@ -134,7 +135,7 @@ pub item_adds : (handlers : List Handler) (world : World) (item : Item) → Goes
 item_adds handlers world item =
     let args : List Value = (event_of item.what).args in
     let there : GoesOn (at_time item.moment world) (after_item handlers world item) = bodies_add args budget (at_time item.moment world) handlers in
-    record { front = there.front; queue = there.queue }
+    record { prefix = there.prefix; queue = there.queue }
 
 pub items_add : (handlers : List Handler) (world : World) (items : List Item) → GoesOn world (fold (after_item handlers) world items)
 items_add handlers world [] = goes_on_same world

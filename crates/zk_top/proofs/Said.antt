@@ -7,9 +7,9 @@ use Rattle.zk_pcap.specs.NetworkTime.{later, now}
 use Rattle.zk_top.specs.declared.stop.Stop.{Stop}
 use Rattle.zk_top.specs.Item.{items_of, items_after, seen_at}
 use Rattle.zk_top.specs.Line.{line_of, lines_of}
-use Rattle.zk_top.specs.Run.{DoesAll, DoesPart, HandsOver}
+use Rattle.zk_top.specs.Parts.{DoesAll, DoesPart, HandsOver}
 use Rattle.zk_top.proofs.Packets.{next_now, next_item}
-use Rattle.zk_top.proofs.Doing.{does_both_all, does_both_part, does_part_of, front_all}
+use Rattle.zk_top.proofs.Doing.{does_both_all, does_both_part, does_part_of, prefix_all}
 
 -- what was said, and the lines that wait, are the lines of the packets so far
 pub record IsSaidSoFar (first : Outside) (packets : List Packet) (index : ℕ) (time : Moment) (piece : List ℕ) (outside : Outside) : Type 0 where
@@ -18,7 +18,7 @@ pub record IsSaidSoFar (first : Outside) (packets : List Packet) (index : ℕ) (
   pub does : DoesAll [] said [] first outside
   pub lines : lines_of (items_of packets) ≡ (said ++ piece) ++ lines_of (items_after (take index packets) (drop index packets))
 
--- a piece was handed over, or a front of it
+-- a piece was handed over, or a prefix of it
 pub said_more : (first old new : Outside) (packets : List Packet) (index : ℕ) (time : Moment) (piece rest : List ℕ)
     → IsSaidSoFar first packets index time piece old → HandsOver old piece new rest → IsSaidSoFar first packets index time rest new
 said_more first old new packets index time piece rest far hands =
@@ -52,6 +52,6 @@ line_more first outside packets index time after packet piece longer far within 
 pub said_part_of : (first old : Outside) (packets : List Packet) (index : ℕ) (time : Moment) (piece : List ℕ) (stop : Stop) (new : Outside)
     → IsSaidSoFar first packets index time piece old → DoesPart [] piece [] old stop new → DoesPart [] (lines_of (items_of packets)) [] first stop new
 said_part_of first old packets index time piece stop new far part =
-    does_part_of [] [] (far.said ++ piece) (lines_of (items_of packets)) [] [] first stop new (front_all [])
-    (record { rest = lines_of (items_after (take index packets) (drop index packets)); joined = far.lines }) (front_all [])
+    does_part_of [] [] (far.said ++ piece) (lines_of (items_of packets)) [] [] first stop new (prefix_all [])
+    (record { rest = lines_of (items_after (take index packets) (drop index packets)); joined = far.lines }) (prefix_all [])
     (does_both_part [] [] far.said piece [] [] first old stop new far.does part)

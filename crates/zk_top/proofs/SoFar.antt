@@ -5,8 +5,9 @@ use Rattle.std.proofs.lemmas.List.{append-nil, take-append-drop, length-take-le,
 use Rattle.std.proofs.Math.Seq.{take-append_seam, take-add}
 use Rattle.zk_base.specs.Shelf.{Files, Outside, Reading, Closed, Untold, At, is_open, bytes_from, rest_of, advanced, opened, GivesBytes, FailsToRead, FindsNone, OpensInput, IsReadOut, HasRisen}
 use Rattle.zk_top.specs.declared.stop.Stop.TheVariants.{ReadFault, NoMemory}
-use Rattle.zk_top.specs.Run.{Does, DoesAll, DoesPart, SameFaults, IsReadBeyond, IsReadOf}
-use Rattle.zk_top.proofs.Doing.{does_nothing, front_none, does_both_part}
+use Rattle.zk_top.specs.Parts.{Does, DoesAll, DoesPart, IsReadBeyond, IsReadOf}
+use Rattle.zk_top.specs.Run.{SameFaults}
+use Rattle.zk_top.proofs.Doing.{does_nothing, prefix_none, does_both_part}
 
 -- the bytes stand before what is left, and nothing but the place in the input has changed
 pub record IsReadSoFar (first : Outside) (bytes : List ℕ) (now : Outside) : Type 0 where
@@ -29,8 +30,8 @@ rest_on (Some files) Closed n = refl
 rest_on (Some files) Untold n = refl
 rest_on (Some files) (At name place) n = drop_on (files name) place n
 
-front_given : (xs before after : List ℕ) (n : ℕ) → n ≤ length xs → after ≡ take n xs ++ drop n before → take n after ≡ take n xs
-front_given xs before after n within is =
+prefix_given : (xs before after : List ℕ) (n : ℕ) → n ≤ length xs → after ≡ take n xs ++ drop n before → take n after ≡ take n xs
+prefix_given xs before after n within is =
     let size : length (take n xs) ≡ n = length-take-le n xs within in
     ap (take n) is
     ∙ subst (λ m. take m (take n xs ++ drop n before) ≡ take n xs) size (take-append_seam (take n xs) (drop n before))
@@ -41,11 +42,11 @@ more : (whole rest : Option (List ℕ)) (bytes longer before after : List ℕ) (
     → longer ≡ bytes ++ take n after → whole ≡ option_map (λ xs. longer ++ xs) (option_map (drop n) rest)
 more whole None bytes longer before after n is given joined = is
 more whole (Some xs) bytes longer before after n is given joined =
-    let front : take n after ≡ take n xs = front_given xs before after n given.0 given.1 in
+    let prefix : take n after ≡ take n xs = prefix_given xs before after n given.0 given.1 in
     is ∙ ap Some
     (ap (λ ys. bytes ++ ys) (sym (take-append-drop n xs))
     ∙ sym (append_assoc bytes (take n xs) (drop n xs))
-    ∙ ap (λ ys. (bytes ++ ys) ++ drop n xs) (sym front)
+    ∙ ap (λ ys. (bytes ++ ys) ++ drop n xs) (sym prefix)
     ∙ ap (λ ys. ys ++ drop n xs) (sym joined))
 
 pub read_more : (first now new : Outside) (bytes longer before after : List ℕ) (n : ℕ) → IsReadSoFar first bytes now → GivesBytes now before n after new
@@ -67,7 +68,7 @@ grown old resized buf rest items len n size before kept sized is =
     is
     ∙ ap (take (len + n)) (subst (λ m. take m (buf ++ rest) ≡ buf) sized (take-append_seam buf rest))
     ∙ take-add len n buf
-    ∙ ap (λ front. front ++ take n (drop len buf)) (kept ∙ before)
+    ∙ ap (λ prefix. prefix ++ take n (drop len buf)) (kept ∙ before)
 
 -- the buffer after nothing more was read
 pub cut_back : (old resized buf rest items : List ℕ) (len size : ℕ) → take len resized ≡ old → take len buf ≡ take len resized → length buf ≡ size
@@ -101,11 +102,11 @@ same_faults_read first now bytes far = record { read = ap (λ (o : Outside). o.r
 pub stopped_for_memory : (first now : Outside) (bytes : List ℕ) → IsReadSoFar first bytes now → DoesPart [] [] [] first NoMemory now
 stopped_for_memory first now bytes far = record {
   names_part = [];
-  names_front = front_none [];
+  names_prefix = prefix_none [];
   said_part = [];
-  said_front = front_none [];
+  said_prefix = prefix_none [];
   complained_part = [];
-  complained_front = front_none [];
+  complained_prefix = prefix_none [];
   does = does_read first now bytes far;
   cause = same_faults_read first now bytes far;
 }
@@ -115,11 +116,11 @@ stopped_by_input first now new bytes far fails =
     let all : DoesAll [] [] [] first now = record { does = does_read first now bytes far; faults = same_faults_read first now bytes far } in
     let part : DoesPart [] [] [] now ReadFault new = record {
       names_part = [];
-      names_front = front_none [];
+      names_prefix = prefix_none [];
       said_part = [];
-      said_front = front_none [];
+      said_prefix = prefix_none [];
       complained_part = [];
-      complained_front = front_none [];
+      complained_prefix = prefix_none [];
       does = subst (λ o. Does [] [] [] now o) (sym fails.after) (record {
         inputs_stay = refl;
         outputs_stay = refl;
@@ -139,7 +140,7 @@ beyond None rest bytes most is long = tt
 beyond (Some whole) None bytes most is long = absurd (let never : ⊥ = cc in never)
 beyond (Some whole) (Some rest) bytes most is long =
     let same : whole ≡ bytes ++ rest = cc in
-    record { front = record { rest = rest; joined = same }; enough = inr long }
+    record { prefix = record { rest = rest; joined = same }; enough = inr long }
 
 -- beyond so many bytes
 pub read_beyond : (first now : Outside) (bytes : List ℕ) (most : ℕ) → IsReadSoFar first bytes now → most < length bytes → IfSome (rest_of first) (λ rest. IsReadBeyond most rest bytes)
@@ -151,7 +152,7 @@ all_of None rest bytes most is out = tt
 all_of (Some whole) None bytes most is out = absurd (let never : ⊥ = cc in never)
 all_of (Some whole) (Some rest) bytes most is out =
     let same : whole ≡ bytes ++ rest = cc in
-    record { front = record { rest = rest; joined = same }; enough = inl (sym (same ∙ (ap (λ r. bytes ++ r) out ∙ append-nil bytes))) }
+    record { prefix = record { rest = rest; joined = same }; enough = inl (sym (same ∙ (ap (λ r. bytes ++ r) out ∙ append-nil bytes))) }
 
 pub read_all : (first now new : Outside) (bytes : List ℕ) (most : ℕ) → IsReadSoFar first bytes now → IsReadOut now new → IfSome (rest_of first) (λ rest. IsReadBeyond most rest bytes)
 read_all first now new bytes most far end = all_of (rest_of first) (rest_of now) bytes most far.rest end.out

@@ -16,9 +16,9 @@ use Rattle.zk_top.specs.Named.{named}
 use Rattle.zk_top.specs.Outcome.{end_of_capture, end_of_run, run_report}
 use Rattle.zk_top.specs.Replay.{after_item}
 use Rattle.zk_top.specs.Printed.{budget, event_of, items_for, progress_of, printed, with_line_ends, turn_of}
-use Rattle.zk_top.specs.Run.{IsFront}
-use Rattle.zk_top.proofs.Doing.{front_trans}
-use Rattle.zk_top.proofs.Growth.{bodies_add, text_front}
+use Rattle.zk_top.specs.Run.{IsPrefix}
+use Rattle.zk_top.proofs.Doing.{prefix_trans}
+use Rattle.zk_top.proofs.Growth.{bodies_add, text_prefix}
 use Rattle.zk_top.proofs.ReplayLemmas.{item_adds, items_add}
 
 -- The queue --------------------------------------------------------------------------------------------------------
@@ -117,20 +117,20 @@ whole_printed program packets = ap (λ (p : Progress). with_line_ends (world_in 
 pub ends_with_capture : (file : List ℕ) (program : Program) (capture : Capture) → (run_report file program capture).ending ≡ end_of_capture file capture.ending
 ends_with_capture file program capture = ap (end_of_run file capture.ending) (run_is program capture.packets)
 
--- the lines so far are a front of those in the end
-pub replayed_front : (program : Program) (packets : List Packet) → IsFront (with_line_ends (over_world program packets).lines) (with_line_ends (whole_run program packets).lines)
+-- the lines so far are a prefix of those in the end
+pub replayed_prefix : (program : Program) (packets : List Packet) → IsPrefix (with_line_ends (over_world program packets).lines) (with_line_ends (whole_run program packets).lines)
 unfolding whole_run
-replayed_front program packets =
+replayed_prefix program packets =
     let over : World = over_world program packets in
-    text_front over.lines (whole_run program packets).lines (bodies_add [] budget (at_end (now packets) over) (handlers_of program zeek_done)).front
+    text_prefix over.lines (whole_run program packets).lines (bodies_add [] budget (at_end (now packets) over) (handlers_of program zeek_done)).prefix
 
-pub begun_front : (program : Program) (packets : List Packet) → IsFront (with_line_ends (begun_world program).lines) (with_line_ends (whole_run program packets).lines)
-begun_front program packets =
+pub begun_prefix : (program : Program) (packets : List Packet) → IsPrefix (with_line_ends (begun_world program).lines) (with_line_ends (whole_run program packets).lines)
+begun_prefix program packets =
     let begins : World = begun_world program in
     let over : World = over_world program packets in
-    front_trans (with_line_ends begins.lines) (with_line_ends over.lines) (with_line_ends (whole_run program packets).lines)
-    (text_front begins.lines over.lines (items_add (handlers_of program packet_seen) begins (items_of packets)).front)
-    (replayed_front program packets)
+    prefix_trans (with_line_ends begins.lines) (with_line_ends over.lines) (with_line_ends (whole_run program packets).lines)
+    (text_prefix begins.lines over.lines (items_add (handlers_of program packet_seen) begins (items_of packets)).prefix)
+    (replayed_prefix program packets)
 
 -- The worlds of a run, by the handlers that numbers name -----------------------------------------------------------
 

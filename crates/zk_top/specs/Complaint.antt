@@ -4,10 +4,11 @@ use Rattle.zk_base.specs.declared.endings.Ending.{Ending}
 use Rattle.zk_base.specs.declared.endings.Ending.TheVariants.{Done, Usage, ScriptRefused, NoInput, CaptureRefused, CutShort, ReadFault, WriteFault, NoMemory, Flood}
 use Rattle.zk_base.specs.Ending.{kind_name}
 use Rattle.zk_text.specs.Span.{span_decimal}
+use Rattle.zk_top.specs.Line.{line_end}
 
 -- a line of the program's own
 abbrev pub line : List ℕ → List ℕ
-line text = codes "zeekoff: " ++ text ++ 10 ∷ []
+line text = codes "zeekoff: " ++ text ++ line_end
 
 -- the complaint of an ending: a line, or nothing
 abbrev pub complaint_of : Ending → List ℕ

@@ -11,5 +11,6 @@ pub mod Handlers
 pub mod Complaint
 pub mod Outcome
 pub mod Run
+pub mod Parts
 pub mod Stop
 pub mod Bodies

@@ -7,7 +7,7 @@ use Rattle.zk_value.specs.declared.code.Code.{Code}
 use Rattle.zk_top.specs.declared.found.Found.{Found}
 use Rattle.zk_top.specs.declared.found.Found.TheVariants.{Accepted, Refused}
 use Rattle.zk_top.specs.Outcome.{loaded}
-use Rattle.zk_top.specs.Run.{Finds}
+use Rattle.zk_top.specs.Parts.{Finds}
 
 abbrev pub code_found : Found Program → Found Code
 code_found (Accepted program) = Accepted (lowered program)

@@ -10,7 +10,7 @@ use Rattle.zk_top.specs.declared.replay.Replay.{Replay}
 use Rattle.zk_top.specs.declared.stop.Stop.{Stop}
 use Rattle.zk_top.specs.Item.{Item}
 use Rattle.zk_top.specs.Printed.{budget, event_of, with_line_ends}
-use Rattle.zk_top.specs.Run.{DoesAll, DoesPart}
+use Rattle.zk_top.specs.Parts.{DoesAll, DoesPart}
 
 -- The program has come to this world, and these of its lines were taken: their text is what was said
 -- since the first outside, and then the piece that waits.
@@ -26,7 +26,7 @@ GoesTo after old before new now =
     (first : Outside) (program : Program) (world : World) → HasCome first program world.lines world old before
     → HasCome first program (after program world).lines (after program world) new now
 
--- It is stopped on the way there, and a front of the lines was said.
+-- It is stopped on the way there, and a prefix of the lines was said.
 abbrev pub StopsBefore : (Program → World → World) → Replay → Outside → Stop → Outside → Type 0
 StopsBefore after old before stop now =
     (first : Outside) (program : Program) (world : World) → HasCome first program world.lines world old before

@@ -1,5 +1,5 @@
 ghost use Rattle.std.specs.Prelude.{◌≡◌, ◌↔◌, ◌++◌, List, ℕ, [], Some, IsTrue, Ok, Err, MatchResult};
-ghost use Rattle.zk_top.specs.Command.{Command as Words, IsCommand, IsFirstNotUnderstood, is_file_name, fits, begins_with, command_of, begins, understood, understand, command_seen};
+ghost use Rattle.zk_top.specs.Command.{Command as CommandMeaning, IsCommand, IsFirstNotUnderstood, is_file_name, fits, begins_with, command_of, begins, understood, understand, command_seen};
 
 use zk_base::Word;
 
@@ -107,11 +107,11 @@ fn is_file_name(word: &Word) -> bool
 /// What a command line is, in the subject's own words. There is nothing to run.
 pub fn command_line()
     // The command that is read is the one whose words they are, and there is no other.
-    ensures spelled { (words : List (List ℕ)) (command : Words) → (command_of words ≡ Some command) ↔ IsCommand words command }
+    ensures spelled { (words : List (List ℕ)) (command : CommandMeaning) → (command_of words ≡ Some command) ↔ IsCommand words command }
 
     // Words begin a command exactly where some words behind them make one.
     ensures begun { (words : List (List ℕ)) → IsTrue (begins words)
-        ↔ ((more : List (List ℕ)) × (command : Words) × IsCommand (words ++ more) command) }
+        ↔ ((more : List (List ℕ)) × (command : CommandMeaning) × IsCommand (words ++ more) command) }
 
     // The word that is named is the least one with which the words begin no command.
     ensures first { (words : List (List ℕ)) → IsFirstNotUnderstood words (understood [] words) }

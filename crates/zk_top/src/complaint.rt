@@ -2,7 +2,7 @@ ghost use Rattle.std.specs.Prelude.{◌≡◌, [], ◌++◌, codes, decimal, OnO
 ghost use Rattle.zk_text.specs.Span.{span_decimal};
 ghost use Rattle.zk_base.specs.Ending.{kind_name};
 ghost use Rattle.zk_top.specs.Complaint.{complaint_of, line};
-ghost use Rattle.zk_top.specs.Run.{DoesAll, DoesPart};
+ghost use Rattle.zk_top.specs.Parts.{DoesAll, DoesPart};
 
 use crate::stop::Stop;
 use std::alloc::{AllocError, Global};
@@ -48,7 +48,7 @@ fn complaint(alloc: Global, ending: &Ending) -> Result<Vec<u8>, AllocError>
     }
 }
 
-/// The front of each complaint.
+/// What each complaint begins with.
 fn begun(alloc: Global) -> Result<Vec<u8>, AllocError>
     ensures { IfOk result (λ text. text.items ≡ codes "zeekoff: ") }
 {

@@ -3,7 +3,8 @@ ghost use Rattle.zk_base.specs.Shelf.{Files, HasRisen};
 ghost use Rattle.zk_top.specs.Command.{understand, command_seen};
 ghost use Rattle.zk_top.specs.Complaint.{complaint_of};
 ghost use Rattle.zk_top.specs.Outcome.{outcome, outcome_of};
-ghost use Rattle.zk_top.specs.Run.{IsWhole, IsDone, StaysWithin, IsOfCommand, Fulfils, BreaksOff, SameFaults};
+ghost use Rattle.zk_top.specs.Parts.{IsOfCommand, Fulfils, BreaksOff};
+ghost use Rattle.zk_top.specs.Run.{IsNotStopped, IsDone, StaysWithin, SameFaults};
 
 use crate::command::{Command, read_command};
 use crate::complaint::complain;
@@ -18,25 +19,27 @@ use zk_base::{Ending, Shelf, Word};
 ///
 /// Over a shelf that tells its inputs, the ending, what is said and complained, the files that are
 /// written and the inputs that are asked for are those of `outcome`. `ReadFault`, `WriteFault` and
-/// `NoMemory` stop a run at any place: then a front of each was done.
+/// `NoMemory` stop a run at any place: then a prefix of each was done.
 pub fn run<S: Shelf>(alloc: Global, words: &[Word], shelf: &mut S) -> Ending
     // A run that isn't stopped does what its words ask for, and nothing else.
-    ensures done { (inputs : Files) → (S.outside shelf.old).inputs ≡ Some inputs → IsWhole result
+    ensures done { (inputs : Files) → (S.outside shelf.old).inputs ≡ Some inputs → IsNotStopped result
         → IsDone (outcome words.now inputs) (S.outside shelf.old) result (S.outside shelf.new) }
 
-    // However it ends, it has done a front of that.
+    // However it ends, it has done a prefix of that.
     ensures within { (inputs : Files) → (S.outside shelf.old).inputs ≡ Some inputs
         → StaysWithin (outcome words.now inputs) (S.outside shelf.old) (S.outside shelf.new) }
 
     // What no shelf needs to tell.
-    ensures usage { (word : ℕ) → IsWhole result → (result ≡ Ending.Usage word) ↔ (understand words.now ≡ Err word) }
+    ensures usage { (word : ℕ) → IsNotStopped result → (result ≡ Ending.Usage word) ↔ (understand words.now ≡ Err word) }
     ensures absent { (name : List ℕ) → result ≡ Ending.NoInput name
         → HasRisen (S.outside shelf.old).absences (S.outside shelf.new).absences }
-    ensures faults { IsWhole result → SameFaults (S.outside shelf.old) (S.outside shelf.new) }
+    ensures faults { IsNotStopped result → SameFaults (S.outside shelf.old) (S.outside shelf.new) }
     ensures read_fault { result ≡ Ending.ReadFault
-        → HasRisen (S.outside shelf.old).read_faults (S.outside shelf.new).read_faults }
+        → HasRisen (S.outside shelf.old).read_faults (S.outside shelf.new).read_faults
+        × ((S.outside shelf.new).write_faults ≡ (S.outside shelf.old).write_faults) }
     ensures write_fault { result ≡ Ending.WriteFault
-        → HasRisen (S.outside shelf.old).write_faults (S.outside shelf.new).write_faults }
+        → HasRisen (S.outside shelf.old).write_faults (S.outside shelf.new).write_faults
+        × ((S.outside shelf.new).read_faults ≡ (S.outside shelf.old).read_faults) }
 
     // A fault is never told as want of memory.
     ensures no_memory { result ≡ Ending.NoMemory → SameFaults (S.outside shelf.old) (S.outside shelf.new) }

@@ -2,6 +2,7 @@
 #![tactic(auto)]
 
 mod bodies;
+mod capture;
 mod command;
 mod complaint;
 mod entry;
@@ -10,7 +11,6 @@ mod line;
 mod listing;
 mod lowering;
 mod mapping;
-mod opening;
 mod output;
 mod reading;
 mod replay;

@@ -1,6 +1,6 @@
 ghost use Rattle.std.specs.Prelude.{◌≡◌, ◌≤◌, ◌+◌, [], ◌++◌, length, OnOk, IfErr};
 ghost use Rattle.zk_top.specs.Line.{line_end};
-ghost use Rattle.zk_top.specs.Run.{DoesAll, DoesPart, HandsOver};
+ghost use Rattle.zk_top.specs.Parts.{DoesAll, DoesPart, HandsOver};
 
 use crate::stop::Stop;
 use std::alloc::AllocError;

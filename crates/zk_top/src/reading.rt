@@ -1,6 +1,6 @@
 ghost use Rattle.std.specs.Prelude.{◌≡◌, ◌<◌, [], ◌∷◌, length, take, drop, IsTrue, IfSome, IsNone, IfOk, IfErr};
 ghost use Rattle.zk_base.specs.Shelf.{is_open, rest_of, Reads, HasRisen};
-ghost use Rattle.zk_top.specs.Run.{DoesAll, DoesPart, IsReadBeyond, IsReadOf};
+ghost use Rattle.zk_top.specs.Parts.{DoesAll, DoesPart, IsReadBeyond, IsReadOf};
 
 use crate::stop::Stop;
 use std::alloc::Global;
@@ -10,7 +10,7 @@ use zk_base::{Bytes, Got, Shelf, Started};
 const CHUNK: usize = 1 << 18;
 
 /// The bytes of an input, or none where there is no such input. Of an input of more than `most`
-/// bytes only a front of more than `most` may be read.
+/// bytes only a prefix of more than `most` may be read.
 pub fn read_input<S: Shelf>(
     alloc: Global,
     shelf: &mut S,
@@ -30,7 +30,7 @@ pub fn read_input<S: Shelf>(
     }
 }
 
-/// The bytes that the open input has left, or a front of them that is longer than `most`.
+/// The bytes that the open input has left, or a prefix of them that is longer than `most`.
 fn read_open<S: Shelf>(alloc: Global, shelf: &mut S, most: usize) -> Result<Bytes, Stop>
     requires { IsTrue (is_open (S.outside shelf.old).reading) }
     ensures read { IfOk result (λ bytes. DoesAll [] [] [] (S.outside shelf.old) (S.outside shelf.new)) }

@@ -10,9 +10,9 @@ ghost use Rattle.zk_value.specs.Plain.{value_of, line_in};
 ghost use Rattle.zk_top.specs.Item.{seen_at, items_of};
 ghost use Rattle.zk_top.specs.Named.{named, AreIn};
 ghost use Rattle.zk_top.specs.Printed.{budget, printed, with_line_ends};
-ghost use Rattle.zk_top.specs.Run.{DoesAll, DoesPart};
+ghost use Rattle.zk_top.specs.Parts.{DoesAll, DoesPart};
 
-use crate::opening::later;
+use crate::capture::later;
 use crate::output::{PIECE, push_line, say};
 use crate::stop::Stop;
 use std::alloc::Global;

@@ -1,7 +1,7 @@
-ghost use Rattle.std.specs.Prelude.{◌≡◌, [], ◌∷◌, IfOk, IfErr};
+ghost use Rattle.std.specs.Prelude.{◌≡◌, ◌<◌, [], ◌∷◌, length, IfOk, IfErr};
 ghost use Rattle.zk_top.specs.Lowering.{FindsCode, code_found};
 ghost use Rattle.zk_top.specs.Outcome.{accepted};
-ghost use Rattle.zk_top.specs.Run.{DoesPart};
+ghost use Rattle.zk_top.specs.Parts.{DoesPart};
 ghost use Rattle.zk_top.specs.Script.{script_of, place_of_token};
 
 use crate::found::Found;
@@ -59,7 +59,8 @@ fn compile(alloc: Global, name: Bytes, text: &[u8]) -> Result<Found<Code>, Mem>
 
 /// The place of a token, by its number.
 fn place_of(tokens: &[Token], number: usize) -> u64
+    requires { number < length tokens.now }
     ensures { result ≡ place_of_token tokens.now number }
 {
-    tokens.get(number).map_or(0, |token| token.place)
+    tokens[number].place
 }

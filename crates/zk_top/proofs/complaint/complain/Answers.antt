@@ -2,7 +2,7 @@ use Rattle.std.proofs.Common.{[], ◌∙◌, subst, refl}
 use Rattle.std.proofs.lemmas.Result.{err_from_is_err_and}
 use Rattle.zk_top.specs.Complaint.{complaint_of}
 use Rattle.zk_top.specs.declared.stop.Stop.TheVariants.{WriteFault}
-use Rattle.zk_top.specs.Run.{DoesPart}
+use Rattle.zk_top.specs.Parts.{DoesPart}
 use Rattle.zk_top.proofs.Doing.{complained_part, out_of_memory}
 use Rattle.zk_top.proofs.complaint.complain.Goals as goal
 

@@ -1,6 +1,6 @@
 use Rattle.std.proofs.Common.{IfErr, sym, subst}
 use Rattle.zk_top.specs.Outcome.{outcome_of}
-use Rattle.zk_top.specs.Run.{BreaksOff}
+use Rattle.zk_top.specs.Parts.{BreaksOff}
 use Rattle.zk_top.proofs.EntryLemmas.{not_understood}
 use Rattle.zk_top.proofs.entry.carry_out.Goals as goal
 

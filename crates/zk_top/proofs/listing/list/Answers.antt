@@ -4,7 +4,7 @@ use Rattle.zk_top.specs.declared.found.Found.TheVariants.{Accepted}
 use Rattle.zk_top.specs.Item.{items_of}
 use Rattle.zk_top.specs.Line.{lines_of}
 use Rattle.zk_top.specs.Outcome.{opened, list_report}
-use Rattle.zk_top.specs.Run.{DoesAll, DoesPart, Finds}
+use Rattle.zk_top.specs.Parts.{DoesAll, DoesPart, Finds}
 use Rattle.zk_top.proofs.OverCapture.{broken_before, broken_within, fulfilled, fulfilled_refused, command_refusal}
 use Rattle.zk_top.proofs.listing.list.Goals as goal
 

@@ -3,7 +3,7 @@ use Rattle.std.proofs.lemmas.Result.{err_from_is_err_and, IfErr-weaker}
 use Rattle.zk_top.specs.declared.stop.Stop.TheVariants.{NoMemory}
 use Rattle.zk_top.specs.Item.{items_of}
 use Rattle.zk_top.specs.Line.{lines_of}
-use Rattle.zk_top.specs.Run.{DoesPart}
+use Rattle.zk_top.specs.Parts.{DoesPart}
 use Rattle.zk_top.proofs.Doing.{out_of_memory}
 use Rattle.zk_top.proofs.Said.{said_more, line_more, said_part_of}
 use Rattle.zk_top.proofs.listing.say_packets.Goals as goal

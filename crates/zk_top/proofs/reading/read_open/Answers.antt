@@ -1,7 +1,7 @@
 use Rattle.std.proofs.Common.{◌-◌, replicate, vec_len, ◌≡◌, ◌+◌, ◌++◌, length, take, drop, IfSome, sym, subst, ◌∙◌, arith}
 use Rattle.std.proofs.lemmas.Result.{err_from_is_err_and}
 use Rattle.zk_base.specs.Shelf.{rest_of}
-use Rattle.zk_top.specs.Run.{IsReadBeyond}
+use Rattle.zk_top.specs.Parts.{IsReadBeyond}
 use Rattle.zk_top.proofs.SoFar.{kept_by_resize, read_more, grown, stopped_for_memory, stopped_by_input, cut_back, read_beyond, read_all}
 use Rattle.zk_top.proofs.reading.read_open.Goals as goal
 

@@ -3,7 +3,7 @@ use Rattle.std.proofs.lemmas.Result.{err_from_is_err_and}
 use Rattle.zk_top.specs.declared.found.Found.TheVariants.{Accepted}
 use Rattle.zk_top.specs.Outcome.{opened, run_report}
 use Rattle.zk_top.specs.Printed.{printed}
-use Rattle.zk_top.specs.Run.{DoesAll, DoesPart, Finds}
+use Rattle.zk_top.specs.Parts.{DoesAll, DoesPart, Finds}
 use Rattle.zk_top.proofs.OverCapture.{broken_before, broken_within, fulfilled, fulfilled_refused, command_refusal}
 use Rattle.zk_top.proofs.WholeRun.{ends_with_capture}
 use Rattle.zk_top.proofs.running.run_code.Goals as goal

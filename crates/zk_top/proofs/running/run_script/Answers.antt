@@ -2,7 +2,7 @@ use Rattle.std.proofs.Common.{sym, subst, ◌∙◌}
 use Rattle.std.proofs.lemmas.Result.{err_from_is_err_and, IfOk-weaker, IfErr-weaker}
 use Rattle.zk_top.specs.declared.found.Found.TheVariants.{Accepted}
 use Rattle.zk_top.specs.Outcome.{loaded}
-use Rattle.zk_top.specs.Run.{Finds}
+use Rattle.zk_top.specs.Parts.{Finds}
 use Rattle.zk_top.proofs.OverCapture.{command_refusal}
 use Rattle.zk_top.proofs.OverScript.{fulfilled_run, stopped_run, refused_script, stopped_script, meant_by, refused_by}
 use Rattle.zk_top.proofs.running.run_script.Goals as goal

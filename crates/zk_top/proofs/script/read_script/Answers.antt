@@ -5,7 +5,7 @@ use Rattle.zk_base.specs.Shelf.{HasRisen}
 use Rattle.zk_top.specs.declared.found.Found.TheVariants.{Refused}
 use Rattle.zk_top.specs.Lowering.{code_found}
 use Rattle.zk_top.specs.Outcome.{accepted}
-use Rattle.zk_top.specs.Run.{IsReadOf}
+use Rattle.zk_top.specs.Parts.{IsReadOf}
 use Rattle.zk_top.specs.Script.{script_max, script_of}
 use Rattle.zk_top.proofs.Doing.{out_of_memory}
 use Rattle.zk_top.proofs.OverCapture.{found_no_script, found_script}

@@ -8,7 +8,7 @@ use Rattle.zk_value.specs.Plain.{value_of}
 use Rattle.zk_top.specs.Named.{named}
 use Rattle.zk_top.specs.Replay.{HasCome}
 use Rattle.zk_top.specs.Printed.{budget}
-use Rattle.zk_top.proofs.ReplayLemmas.{stopped_within, IsLeft, left_front, left_more}
+use Rattle.zk_top.proofs.ReplayLemmas.{stopped_within, IsLeft, left_prefix, left_more}
 use Rattle.zk_top.proofs.replay.Replay.dispatch.Goals as goal
 
 pub loop-handler-preserved : goal.loop-handler-preserved
@@ -44,7 +44,7 @@ returns-in_err-run_body-clause-stopped g c =
     let here : World = bodies args budget far.0 (named (number ∷ []) program) in
     let whole : World = bodies args budget world (named numbers program) in
     stopped_within first stop new here whole
-    (left_front args program (drop (index + 1) numbers) here whole (left_more args program number (drop index numbers) (drop (index + 1) numbers) far.0 whole rest far.2))
+    (left_prefix args program (drop (index + 1) numbers) here whole (left_more args program number (drop index numbers) (drop (index + 1) numbers) far.0 whole rest far.2))
     (c.in_err-run_body.ensures.stopped first program far.0 far.1))
 
 pub returns-clause-came : goal.returns-clause-came

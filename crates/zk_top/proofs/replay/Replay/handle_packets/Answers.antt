@@ -7,8 +7,8 @@ use Rattle.zk_top.specs.Item.{Item, items_of, items_after, seen_at}
 use Rattle.zk_top.specs.Named.{named}
 use Rattle.zk_top.specs.Replay.{HasCome, after_item}
 use Rattle.zk_top.specs.Printed.{with_line_ends}
-use Rattle.zk_top.specs.Run.{IsFront}
-use Rattle.zk_top.proofs.Growth.{text_front}
+use Rattle.zk_top.specs.Run.{IsPrefix}
+use Rattle.zk_top.proofs.Growth.{text_prefix}
 use Rattle.zk_top.proofs.Packets.{next_now, next_item}
 use Rattle.zk_top.proofs.ReplayLemmas.{stopped_within, items_add}
 use Rattle.zk_top.proofs.replay.Replay.handle_packets.Goals as goal
@@ -50,7 +50,7 @@ returns-in_err-handle_packet-clause-stopped g c =
     let whole : World = fold (after_item handlers) world (items_of packets) in
     let comes : fold (after_item handlers) here rest ≡ whole = ap (fold (after_item handlers) far.0) (sym item) ∙ far.2 in
     stopped_within first stop new here whole
-    (subst (λ (w : World). IsFront (with_line_ends here.lines) (with_line_ends w.lines)) comes (text_front here.lines (fold (after_item handlers) here rest).lines (items_add handlers here rest).front))
+    (subst (λ (w : World). IsPrefix (with_line_ends here.lines) (with_line_ends w.lines)) comes (text_prefix here.lines (fold (after_item handlers) here rest).lines (items_add handlers here rest).prefix))
     (c.in_err-handle_packet.ensures.stopped first program far.0 far.1))
 
 pub returns-clause-last : goal.returns-clause-last

@@ -11,10 +11,10 @@ use Rattle.zk_top.specs.Item.{items_of}
 use Rattle.zk_top.specs.Named.{named}
 use Rattle.zk_top.specs.Replay.{HasCome, after_item}
 use Rattle.zk_top.specs.Printed.{budget, with_line_ends}
-use Rattle.zk_top.specs.Run.{DoesAll, DoesPart}
-use Rattle.zk_top.proofs.Doing.{front_all}
+use Rattle.zk_top.specs.Parts.{DoesAll, DoesPart}
+use Rattle.zk_top.proofs.Doing.{prefix_all}
 use Rattle.zk_top.proofs.ReplayLemmas.{stopped_within, stopped_in, at_world, part_at_world, at_the_end, all_said}
-use Rattle.zk_top.proofs.WholeRun.{begun_world, over_world, whole_run, whole_printed, begun_front, replayed_front, begun_by, replayed_by, run_by}
+use Rattle.zk_top.proofs.WholeRun.{begun_world, over_world, whole_run, whole_printed, begun_prefix, replayed_prefix, begun_by, replayed_by, run_by}
 use Rattle.zk_top.proofs.replay.Replay.run.Given
 use Rattle.zk_top.proofs.replay.Replay.run.Goals as goal
 
@@ -30,7 +30,7 @@ returns-in_err-dispatch-clause-stopped g c =
     let part = part_at_world first (bodies [] budget first_world (named init program)) (begun_world program) stop new (begun_by program init is)
     (c.in_err-dispatch.ensures.stopped first program first_world come) in
     subst (λ text. DoesPart [] text [] first stop new) (whole_printed program packets)
-    (stopped_within first stop new (begun_world program) (whole_run program packets) (begun_front program packets) part))
+    (stopped_within first stop new (begun_world program) (whole_run program packets) (begun_prefix program packets) part))
 
 pub returns-in_err-last-clause-stopped : goal.returns-in_err-last-clause-stopped
 returns-in_err-last-clause-stopped g c =
@@ -51,7 +51,7 @@ returns-in_err-last-clause-stopped g c =
     let part = part_at_world first (fold (after_item (named seen program)) (begun_world program) (items_of packets)) over stop new (replayed_by program seen packets are_seen)
     (c.in_err-last.ensures.stopped first program (begun_world program) begins) in
     subst (λ text. DoesPart [] text [] first stop new) (whole_printed program packets)
-    (stopped_within first stop new over (whole_run program packets) (replayed_front program packets) part))
+    (stopped_within first stop new over (whole_run program packets) (replayed_prefix program packets) part))
 
 pub returns-in_err-dispatch-2-clause-stopped : goal.returns-in_err-dispatch-2-clause-stopped
 returns-in_err-dispatch-2-clause-stopped g c =
@@ -127,5 +127,5 @@ returns-clause-stopped g c =
     let whole : World = whole_run program packets in
     subst (λ text. DoesPart [] text [] first stop new) (whole_printed program packets)
     (stopped_in first program whole.lines whole c.dispatch-2.new.self last (with_line_ends whole.lines) stop new (ended g c first program are come)
-    (front_all (with_line_ends whole.lines)) (subst (λ piece. DoesPart [] piece [] last stop new) c.deref-4.ensures.value part)))
+    (prefix_all (with_line_ends whole.lines)) (subst (λ piece. DoesPart [] piece [] last stop new) c.deref-4.ensures.value part)))
     c.say.ensures.stopped

@@ -8,8 +8,8 @@ use Rattle.zk_top.specs.declared.replay.Replay.{Replay}
 use Rattle.zk_top.specs.Named.{named}
 use Rattle.zk_top.specs.Replay.{HasCome}
 use Rattle.zk_top.specs.Printed.{budget, with_line_ends}
-use Rattle.zk_top.specs.Run.{DoesPart}
-use Rattle.zk_top.proofs.Growth.{bodies_add, text_front}
+use Rattle.zk_top.specs.Parts.{DoesPart}
+use Rattle.zk_top.proofs.Growth.{bodies_add, text_prefix}
 use Rattle.zk_top.proofs.ReplayLemmas.{stopped_for_memory, come_with, named_one, named_there}
 use Rattle.zk_top.proofs.replay.Replay.run_body.Goals as goal
 
@@ -21,7 +21,7 @@ returns-in_err-body-clause-stopped g c =
     rw (p.1, p.2) (λ first program world come.
     let after : World = bodies args budget world (named (c.args.handler ∷ []) program) in
     stopped_for_memory first program world.lines world c.args.self.now old (with_line_ends after.lines) come
-    (text_front world.lines after.lines (bodies_add args budget world (named (c.args.handler ∷ []) program)).front))
+    (text_prefix world.lines after.lines (bodies_add args budget world (named (c.args.handler ∷ []) program)).prefix))
 
 pub returns-clause-came : goal.returns-clause-came
 returns-clause-came g c =

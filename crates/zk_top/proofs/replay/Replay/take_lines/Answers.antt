@@ -3,7 +3,7 @@ use Rattle.std.proofs.lemmas.Result.{err_from_is_err_and}
 use Rattle.zk_machine.specs.Standing.{StandsFor}
 use Rattle.zk_top.specs.declared.replay.Replay.{Replay}
 use Rattle.zk_top.specs.Printed.{with_line_ends}
-use Rattle.zk_top.proofs.ReplayLemmas.{stopped_in, line_taken, taken_front, all_taken}
+use Rattle.zk_top.proofs.ReplayLemmas.{stopped_in, line_taken, taken_prefix, all_taken}
 use Rattle.zk_top.proofs.replay.Replay.take_lines.Goals as goal
 
 pub returns-in_err-push_line-clause-stopped : goal.returns-in_err-push_line-clause-stopped
@@ -14,7 +14,7 @@ returns-in_err-push_line-clause-stopped g c =
     rw (p.1, p.2) (λ first program taken world come.
     let far = c.loop-out.invariant.came first program taken world come in
     stopped_in first program far.0 world c.loop-out.self mid (with_line_ends world.lines) c.in_err-push_line.field-0.0 new far.1
-    (taken_front first program far.0 world c.loop-out.self mid far.1) c.in_err-push_line.ensures.stopped)
+    (taken_prefix first program far.0 world c.loop-out.self mid far.1) c.in_err-push_line.ensures.stopped)
 
 pub loop-out-preserved : goal.loop-out-preserved
 loop-out-preserved g c =

@@ -5,7 +5,7 @@ use Rattle.zk_pcap.specs.Capture.{capture_of}
 use Rattle.zk_top.specs.declared.found.Found.TheVariants.{Refused}
 use Rattle.zk_top.specs.Outcome.{judged}
 use Rattle.zk_top.proofs.OverCapture.{refused}
-use Rattle.zk_top.proofs.opening.judge_capture.Goals as goal
+use Rattle.zk_top.proofs.capture.judge_capture.Goals as goal
 
 pub returns-in-Err : goal.returns-in-Err
 returns-in-Err c =

@@ -2,17 +2,14 @@ ghost use Rattle.std.specs.Prelude.{◌≡◌, [], ◌∷◌, IfOk, IfErr};
 ghost use Rattle.zk_pcap.specs.NetworkTime.{later};
 ghost use Rattle.zk_pcap.specs.Capture.{capture_of};
 ghost use Rattle.zk_top.specs.Outcome.{opened, judged, end_of_capture};
-ghost use Rattle.zk_top.specs.Run.{DoesPart, Finds};
+ghost use Rattle.zk_top.specs.Parts.{DoesPart, Finds};
 
 use crate::found::Found;
 use crate::reading::read_input;
 use crate::stop::Stop;
 use std::alloc::Global;
 use zk_base::{Bytes, Ending, Mem, Moment, Shelf};
-use zk_pcap::{Capture, CaptureEnding, CaptureFault, packets};
-
-/// So many bytes of a capture count.
-const CAPTURE_MAX: usize = 1 << 40;
+use zk_pcap::{CAPTURE_MAX, Capture, CaptureEnding, CaptureFault, packets};
 
 /// The capture in a file, or how a run ends where there is none.
 pub fn read_capture<S: Shelf>(

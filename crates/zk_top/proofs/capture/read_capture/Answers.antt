@@ -4,10 +4,10 @@ use Rattle.zk_pcap.specs.Capture.{capture_of}
 use Rattle.zk_base.specs.declared.endings.Ending.TheVariants.{NoInput}
 use Rattle.zk_top.specs.declared.found.Found.TheVariants.{Refused}
 use Rattle.zk_top.specs.Outcome.{judged, opened}
-use Rattle.zk_top.specs.Run.{IsReadOf, Finds}
+use Rattle.zk_top.specs.Parts.{IsReadOf, Finds}
 use Rattle.zk_top.proofs.Doing.{out_of_memory}
 use Rattle.zk_top.proofs.OverCapture.{found_capture, found_no_capture}
-use Rattle.zk_top.proofs.opening.read_capture.Goals as goal
+use Rattle.zk_top.proofs.capture.read_capture.Goals as goal
 
 pub returns-in_err-name-clause-stopped : goal.returns-in_err-name-clause-stopped
 returns-in_err-name-clause-stopped g c =

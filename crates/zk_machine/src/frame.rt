@@ -92,8 +92,8 @@ impl Frame<'_> {
     }
 
     /// Does prints one after another, up to the first that is stopped, and answers how the body ends.
-    pub fn run(&mut self, lines: &mut VecDeque<Bytes>, prints: &[Print]) -> Result<BodyEnd, Mem>
-        ensures { IfOk result (Ends (executed_all self.old lines.old.items prints.now) (world_of self.old lines.new.items)) }
+    pub fn run(mut self, lines: &mut VecDeque<Bytes>, prints: &[Print]) -> Result<BodyEnd, Mem>
+        ensures { IfOk result (Ends (executed_all self.entry lines.old.items prints.now) (world_of self.entry lines.new.items)) }
     {
         for print in prints {
             if let Err(halt) = self.do_print(lines, print) {

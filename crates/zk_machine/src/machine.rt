@@ -77,7 +77,7 @@ impl Machine {
             return Err(Mem);
         }
         let prints = prints_of(&self.code, handler);
-        let mut frame = Frame {
+        let frame = Frame {
             alloc: self.alloc,
             time: self.time,
             args,

@@ -31,7 +31,7 @@ use Rattle.zk_typed.specs.Exec.{Stop, called, named, before, and_then, evaluate,
 use Rattle.zk_typed.specs.declared.program.Program.{Program}
 use Rattle.zk_typed.specs.World.{World, queued}
 use Rattle.zk_parse.specs.Reading.{tree_of}
-use Rattle.zk_parse.proofs.TreeLaws.{tree_taken}
+use Rattle.zk_parse.proofs.TreeLaws.{tree_of-tree}
 use Rattle.zk_top.specs.Bodies.{parameter_count, HasItsArguments, EndsNormally}
 use Rattle.zk_top.specs.Item.{What, Seen}
 use Rattle.zk_top.specs.Printed.{budget, event_of}
@@ -269,7 +269,7 @@ program_by-ok tokens (Err number) program is = absurd cc
 
 tree_ends : (text : List ℕ) (tree : Tree) → length text ≤ script_max → tree_of (tokens_of text) ≡ Ok tree → All EndsNormally (program_of tree).handlers
 tree_ends text tree short is =
-    let reads = tree_taken (tokens_of text) tree is in
+    let reads = (tree_of-tree (tokens_of text) tree).0 is in
     let long = AreSpelled-length (spelled_tree tree) (tokens_of text) reads.spelled in
     all_end tree.decls reads.forms (omega (arith, tokens_of-length text))
 

@@ -7,8 +7,8 @@ ghost use Rattle.zk_base.specs.MemShelf.{state_of, mem_outside};
 use crate::{Bytes, Got, Mem, MemShelf, Shelf, Started, Wrote};
 use std::alloc::Global;
 
-/// A shelf in memory that tells everything and never fails: a `MemShelf` that no call is to fail
-/// of. Its counts of faults are 0, and its calls are numbered as those of `MemShelf` are.
+/// A shelf in memory that tells everything and never fails: a `MemShelf` that is told to fail at no
+/// call. Its counts of faults are 0, and its calls are numbered as those of `MemShelf` are.
 #[derive(Debug, Drop)]
 pub struct SureShelf {
     shelf: MemShelf,

@@ -3,6 +3,8 @@ use Rattle.std.specs.Prelude.{ℕ, List, map, drop, string_bytes}
 use Rattle.std.specs.declared.io.ErrorKind.{ErrorKind}
 use Rattle.std.specs.declared.io.ErrorKind.TheVariants.{OutOfMemory}
 use Rattle.std.specs.declared.string.String.{String}
+use Rattle.zk_base.specs.Ending as ending
+use Rattle.zk_base.specs.declared.endings.Ending.TheVariants as Ending
 use Rattle.zeekoff.specs.declared.arguments.ArgumentFault.{ArgumentFault}
 use Rattle.zeekoff.specs.declared.arguments.ArgumentFault.TheVariants.{NoMemory, NotText}
 
@@ -11,7 +13,7 @@ fault_of OutOfMemory = NoMemory
 fault_of _ = NotText
 
 abbrev pub exit_status : ArgumentFault → ℕ
-exit_status NoMemory = 7
+exit_status NoMemory = ending.exit_status Ending.NoMemory
 exit_status NotText = 10
 
 -- the first argument is the program's own name

@@ -5,7 +5,7 @@ ghost use Rattle.zeekoff.specs.Arguments.{exit_status, words_behind_name};
 use std::alloc::{AllocError, Global};
 use std::env::{Args, Env};
 use std::{env, io};
-use zk_base::{Bytes, Word};
+use zk_base::{Bytes, Ending, Word};
 
 /// Why the words of the command line can't be had. Nothing is said of it but the exit status.
 #[derive(Clone, Copy, Debug, PartialEq, Eq)]
@@ -22,7 +22,7 @@ impl ArgumentFault {
         ensures { result ≡ exit_status self }
     {
         match self {
-            ArgumentFault::NoMemory => 7,
+            ArgumentFault::NoMemory => Ending::NoMemory.status(),
             ArgumentFault::NotText => 10,
         }
     }

@@ -1,4 +1,4 @@
-ghost use Rattle.std.specs.Prelude.{◌≡◌, ◌≢◌, ◌↔◌, ◌<◌, length, take, is_some, IsTrue, IfOk, IfErr, OnErr, IsOk, MatchResult, false};
+ghost use Rattle.std.specs.Prelude.{◌≡◌, ◌≢◌, ◌↔◌, ◌<◌, length, take, is_some, IsTrue, IfOk, IfErr, OnErr, IsErrAnd, IsOk, MatchResult, false};
 ghost use Rattle.std.specs.IoError.{error_kind};
 ghost use Rattle.std.specs.Str.{IsUtf8};
 ghost use Rattle.std.specs.Io.{ReadsAtMost};
@@ -10,8 +10,9 @@ use std::io::{ErrorKind, Read, Write};
 use std::{io, str};
 use zk_base::{Counts, Got, Shelf, Started, Wrote};
 
-/// The outside as it is: inputs are files by path, outputs are files in the working folder, and
-/// what is said and complained goes to two writers, as standard output and standard error.
+/// The outside as it is: inputs and outputs are files by path, below the working folder unless the
+/// path says otherwise, and what is said and complained goes to two writers, as standard output and
+/// standard error.
 ///
 /// A file that doesn't exist is absent. Every other error is a fault, and so is a name that isn't
 /// UTF-8. It tells nothing of what files hold.
@@ -44,12 +45,15 @@ impl<F: Files, O: Write, E: Write> DirShelf<F, O, E> {
 
 impl<F: Files, O: Write, E: Write> Shelf for DirShelf<F, O, E> {
     ghost use Rattle.std.specs.Io.KnownBytes.{Appends};
-    ghost use Rattle.zk_base.specs.Shelf.{is_open, Reads, Puts, after_say, after_complaint};
+    ghost use Rattle.zk_base.specs.Shelf.{Starts, is_open, Reads, Puts, after_say, after_complaint};
     ghost use Rattle.zeekoff.specs.DirShelf.{untold, Takes};
 
     ghost outside = { λ shelf. untold (is_some shelf.input) shelf.counts };
 
-    fn start(&mut self, name: &[u8]) -> Started {
+    fn start(&mut self, name: &[u8]) -> Started
+        ensures leaves { Starts (untold (is_some self.old.input) self.old.counts) name.now result (untold (is_some self.new.input) self.new.counts) }
+        ensures no_text { ¬ (IsUtf8 name.now) → result ≡ Started.Failed }
+    {
         self.input = None;
         match open(&self.files, name) {
             Ok(file) => {
@@ -139,7 +143,9 @@ fn path(name: &[u8]) -> io::Result<&str>
     }
 }
 
-fn open<F: Files>(files: &F, name: &[u8]) -> io::Result<F::File> {
+fn open<F: Files>(files: &F, name: &[u8]) -> io::Result<F::File>
+    ensures { ¬ (IsUtf8 name.now) → IsErrAnd result (λ error. error_kind error ≡ ErrorKind.InvalidInput) }
+{
     File::open(files, path(name)?)
 }
 

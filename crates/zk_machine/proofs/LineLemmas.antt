@@ -18,9 +18,11 @@ separator number = if number == 0 then [] else codes ", "
 -- a text behind others
 commas_more : (first : List ℕ) (others : List (List ℕ)) (text : List ℕ)
     → with_commas ((first ∷ others) ++ text ∷ []) ≡ with_commas (first ∷ others) ++ (codes ", " ++ text)
-commas_more first [] text = append_assoc first (codes ", ") text
+commas_more first [] text = refl
 commas_more first (second ∷ others) text =
-    ap (λ xs. (first ++ codes ", ") ++ xs) (commas_more second others text) ∙ sym (append_assoc (first ++ codes ", ") (with_commas (second ∷ others)) (codes ", " ++ text))
+    ap (λ xs. first ++ (codes ", " ++ xs)) (commas_more second others text)
+    ∙ ap (λ xs. first ++ xs) (sym (append_assoc (codes ", ") (with_commas (second ∷ others)) (codes ", " ++ text)))
+    ∙ sym (append_assoc first (codes ", " ++ with_commas (second ∷ others)) (codes ", " ++ text))
 
 -- a value behind the first has a separator
 not_first : (n : ℕ) → (suc n == 0) ≡ false

@@ -17,6 +17,7 @@ use Rattle.zk_tree.specs.declared.tree.Stmt.TheVariants as stmt
 use Rattle.zk_tree.specs.declared.tree.Expr.{Expr}
 use Rattle.zk_tree.specs.declared.tree.Expr.TheVariants as expr
 use Rattle.zk_tree.specs.Forms.{type_name}
+use Rattle.zk_tree.specs.Lists.{joined_by}
 
 -- A token as a tree spells it: what it is, and its place where a node of the tree begins with it.
 pub record Spelled : Type 0 where
@@ -35,9 +36,7 @@ word name = token.Name name
 
 -- lists with a comma between each and the next
 abbrev pub with_commas : List (List Spelled) → List Spelled
-with_commas [] = []
-with_commas (first ∷ []) = first
-with_commas (first ∷ second ∷ others) = first ++ follows (token.Sign sign.Comma) ∷ with_commas (second ∷ others)
+with_commas lists = joined_by (follows (token.Sign sign.Comma) ∷ []) lists
 
 abbrev pub spelled_expr : Expr → List Spelled
 spelled_expr (expr.Number place number) = begins place (token.Number number) ∷ []

@@ -1,5 +1,6 @@
 pub mod Forms
 pub mod Grammar
+pub mod Lists
 pub mod Reading
 pub mod Value
 pub mod Store

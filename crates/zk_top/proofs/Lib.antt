@@ -10,7 +10,11 @@ mod Packets
 mod PlayingLemmas
 mod Rows
 mod Said
+mod SeparatorLaws
 mod SoFar
+mod StringLaws
+mod TokenFormLaws
+mod TokenLaws
 mod TokenRows
 mod TokensLemmas
 mod WholeRun

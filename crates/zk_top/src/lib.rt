@@ -20,6 +20,7 @@ mod typing;
 
 pub use command::command_line;
 pub use entry::run;
+pub use splitter::script_tokens;
 
 #[cfg(test)]
 mod tests;

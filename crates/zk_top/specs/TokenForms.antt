@@ -1,0 +1,131 @@
+-- What the tokens of a script are (Zeek manual, Script Reference): separators and tokens take turns in a
+-- text, each the longest that fits at its place.
+use Rattle.std.specs.Prelude.{◌≡◌, ◌≢◌, ℕ, ◌+◌, ◌*◌, ◌<◌, ◌≤◌, ◌^◌, ◌==◌, List, [], ◌∷◌, ◌++◌, length, map, Some, IsTrue}
+use Rattle.std.specs.List.{All, AllPass, flat_map}
+use Rattle.std.specs.Char.{is_ascii_digit, is_digit, digit_value}
+use Rattle.std.specs.Map.{lookup}
+use Rattle.std.specs.Str.Parse.{digits_value}
+use Rattle.zk_tree.specs.declared.token.Token.{Token}
+use Rattle.zk_tree.specs.declared.token.TokenKind.{TokenKind}
+use Rattle.zk_tree.specs.declared.token.TokenKind.TheVariants as token
+use Rattle.zk_top.specs.Tokens.{begins_name, goes_on_name, escapes, signs}
+
+-- Separators ------------------------------------------------------------------------------------------------------
+
+-- what stands between tokens
+pub data Separator : Type 0 where
+  Blank : Separator
+  Tab : Separator
+  LineFeed : Separator
+  CarriageReturnLineFeed : Separator
+  Comment : (text : List ℕ) → Separator
+
+-- its bytes: a blank (32), a tab (9), an LF (10), a CR (13) and an LF, or a `#` (35) and a text
+abbrev pub separator_bytes : Separator → List ℕ
+separator_bytes Blank = 32 ∷ []
+separator_bytes Tab = 9 ∷ []
+separator_bytes LineFeed = 10 ∷ []
+separator_bytes CarriageReturnLineFeed = 13 ∷ 10 ∷ []
+separator_bytes (Comment text) = 35 ∷ text
+
+-- no LF stands in a comment, which goes up to an LF or the end of the text, since the longest is taken
+abbrev pub IsSeparator : Separator → Type 0
+IsSeparator (Comment text) = All (λ byte. byte ≢ 10) text
+IsSeparator separator = Unit {0}
+
+-- the bytes are those of separators, one behind another
+abbrev pub AreSeparators : List ℕ → Type 0
+AreSeparators bytes = (separators : List Separator) × All IsSeparator separators × (bytes ≡ flat_map separator_bytes separators)
+
+-- The forms of tokens ---------------------------------------------------------------------------------------------
+
+-- how a byte is written in a string: by itself, by a letter behind a backslash, or by two hexadecimal digits
+pub data Written : Type 0 where
+  Plain : (byte : ℕ) → Written
+  Escape : (letter byte : ℕ) → Written
+  Hexadecimal : (high low : ℕ) → Written
+
+-- the bytes that are written, with a backslash (92), and an x (120) before hexadecimal digits
+abbrev pub written_bytes : Written → List ℕ
+written_bytes (Plain byte) = byte ∷ []
+written_bytes (Escape letter byte) = 92 ∷ letter ∷ []
+written_bytes (Hexadecimal high low) = 92 ∷ 120 ∷ high ∷ low ∷ []
+
+-- the byte that they stand for
+abbrev pub byte_meant : Written → ℕ
+byte_meant (Plain byte) = byte
+byte_meant (Escape letter byte) = byte
+byte_meant (Hexadecimal high low) = 16 * digit_value high + digit_value low
+
+-- Every byte but an LF (10), a quote (34) and a backslash (92) stands for itself.
+abbrev pub IsWritten : Written → Type 0
+IsWritten (Plain byte) = (byte ≢ 10) × (byte ≢ 34) × (byte ≢ 92)
+IsWritten (Escape letter byte) = lookup (λ name. name == letter) escapes ≡ Some byte
+IsWritten (Hexadecimal high low) = IsTrue (is_digit high 16) × IsTrue (is_digit low 16)
+
+-- a string of these bytes: between two quotes (34) stands how each is written
+abbrev pub IsString : List ℕ → List ℕ → Type 0
+IsString bytes text =
+    (parts : List Written) × All IsWritten parts × (bytes ≡ map byte_meant parts)
+    × (text ≡ 34 ∷ (flat_map written_bytes parts ++ 34 ∷ []))
+
+-- a letter or `_`, and then letters, digits and `_`
+abbrev pub IsName : List ℕ → Type 0
+IsName [] = ⊥
+IsName (first ∷ others) = IsTrue (begins_name first) × AllPass goes_on_name others
+
+-- decimal digits, one at least
+abbrev pub AreDigits : List ℕ → Type 0
+AreDigits text = (text ≢ []) × AllPass is_ascii_digit text
+
+-- The text has the form of a token of this kind. Digits may have any value.
+abbrev pub HasForm : TokenKind → List ℕ → Type 0
+HasForm (token.Name name) text = IsName text × (name ≡ text)
+HasForm (token.Number value) text = AreDigits text × (value ≡ digits_value 10 text)
+HasForm (token.String bytes) text = IsString bytes text
+HasForm (token.Sign sign) text = (byte : ℕ) × (text ≡ byte ∷ []) × (lookup (λ code. code == byte) signs ≡ Some sign)
+HasForm token.Unread text = ⊥
+
+-- the text has the form of some token
+abbrev pub HasSomeForm : List ℕ → Type 0
+HasSomeForm text = (kind : TokenKind) × HasForm kind text
+
+-- a number is below 2^64
+abbrev pub IsInRange : TokenKind → Type 0
+IsInRange (token.Number value) = value < 2 ^ 64
+IsInRange kind = Unit {0}
+
+-- The tokens of a text --------------------------------------------------------------------------------------------
+
+-- A text is a part of some sort and a rest, and no longer part at its front is of that sort.
+pub record IsLongest (IsPart : List ℕ → Type 0) (text part rest : List ℕ) : Type 0 where
+  pub whole : text ≡ part ++ rest
+  pub sort : IsPart part
+  pub longest : (longer others : List ℕ) → text ≡ longer ++ others → IsPart longer → length longer ≤ length part
+
+-- A text is a token of this kind and a rest. The longest part that has a form decides.
+pub record IsToken (kind : TokenKind) (text part rest : List ℕ) : Type 0 where
+  pub longest : IsLongest HasSomeForm text part rest
+  pub form : HasForm kind part
+  pub range : IsInRange kind
+
+-- no token stands at the front of a text
+abbrev pub BeginsNoToken : List ℕ → Type 0
+BeginsNoToken text = (kind : TokenKind) (part rest : List ℕ) → IsToken kind text part rest → ⊥
+
+-- The tokens of a text that stands from a place on.
+pub data AreTokensFrom : ℕ → List ℕ → List Token → Type 0 where
+  -- only separators are left
+  ended : {place : ℕ} {text : List ℕ} → AreSeparators text → AreTokensFrom place text []
+  -- behind the separators something is left that begins no token
+  stopped : {place : ℕ} {text between rest : List ℕ} → IsLongest AreSeparators text between rest → rest ≢ []
+      → BeginsNoToken rest → AreTokensFrom place text (record { kind = token.Unread; place = place + length between } ∷ [])
+  -- behind the separators stands a token, and behind it stand the others
+  more : {place : ℕ} {text between rest part others : List ℕ} {kind : TokenKind} {tokens : List Token}
+      → IsLongest AreSeparators text between rest → IsToken kind rest part others
+      → AreTokensFrom (place + length between + length part) others tokens
+      → AreTokensFrom place text (record { kind = kind; place = place + length between } ∷ tokens)
+
+-- the tokens of a whole text
+abbrev pub AreTokensOf : List ℕ → List Token → Type 0
+AreTokensOf text tokens = AreTokensFrom 0 text tokens

@@ -6,11 +6,20 @@ use Rattle.std.proofs.lemmas.List.Elements.{All-nil, All-cons, All-head, All-tai
 use Rattle.zk_top.specs.Tokens.{comment_after, separates, separators_after, separators}
 use Rattle.zk_top.specs.TokenForms.{Separator, Blank, Tab, LineFeed, CarriageReturnLineFeed, Comment, separator_bytes, IsSeparator, AreSeparators}
 
+-- Tests -----------------------------------------------------------------------------------------------------------
+
+pub both : (a b : Bool) → (a && b) ≡ true → (a ≡ true) × (b ≡ true)
+both true b h = (refl, h)
+both false b h = absurd (let never : ⊥ = cc in never)
+
+pub differs : (a b : ℕ) → (a == b) ≡ false → a ≢ b
+differs a b other same = let is = eq-eqb a b same in let never : ⊥ = cc in never
+
+-- The longest -----------------------------------------------------------------------------------------------------
+
 -- a byte that a comment may hold
 InComment : ℕ → Type 0
 InComment byte = byte ≢ 10
-
--- The longest -----------------------------------------------------------------------------------------------------
 
 -- in an open comment no fewer bytes are passed over
 grow_step : (newline hash separating : Bool) (count : Bool → ℕ) → count false ≤ count true
@@ -120,8 +129,8 @@ carriage_return [] feed are = absurd (let never : ⊥ = cc in never)
 carriage_return (byte ∷ rest) feed are =
     let P : ℕ → Type 0 = λ b. AreSeparators (take (separators_after false (b ∷ rest)) (b ∷ rest)) → AreSeparators (13 ∷ take (separators_after false (b ∷ rest)) (b ∷ rest)) in
     let at_feed : P 10 = λ (found, all, same).
-      subst (λ bytes. AreSeparators (13 ∷ bytes)) (sym (one_passed 10 (separators_after false rest) rest))
-      (line_end_widened (passed_over false rest) found all (sym (one_passed 10 (separators_after false rest) rest) ∙ same)) in
+    subst (λ bytes. AreSeparators (13 ∷ bytes)) (sym (one_passed 10 (separators_after false rest) rest))
+    (line_end_widened (passed_over false rest) found all (sym (one_passed 10 (separators_after false rest) rest) ∙ same)) in
     subst P (sym feed) at_feed are
 
 one_of_four : (a b c d : Bool) → (a || b || c || d) ≡ true → (a ≡ true) ⊎ ((b ≡ true) ⊎ ((c ≡ true) ⊎ (d ≡ true)))
@@ -129,10 +138,6 @@ one_of_four true b c d h = inl refl
 one_of_four false true c d h = inr (inl refl)
 one_of_four false false true d h = inr (inr (inl refl))
 one_of_four false false false d h = inr (inr (inr h))
-
-both : (a b : Bool) → (a && b) ≡ true → (a ≡ true) × (b ≡ true)
-both true b h = (refl, h)
-both false b h = absurd (let never : ⊥ = cc in never)
 
 -- a byte that separates, in front of separators
 separated : (byte : ℕ) (rest : List ℕ) → separates byte rest ≡ true → AreSeparators (passed_over false rest) → AreSeparators (byte ∷ passed_over false rest)
@@ -172,8 +177,7 @@ step_inside byte rest end are =
           let P : Bool → Type 0 = λ s. IsCommentEnd (take (cond s (1 + separators_after false rest) 0) (byte ∷ rest)) in
           subst P (sym one) (rw (one_passed byte (separators_after false rest) rest) (comment_ends (byte ∷ passed_over false rest) (separated byte rest one are)))
       | false ↦ λ other.
-          let differs : byte ≢ 10 = λ same. let is = eq-eqb byte 10 same in let never : ⊥ = cc in never in
-          rw (one_passed byte (separators_after true rest) rest) (comment_goes_on byte (passed_over true rest) differs end)
+          rw (one_passed byte (separators_after true rest) rest) (comment_goes_on byte (passed_over true rest) (differs byte 10 other) end)
     ] refl
 
 -- what is passed over inside or outside of a comment

@@ -1,4 +1,4 @@
--- The reader of strings finds what is written between two quotes, and nothing else.
+-- The reader of strings finds the bytes that are spelled between two quotes, and no others.
 use Rattle.std.proofs.Common.{◌≡◌, ◌≢◌, ℕ, zero, suc, ◌+◌, ◌*◌, ◌<◌, ◌≤◌, Bool, true, false, ◌&&◌, ◌||◌, ◌==◌, ◌⊎◌, inl, inr, cond, if◌then◌else◌, List, [], ◌∷◌, ◌++◌, length, map, drop, slice_index, get_or, Option, Some, None, IsTrue, refl, sym, ap, subst, ◌∙◌, arith, zero-add, length-append, length-drop, append_assoc, drop-cons}
 use Rattle.std.specs.List.{All, flat_map}
 use Rattle.std.specs.Char.{is_digit, digit_value}
@@ -11,7 +11,8 @@ use Rattle.std.proofs.Math.Seq.{drop-append_seam, get_or-append_seam}
 use Rattle.zk_tree.specs.declared.token.TokenKind.{TokenKind}
 use Rattle.zk_tree.specs.declared.token.TokenKind.TheVariants as token
 use Rattle.zk_top.specs.Tokens.{in_front, items_from, found_at, escapes, hexadecimal_at, escape_at, spelled_at, string_at, StandBetween}
-use Rattle.zk_top.specs.TokenForms.{Written, Plain, Escape, Hexadecimal, written_bytes, byte_meant, IsWritten, IsString}
+use Rattle.zk_top.specs.TokenForms.{SpelledByte, Plain, Escape, Hexadecimal, spelling_of, byte_of, IsSpelledByte, IsString}
+use Rattle.zk_top.proofs.SeparatorLaws.{both, differs}
 use Rattle.zk_top.proofs.TokensLemmas.{string_closed}
 
 -- Items that are read one behind another --------------------------------------------------------------------------
@@ -22,41 +23,37 @@ items_from-stands zero read from = refl
 items_from-stands {X} (suc n) read from =
     elim (read from) as (λ (o : Option (X × ℕ)). read from ≡ o
     → StandBetween read from (option_map_or (λ item. in_front item.0 (items_from n read item.1)) o ([], from)).0
-      (option_map_or (λ item. in_front item.0 (items_from n read item.1)) o ([], from)).1) [
+    (option_map_or (λ item. in_front item.0 (items_from n read item.1)) o ([], from)).1) [
       | None ↦ λ none. refl
       | Some item ↦ λ here. (item.1, here, items_from-stands n read item.1)
     ] refl
 
 -- One byte --------------------------------------------------------------------------------------------------------
 
--- a byte is written at the front of a text
-record IsFirstWritten (text : List ℕ) (byte len : ℕ) : Type 0 where
-  part : Written
+-- a byte is spelled at the front of a text
+record IsSpelledFirst (text : List ℕ) (byte len : ℕ) : Type 0 where
+  part : SpelledByte
   rest : List ℕ
-  written : IsWritten part
-  meant : byte ≡ byte_meant part
-  size : len ≡ length (written_bytes part)
-  whole : text ≡ written_bytes part ++ rest
+  is : IsSpelledByte part
+  value : byte ≡ byte_of part
+  size : len ≡ length (spelling_of part)
+  whole : text ≡ spelling_of part ++ rest
 
 -- two pairs that are the same
 pub pair_parts : {X : Type 0} (a b : X × ℕ) → Some a ≡ Some b → (a.0 ≡ b.0) × (a.1 ≡ b.1)
 pair_parts a b same = let is : a ≡ b = cc in (ap (λ p. p.0) is, ap (λ p. p.1) is)
 
-both : (a b : Bool) → (a && b) ≡ true → (a ≡ true) × (b ≡ true)
-both true b h = (refl, h)
-both false b h = absurd (let never : ⊥ = cc in never)
-
-hexadecimal_found : (text : List ℕ) (byte len : ℕ) → hexadecimal_at text ≡ Some (byte, len) → IsFirstWritten (92 ∷ 120 ∷ text) byte len
+hexadecimal_found : (text : List ℕ) (byte len : ℕ) → hexadecimal_at text ≡ Some (byte, len) → IsSpelledFirst (92 ∷ 120 ∷ text) byte len
 hexadecimal_found [] byte len found = absurd (let never : ⊥ = cc in never)
 hexadecimal_found (high ∷ []) byte len found = absurd (let never : ⊥ = cc in never)
 hexadecimal_found (high ∷ low ∷ rest) byte len found =
     elim (is_digit high 16 && is_digit low 16) as (λ b. (is_digit high 16 && is_digit low 16) ≡ b
-    → cond {A = Option (ℕ × ℕ)} b (Some (16 * digit_value high + digit_value low, 4)) None ≡ Some (byte, len) → IsFirstWritten (92 ∷ 120 ∷ high ∷ low ∷ rest) byte len) [
+    → cond {A = Option (ℕ × ℕ)} b (Some (16 * digit_value high + digit_value low, 4)) None ≡ Some (byte, len) → IsSpelledFirst (92 ∷ 120 ∷ high ∷ low ∷ rest) byte len) [
       | true ↦ λ digits is. record {
         part = Hexadecimal high low;
         rest = rest;
-        written = both (is_digit high 16) (is_digit low 16) digits;
-        meant = sym (pair_parts (16 * digit_value high + digit_value low, 4) (byte, len) is).0;
+        is = both (is_digit high 16) (is_digit low 16) digits;
+        value = sym (pair_parts (16 * digit_value high + digit_value low, 4) (byte, len) is).0;
         size = sym (pair_parts (16 * digit_value high + digit_value low, 4) (byte, len) is).1;
         whole = refl;
       }
@@ -68,69 +65,66 @@ escape_of : ℕ → ℕ × ℕ
 escape_of value = (value, 2)
 
 letter_found : (letter : ℕ) (rest : List ℕ) (byte len : ℕ) → option_map escape_of (lookup (λ name. name == letter) escapes) ≡ Some (byte, len)
-    → IsFirstWritten (92 ∷ letter ∷ rest) byte len
+    → IsSpelledFirst (92 ∷ letter ∷ rest) byte len
 unfolding escape_of
 letter_found letter rest byte len found =
     elim (lookup (λ name. name == letter) escapes) as (λ (o : Option ℕ). lookup (λ name. name == letter) escapes ≡ o
-    → option_map escape_of o ≡ Some (byte, len) → IsFirstWritten (92 ∷ letter ∷ rest) byte len) [
+    → option_map escape_of o ≡ Some (byte, len) → IsSpelledFirst (92 ∷ letter ∷ rest) byte len) [
       | None ↦ λ none is. absurd (let never : ⊥ = cc in never)
       | Some value ↦ λ here is. record {
         part = Escape letter value;
         rest = rest;
-        written = here;
-        meant = sym (pair_parts (value, 2) (byte, len) is).0;
+        is = here;
+        value = sym (pair_parts (value, 2) (byte, len) is).0;
         size = sym (pair_parts (value, 2) (byte, len) is).1;
         whole = refl;
       }
     ] refl found
 
-escape_found : (text : List ℕ) (byte len : ℕ) → escape_at text ≡ Some (byte, len) → IsFirstWritten (92 ∷ text) byte len
+escape_found : (text : List ℕ) (byte len : ℕ) → escape_at text ≡ Some (byte, len) → IsSpelledFirst (92 ∷ text) byte len
 unfolding escape_of
 escape_found [] byte len found = absurd (let never : ⊥ = cc in never)
 escape_found (letter ∷ rest) byte len found =
     elim (letter == 120) as (λ b. (letter == 120) ≡ b
     → cond b (hexadecimal_at rest) (option_map escape_of (lookup (λ name. name == letter) escapes)) ≡ Some (byte, len)
-    → IsFirstWritten (92 ∷ letter ∷ rest) byte len) [
-      | true ↦ λ x is. subst (λ l. IsFirstWritten (92 ∷ l ∷ rest) byte len) (sym (eqb-true letter 120 x)) (hexadecimal_found rest byte len is)
+    → IsSpelledFirst (92 ∷ letter ∷ rest) byte len) [
+      | true ↦ λ x is. subst (λ l. IsSpelledFirst (92 ∷ l ∷ rest) byte len) (sym (eqb-true letter 120 x)) (hexadecimal_found rest byte len is)
       | false ↦ λ other is. letter_found letter rest byte len is
     ] refl found
-
-differs : (a b : ℕ) → (a == b) ≡ false → a ≢ b
-differs a b other same = let is = eq-eqb a b same in let never : ⊥ = cc in never
 
 neither : (a b : Bool) → (a || b) ≡ false → (a ≡ false) × (b ≡ false)
 neither true b h = absurd (let never : ⊥ = cc in never)
 neither false b h = (refl, h)
 
--- what the reader finds is written there
-written_found : (text : List ℕ) (byte len : ℕ) → spelled_at text ≡ Some (byte, len) → IsFirstWritten text byte len
-written_found [] byte len found = absurd (let never : ⊥ = cc in never)
-written_found (first ∷ rest) byte len found =
+-- the byte that the reader finds is spelled there
+spelled_found : (text : List ℕ) (byte len : ℕ) → spelled_at text ≡ Some (byte, len) → IsSpelledFirst text byte len
+spelled_found [] byte len found = absurd (let never : ⊥ = cc in never)
+spelled_found (first ∷ rest) byte len found =
     elim (first == 34 || first == 10) as (λ b. (first == 34 || first == 10) ≡ b
-    → cond b None (cond (first == 92) (escape_at rest) (Some (first, 1))) ≡ Some (byte, len) → IsFirstWritten (first ∷ rest) byte len) [
+    → cond b None (cond (first == 92) (escape_at rest) (Some (first, 1))) ≡ Some (byte, len) → IsSpelledFirst (first ∷ rest) byte len) [
       | true ↦ λ ends is. absurd (let never : ⊥ = cc in never)
       | false ↦ λ inside.
-          elim (first == 92) as (λ b. (first == 92) ≡ b → cond b (escape_at rest) (Some (first, 1)) ≡ Some (byte, len) → IsFirstWritten (first ∷ rest) byte len) [
-            | true ↦ λ backslash is. subst (λ f. IsFirstWritten (f ∷ rest) byte len) (sym (eqb-true first 92 backslash)) (escape_found rest byte len is)
+          elim (first == 92) as (λ b. (first == 92) ≡ b → cond b (escape_at rest) (Some (first, 1)) ≡ Some (byte, len) → IsSpelledFirst (first ∷ rest) byte len) [
+            | true ↦ λ backslash is. subst (λ f. IsSpelledFirst (f ∷ rest) byte len) (sym (eqb-true first 92 backslash)) (escape_found rest byte len is)
             | false ↦ λ plain is.
                 let parts = neither (first == 34) (first == 10) inside in
                 record {
                   part = Plain first;
                   rest = rest;
-                  written = (differs first 10 parts.1, differs first 34 parts.0, differs first 92 plain);
-                  meant = sym (pair_parts (first, 1) (byte, len) is).0;
+                  is = (differs first 10 parts.1, differs first 34 parts.0, differs first 92 plain);
+                  value = sym (pair_parts (first, 1) (byte, len) is).0;
                   size = sym (pair_parts (first, 1) (byte, len) is).1;
                   whole = refl;
                 }
           ] refl
     ] refl found
 
--- what is written there, the reader finds
-spelled_at-written : (part : Written) (rest : List ℕ) → IsWritten part → spelled_at (written_bytes part ++ rest) ≡ Some (byte_meant part, length (written_bytes part))
+-- a byte that is spelled there, the reader finds
+spelled_at-spelling_of : (part : SpelledByte) (rest : List ℕ) → IsSpelledByte part → spelled_at (spelling_of part ++ rest) ≡ Some (byte_of part, length (spelling_of part))
 unfolding escape_of
-spelled_at-written (Plain byte) rest is =
+spelled_at-spelling_of (Plain byte) rest is =
     rw (ne_eqb byte 34 is.1) (rw (ne_eqb byte 10 is.0) (rw (ne_eqb byte 92 is.2) refl))
-spelled_at-written (Escape letter byte) rest is =
+spelled_at-spelling_of (Escape letter byte) rest is =
     elim (letter == 120) as (λ b. (letter == 120) ≡ b
     → cond b (hexadecimal_at rest) (option_map escape_of (lookup (λ name. name == letter) escapes)) ≡ Some (byte, 2)) [
       | true ↦ λ x.
@@ -138,12 +132,13 @@ spelled_at-written (Escape letter byte) rest is =
           absurd (let never : ⊥ = cc in never)
       | false ↦ λ other. ap (option_map escape_of) is
     ] refl
-spelled_at-written (Hexadecimal high low) rest is = rw is.0 (rw is.1 refl)
+spelled_at-spelling_of (Hexadecimal high low) rest is = rw is.0 (rw is.1 refl)
 
 -- All bytes of a string -------------------------------------------------------------------------------------------
 
-written : List Written → List ℕ
-written parts = flat_map written_bytes parts
+-- the bytes that spell them
+spelling : List SpelledByte → List ℕ
+spelling parts = flat_map spelling_of parts
 
 past_front : (front rest text : List ℕ) (place : ℕ) → drop place text ≡ front ++ rest → drop (place + length front) text ≡ rest
 past_front front rest text place here = sym (drop-drop (length front) place text) ∙ ap (drop (length front)) here ∙ drop-append_seam front rest
@@ -153,27 +148,29 @@ found_at-here : {X : Type 0} (reader : List ℕ → Option (X × ℕ)) (text res
 found_at-here reader text rest place item len here found =
     ap (option_map (λ found. (found.0, place + found.1))) (ap reader here ∙ found)
 
--- what is written stands between two places
-stand-written : (parts : List Written) (text rest : List ℕ) (place : ℕ) → All IsWritten parts → drop place text ≡ written parts ++ rest
-    → StandBetween (found_at spelled_at text) place (map byte_meant parts) (place + length (written parts))
-unfolding written
-stand-written [] text rest place are here = omega arith
-stand-written (part ∷ parts) text rest place are here =
-    let next : ℕ = place + length (written_bytes part) in
-    let assoc : drop place text ≡ written_bytes part ++ (written parts ++ rest) = here ∙ append_assoc (written_bytes part) (written parts) rest in
-    let first = spelled_at-written part (written parts ++ rest) (All-head IsWritten part parts are) in
-    let others = stand-written parts text rest next (All-tail IsWritten part parts are) (past_front (written_bytes part) (written parts ++ rest) text place assoc) in
-    let end : next + length (written parts) ≡ place + length (written_bytes part ++ written parts) =
-      omega (arith, length-append (written_bytes part) (written parts)) in
-    (next, found_at-here spelled_at text (written_bytes part ++ (written parts ++ rest)) place (byte_meant part) (length (written_bytes part)) assoc first,
-     subst (λ to. StandBetween (found_at spelled_at text) next (map byte_meant parts) to) end others)
+-- bytes that are spelled stand between two places
+stand-spelling : (parts : List SpelledByte) (text rest : List ℕ) (place : ℕ) → All IsSpelledByte parts → drop place text ≡ spelling parts ++ rest
+    → StandBetween (found_at spelled_at text) place (map byte_of parts) (place + length (spelling parts))
+unfolding spelling
+stand-spelling [] text rest place are here = omega arith
+stand-spelling (part ∷ parts) text rest place are here =
+    let next : ℕ = place + length (spelling_of part) in
+    let assoc : drop place text ≡ spelling_of part ++ (spelling parts ++ rest) = here ∙ append_assoc (spelling_of part) (spelling parts) rest in
+    let first = spelled_at-spelling_of part (spelling parts ++ rest) (All-head IsSpelledByte part parts are) in
+    let others = stand-spelling parts text rest next (All-tail IsSpelledByte part parts are) (past_front (spelling_of part) (spelling parts ++ rest) text place assoc) in
+    let end : next + length (spelling parts) ≡ place + length (spelling_of part ++ spelling parts) =
+    omega (arith, length-append (spelling_of part) (spelling parts)) in (
+      next,
+      found_at-here spelled_at text (spelling_of part ++ (spelling parts ++ rest)) place (byte_of part) (length (spelling_of part)) assoc first,
+      subst (λ to. StandBetween (found_at spelled_at text) next (map byte_of parts) to) end others,
+    )
 
--- what stands between two places is written there
-record AreWritten (bytes text rest : List ℕ) : Type 0 where
-  parts : List Written
-  are : All IsWritten parts
-  meant : bytes ≡ map byte_meant parts
-  whole : text ≡ written parts ++ rest
+-- bytes that stand between two places are spelled there
+record AreSpelledBytes (bytes text rest : List ℕ) : Type 0 where
+  parts : List SpelledByte
+  are : All IsSpelledByte parts
+  value : bytes ≡ map byte_of parts
+  whole : text ≡ spelling parts ++ rest
 
 found_at-there : (text : List ℕ) (place byte next : ℕ) → found_at spelled_at text place ≡ Some (byte, next)
     → (len : ℕ) × (spelled_at (drop place text) ≡ Some (byte, len)) × (place + len ≡ next)
@@ -187,58 +184,58 @@ found_at-there text place byte next found =
           (item.1, here ∙ ap (λ b. Some (b, item.1)) parts.0, parts.1)
     ] refl found
 
-written-stand : (text : List ℕ) (from : ℕ) (bytes : List ℕ) (to : ℕ) → StandBetween (found_at spelled_at text) from bytes to
-    → AreWritten bytes (drop from text) (drop to text)
-unfolding written
-written-stand text from [] to stand = record { parts = []; are = All-nil IsWritten; meant = refl; whole = ap (λ place. drop place text) stand }
-written-stand text from (byte ∷ bytes) to stand =
+spelling-stand : (text : List ℕ) (from : ℕ) (bytes : List ℕ) (to : ℕ) → StandBetween (found_at spelled_at text) from bytes to
+    → AreSpelledBytes bytes (drop from text) (drop to text)
+unfolding spelling
+spelling-stand text from [] to stand = record { parts = []; are = All-nil IsSpelledByte; value = refl; whole = ap (λ place. drop place text) stand }
+spelling-stand text from (byte ∷ bytes) to stand =
     let found = found_at-there text from byte stand.0 stand.1 in
-    let first = written_found (drop from text) byte found.0 found.1 in
-    let others = written-stand text stand.0 bytes to stand.2 in
-    let next : stand.0 ≡ from + length (written_bytes first.part) = sym found.2 ∙ ap (λ n. from + n) first.size in
-    let rest : drop stand.0 text ≡ first.rest = ap (λ n. drop n text) next ∙ past_front (written_bytes first.part) first.rest text from first.whole in
+    let first = spelled_found (drop from text) byte found.0 found.1 in
+    let others = spelling-stand text stand.0 bytes to stand.2 in
+    let next : stand.0 ≡ from + length (spelling_of first.part) = sym found.2 ∙ ap (λ n. from + n) first.size in
+    let rest : drop stand.0 text ≡ first.rest = ap (λ n. drop n text) next ∙ past_front (spelling_of first.part) first.rest text from first.whole in
     record {
       parts = first.part ∷ others.parts;
-      are = All-cons IsWritten first.part others.parts first.written others.are;
-      meant = ap (λ b. b ∷ bytes) first.meant ∙ ap (λ bs. byte_meant first.part ∷ bs) others.meant;
-      whole = first.whole ∙ ap (λ r. written_bytes first.part ++ r) (sym rest ∙ others.whole)
-          ∙ sym (append_assoc (written_bytes first.part) (written others.parts) (drop to text));
+      are = All-cons IsSpelledByte first.part others.parts first.is others.are;
+      value = ap (λ b. b ∷ bytes) first.value ∙ ap (λ bs. byte_of first.part ∷ bs) others.value;
+      whole = first.whole ∙ ap (λ r. spelling_of first.part ++ r) (sym rest ∙ others.whole)
+          ∙ sym (append_assoc (spelling_of first.part) (spelling others.parts) (drop to text));
     }
 
 -- Whole strings ---------------------------------------------------------------------------------------------------
 
--- no more bytes are meant than written
-meant-fit : (parts : List Written) → length (map byte_meant parts) ≤ length (written parts)
-unfolding written
-meant-fit [] = omega arith
-meant-fit (Plain byte ∷ parts) = let others = meant-fit parts in omega (arith, others)
-meant-fit (Escape letter byte ∷ parts) = let others = meant-fit parts in omega (arith, others)
-meant-fit (Hexadecimal high low ∷ parts) = let others = meant-fit parts in omega (arith, others)
+-- no more bytes are spelled than spell them
+bytes-fit : (parts : List SpelledByte) → length (map byte_of parts) ≤ length (spelling parts)
+unfolding spelling
+bytes-fit [] = omega arith
+bytes-fit (Plain byte ∷ parts) = let others = bytes-fit parts in omega (arith, others)
+bytes-fit (Escape letter byte ∷ parts) = let others = bytes-fit parts in omega (arith, others)
+bytes-fit (Hexadecimal high low ∷ parts) = let others = bytes-fit parts in omega (arith, others)
 
 -- a string is read, whatever stands behind it
-pub string_at-written : (parts : List Written) (rest : List ℕ) → All IsWritten parts
-    → string_at (flat_map written_bytes parts ++ 34 ∷ rest) ≡ Some (token.String (map byte_meant parts), 2 + length (flat_map written_bytes parts))
-unfolding written
-string_at-written parts rest are =
-    let text : List ℕ = written parts ++ 34 ∷ rest in
-    let to : ℕ = length (written parts) in
-    let stand : StandBetween (found_at spelled_at text) 0 (map byte_meant parts) to =
-      subst (λ n. StandBetween (found_at spelled_at text) 0 (map byte_meant parts) n) (zero-add to) (stand-written parts text (34 ∷ rest) 0 are refl) in
-    let behind : drop to text ≡ 34 ∷ rest = drop-append_seam (written parts) (34 ∷ rest) in
+pub string_at-spelling : (parts : List SpelledByte) (rest : List ℕ) → All IsSpelledByte parts
+    → string_at (flat_map spelling_of parts ++ 34 ∷ rest) ≡ Some (token.String (map byte_of parts), 2 + length (flat_map spelling_of parts))
+unfolding spelling
+string_at-spelling parts rest are =
+    let text : List ℕ = spelling parts ++ 34 ∷ rest in
+    let to : ℕ = length (spelling parts) in
+    let stand : StandBetween (found_at spelled_at text) 0 (map byte_of parts) to =
+    subst (λ n. StandBetween (found_at spelled_at text) 0 (map byte_of parts) n) (zero-add to) (stand-spelling parts text (34 ∷ rest) 0 are refl) in
+    let behind : drop to text ≡ 34 ∷ rest = drop-append_seam (spelling parts) (34 ∷ rest) in
     let no_more : found_at spelled_at text to ≡ None =
-      ap (λ found. option_map {T = ℕ × ℕ} {U = ℕ × ℕ} (λ f. (f.0, to + f.1)) (spelled_at found)) behind in
-    let enough : length (map byte_meant parts) ≤ length text = omega (arith, meant-fit parts, length-append (written parts) (34 ∷ rest)) in
-    let quote : slice_index text to ≡ 34 = get_or-append_seam (written parts) 34 rest 0 in
-    sym (string_closed text (map byte_meant parts) to stand no_more enough quote)
+    ap (λ found. option_map {T = ℕ × ℕ} {U = ℕ × ℕ} (λ f. (f.0, to + f.1)) (spelled_at found)) behind in
+    let enough : length (map byte_of parts) ≤ length text = omega (arith, bytes-fit parts, length-append (spelling parts) (34 ∷ rest)) in
+    let quote : slice_index text to ≡ 34 = get_or-append_seam (spelling parts) 34 rest 0 in
+    sym (string_closed text (map byte_of parts) to stand no_more enough quote)
 
 -- what is read as a string is one
 pub record IsStringFound (text : List ℕ) (kind : TokenKind) (len : ℕ) : Type 0 where
-  pub parts : List Written
+  pub parts : List SpelledByte
   pub rest : List ℕ
-  pub are : All IsWritten parts
-  pub is : kind ≡ token.String (map byte_meant parts)
-  pub size : len ≡ 2 + length (flat_map written_bytes parts)
-  pub whole : text ≡ flat_map written_bytes parts ++ 34 ∷ rest
+  pub are : All IsSpelledByte parts
+  pub is : kind ≡ token.String (map byte_of parts)
+  pub size : len ≡ 2 + length (flat_map spelling_of parts)
+  pub whole : text ≡ flat_map spelling_of parts ++ 34 ∷ rest
 
 -- two pairs of a kind and a length
 pub kind_parts : (a b : TokenKind × ℕ) → Some a ≡ Some b → (a.0 ≡ b.0) × (a.1 ≡ b.1)
@@ -246,21 +243,21 @@ kind_parts a b same = pair_parts a b same
 
 string_closed_found : (text bytes : List ℕ) (to : ℕ) → StandBetween (found_at spelled_at text) 0 bytes to → slice_index text to ≡ 34
     → IsStringFound text (token.String bytes) (2 + to)
-unfolding written
+unfolding spelling
 string_closed_found text bytes to stand quote =
-    let there = written-stand text 0 bytes to stand in
+    let there = spelling-stand text 0 bytes to stand in
     let inside : to < length text =
-      elim (cases_lt to (length text)) [ inl below ↦ below | inr past ↦ omega (arith, get_or_past text to 0 past, quote) ] in
+    elim (cases_lt to (length text)) [ inl below ↦ below | inr past ↦ omega (arith, get_or_past text to 0 past, quote) ] in
     let behind : drop to text ≡ 34 ∷ drop (suc to) text = drop-cons text to 0 inside ∙ ap (λ b. b ∷ drop (suc to) text) quote in
-    let size : to ≡ length (written there.parts) =
-      omega (arith, ap length there.whole, length-append (written there.parts) (drop to text), length-drop to text, inside) in
+    let size : to ≡ length (spelling there.parts) =
+    omega (arith, ap length there.whole, length-append (spelling there.parts) (drop to text), length-drop to text, inside) in
     record {
       parts = there.parts;
       rest = drop (suc to) text;
       are = there.are;
-      is = ap token.String there.meant;
+      is = ap token.String there.value;
       size = ap (λ n. 2 + n) size;
-      whole = there.whole ∙ ap (λ r. written there.parts ++ r) behind;
+      whole = there.whole ∙ ap (λ r. spelling there.parts ++ r) behind;
     }
 
 pub string_found : (text : List ℕ) (kind : TokenKind) (len : ℕ) → string_at text ≡ Some (kind, len) → IsStringFound text kind len

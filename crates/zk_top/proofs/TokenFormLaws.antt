@@ -14,8 +14,9 @@ use Rattle.zk_tree.specs.declared.token.TokenKind.{TokenKind}
 use Rattle.zk_tree.specs.declared.token.TokenKind.TheVariants as token
 use Rattle.zk_tree.specs.declared.token.Sign.{Sign}
 use Rattle.zk_top.specs.Tokens.{begins_name, goes_on_name, name_at, number_at, string_at, signs, sign_at, token_at}
-use Rattle.zk_top.specs.TokenForms.{Written, written_bytes, byte_meant, IsWritten, IsString, IsName, AreDigits, HasForm, HasSomeForm, IsInRange, IsLongest, IsToken, BeginsNoToken}
-use Rattle.zk_top.proofs.StringLaws.{kind_parts, string_at-written, IsStringFound, string_found}
+use Rattle.zk_top.specs.TokenForms.{SpelledByte, spelling_of, byte_of, IsSpelledByte, quoted, IsString, IsName, AreDigits, HasForm, HasSomeForm, IsInRange, IsLongest, IsToken, BeginsNoToken}
+use Rattle.zk_top.proofs.SeparatorLaws.{both}
+use Rattle.zk_top.proofs.StringLaws.{kind_parts, string_at-spelling, IsStringFound, string_found}
 
 -- Elements from the front that pass a test ------------------------------------------------------------------------
 
@@ -112,10 +113,6 @@ token_at-by byte rest read by =
 
 -- First bytes -----------------------------------------------------------------------------------------------------
 
-both : (a b : Bool) → (a && b) ≡ true → (a ≡ true) × (b ≡ true)
-both true b h = (refl, h)
-both false b h = absurd (let never : ⊥ = cc in never)
-
 false_of : (b : Bool) → not b ≡ true → b ≡ false
 false_of true h = absurd (let never : ⊥ = cc in never)
 false_of false h = refl
@@ -190,20 +187,15 @@ digits_found byte rest kind len digit found =
       form = subst (λ k. HasForm k part) parts.0 ((some, take_while-passes is_ascii_digit (byte ∷ rest)), refl);
     }
 
-quoted : List Written → List ℕ
-quoted parts = 34 ∷ (flat_map written_bytes parts ++ 34 ∷ [])
-
-length-quoted : (parts : List Written) → length (quoted parts) ≡ 2 + length (flat_map written_bytes parts)
-unfolding quoted
-length-quoted parts = omega (arith, length-append (flat_map written_bytes parts) (34 ∷ []))
+length-quoted : (parts : List SpelledByte) → length (quoted parts) ≡ 2 + length (flat_map spelling_of parts)
+length-quoted parts = omega (arith, length-append (flat_map spelling_of parts) (34 ∷ []))
 
 text_found : (byte : ℕ) (rest : List ℕ) (kind : TokenKind) (len : ℕ) → (byte == 34) ≡ true → IsStringFound rest kind len
     → IsFormFound (byte ∷ rest) kind len
-unfolding quoted
 text_found byte rest kind len quote found =
-    let w : List ℕ = flat_map written_bytes found.parts in
+    let w : List ℕ = flat_map spelling_of found.parts in
     let whole : byte ∷ rest ≡ quoted found.parts ++ found.rest =
-      ap (λ b. b ∷ rest) (eqb-true byte 34 quote) ∙ ap (λ r. 34 ∷ r) (found.whole ∙ sym (append_assoc w (34 ∷ []) found.rest)) in
+    ap (λ b. b ∷ rest) (eqb-true byte 34 quote) ∙ ap (λ r. 34 ∷ r) (found.whole ∙ sym (append_assoc w (34 ∷ []) found.rest)) in
     record {
       part = quoted found.parts;
       rest = found.rest;
@@ -296,14 +288,13 @@ digits_at_least value (byte ∷ others) rest are same =
       same = λ long. ap token.Number (ap (digits_value 10) (pass_same is_ascii_digit part rest are.1 long) ∙ sym same);
     }
 
-string_at_least : (parts : List Written) (rest : List ℕ) → All IsWritten parts → IsReadAtLeast (token.String (map byte_meant parts)) (quoted parts) (quoted parts ++ rest)
-unfolding quoted
+string_at_least : (parts : List SpelledByte) (rest : List ℕ) → All IsSpelledByte parts → IsReadAtLeast (token.String (map byte_of parts)) (quoted parts) (quoted parts ++ rest)
 string_at_least parts rest are =
-    let w : List ℕ = flat_map written_bytes parts in
+    let w : List ℕ = flat_map spelling_of parts in
     record {
-      read = token.String (map byte_meant parts);
+      read = token.String (map byte_of parts);
       len = 2 + length w;
-      is = ap string_at (append_assoc w (34 ∷ []) rest) ∙ string_at-written parts rest are;
+      is = ap string_at (append_assoc w (34 ∷ []) rest) ∙ string_at-spelling parts rest are;
       size = omega (arith, length-quoted parts);
       same = λ long. refl;
     }
@@ -321,12 +312,11 @@ sign_at_least sign byte rest is =
     }
 
 read_at_least : (kind : TokenKind) (part rest : List ℕ) → HasForm kind part → IsReadAtLeast kind part (part ++ rest)
-unfolding quoted
 read_at_least (token.Name name) part rest (is, same) = name_at_least name part rest is same
 read_at_least (token.Number value) part rest (are, same) = digits_at_least value part rest are same
 read_at_least (token.String bytes) part rest (parts, are, meant, whole) =
     subst (λ k. IsReadAtLeast (token.String k) part (part ++ rest)) (sym meant)
-    (subst (λ p. IsReadAtLeast (token.String (map byte_meant parts)) p (p ++ rest)) (sym whole) (string_at_least parts rest are))
+    (subst (λ p. IsReadAtLeast (token.String (map byte_of parts)) p (p ++ rest)) (sym whole) (string_at_least parts rest are))
 read_at_least (token.Sign sign) part rest (byte, whole, is) =
     subst (λ p. IsReadAtLeast (token.Sign sign) p (p ++ rest)) (sym whole) (sign_at_least sign byte rest is)
 read_at_least token.Unread part rest is = absurd is
@@ -417,7 +407,7 @@ token_found text kind len found =
       is = record {
         longest = record {
           whole = there.whole;
-          sort = (kind, there.form);
+          fits = (kind, there.form);
           longest = λ longer others whole some. let most = form_at-longest text kind len form.0 longer others whole some in omega (arith, most, there.size);
         };
         form = there.form;

@@ -1,14 +1,16 @@
 -- The tokens that are read from a text are its tokens, and it has no others.
-use Rattle.std.proofs.Common.{◌≡◌, ◌≢◌, ◌↔◌, ℕ, zero, suc, ◌+◌, ◌-◌, ◌<◌, ◌≤◌, Bool, true, false, nat_lt, cond, List, [], ◌∷◌, ◌++◌, length, take, drop, Option, Some, None, refl, sym, ap, subst, ◌∙◌, arith, zero-add, length-append, length-drop}
+use Rattle.std.proofs.Common.{◌≡◌, ◌≢◌, ◌↔◌, ℕ, zero, suc, ◌+◌, ◌-◌, ◌<◌, ◌≤◌, Bool, true, false, nat_lt, ◌⊎◌, inl, inr, cond, List, [], ◌∷◌, ◌++◌, length, take, drop, Option, Some, None, refl, sym, ap, subst, ◌∙◌, arith, zero-add, length-append, length-drop}
+use Rattle.std.specs.List.{All}
 use Rattle.std.specs.Option.{option_map, option_map_or}
 use Rattle.std.proofs.lemmas.Bool.{ltb-true, ltb-false}
 use Rattle.std.proofs.lemmas.List.{append-nil, drop-drop, length-take-le, take-append-drop, take_all}
+use Rattle.std.proofs.lemmas.List.Elements.{All-nil, All-cons}
 use Rattle.std.proofs.Math.Seq.{drop-append_seam, take-append_seam}
 use Rattle.zk_tree.specs.declared.token.Token.{Token}
 use Rattle.zk_tree.specs.declared.token.TokenKind.{TokenKind}
 use Rattle.zk_tree.specs.declared.token.TokenKind.TheVariants as token
 use Rattle.zk_top.specs.Tokens.{in_front, items_from, found_at, token_at, separators, behind_separators, next_token, unread_at, tokens_of, StandBetween}
-use Rattle.zk_top.specs.TokenForms.{AreSeparators, HasForm, HasSomeForm, IsLongest, IsToken, BeginsNoToken, AreTokensFrom, ended, stopped, more, AreTokensOf}
+use Rattle.zk_top.specs.TokenForms.{AreSeparators, HasForm, HasSomeForm, IsLongest, IsToken, BeginsNoToken, AreTokensFrom, ended, unread, more, AreTokensOf, StandsInText}
 use Rattle.zk_top.proofs.SeparatorLaws.{longest_separators, separators_are, separators-fit}
 use Rattle.zk_top.proofs.StringLaws.{items_from-stands, pair_parts, kind_parts}
 use Rattle.zk_top.proofs.TokenFormLaws.{IsTokenFound, token_found, token_at-token}
@@ -23,12 +25,12 @@ same_front text one two rest others first second size =
       sym (drop-append_seam one rest) ∙ ap (λ n. drop n (one ++ rest)) size ∙ ap (drop (length two)) here ∙ drop-append_seam two others,
     )
 
--- the longest part of a sort is one
-same_longest : (IsPart : List ℕ → Type 0) (text one two : List ℕ) (rest others : List ℕ) → IsLongest IsPart text one rest → IsLongest IsPart text two others
+-- the longest part that fits is one
+same_longest : (Fits : List ℕ → Type 0) (text one two : List ℕ) (rest others : List ℕ) → IsLongest Fits text one rest → IsLongest Fits text two others
     → (one ≡ two) × (rest ≡ others)
-same_longest IsPart text one two rest others first second =
-    let more : length one ≤ length two = second.longest one rest first.whole first.sort in
-    let less : length two ≤ length one = first.longest two others second.whole second.sort in
+same_longest Fits text one two rest others first second =
+    let more : length one ≤ length two = second.longest one rest first.whole first.fits in
+    let less : length two ≤ length one = first.longest two others second.whole second.fits in
     same_front text one two rest others first.whole second.whole (omega arith)
 
 -- so is the token at a place
@@ -63,20 +65,20 @@ token_from place between kind = record { kind = kind; place = place + length bet
 
 only_tokens : {place : ℕ} {text : List ℕ} {one two : List Token} → AreTokensFrom place text one → AreTokensFrom place text two → one ≡ two
 only_tokens (ended are) (ended also) = refl
-only_tokens (ended {text = text} are) (stopped {between = between} {rest = rest} longest some none) = absurd (some (nothing_left text between rest are longest))
+only_tokens (ended {text = text} are) (unread {between = between} {rest = rest} longest left) = absurd (left.some (nothing_left text between rest are longest))
 only_tokens (ended {text = text} are) (more {between = between} {rest = rest} {part = part} {others = others} {kind = kind} longest is behind) =
     absurd (nothing_is_no_token kind rest part others (nothing_left text between rest are longest) is)
-only_tokens (stopped {between = between} {rest = rest} longest some none) (ended {text = text} are) = absurd (some (nothing_left text between rest are longest))
-only_tokens (stopped {place = place} {text = text} {between = between} {rest = rest} longest some none) (stopped {between = between'} {rest = rest'} longest' some' none') =
+only_tokens (unread {between = between} {rest = rest} longest left) (ended {text = text} are) = absurd (left.some (nothing_left text between rest are longest))
+only_tokens (unread {place = place} {text = text} {between = between} {rest = rest} longest left) (unread {between = between'} {rest = rest'} longest' left') =
     ap (λ b. token_from place b token.Unread ∷ []) (same_longest AreSeparators text between between' rest rest' longest longest').0
-only_tokens (stopped {text = text} {between = between} {rest = rest} longest some none) (more {between = between'} {rest = rest'} {part = part} {others = others} {kind = kind} longest' is behind) =
+only_tokens (unread {text = text} {between = between} {rest = rest} longest left) (more {between = between'} {rest = rest'} {part = part} {others = others} {kind = kind} longest' is behind) =
     let same = same_longest AreSeparators text between between' rest rest' longest longest' in
-    absurd (none kind part others (subst (λ r. IsToken kind r part others) (sym same.1) is))
+    absurd (left.none kind part others (subst (λ r. IsToken kind r part others) (sym same.1) is))
 only_tokens (more {between = between} {rest = rest} {part = part} {others = others} {kind = kind} longest is behind) (ended {text = text} are) =
     absurd (nothing_is_no_token kind rest part others (nothing_left text between rest are longest) is)
-only_tokens (more {between = between} {rest = rest} {part = part} {others = others} {kind = kind} longest is behind) (stopped {text = text} {between = between'} {rest = rest'} longest' some none) =
+only_tokens (more {between = between} {rest = rest} {part = part} {others = others} {kind = kind} longest is behind) (unread {text = text} {between = between'} {rest = rest'} longest' left) =
     let same = same_longest AreSeparators text between between' rest rest' longest longest' in
-    absurd (none kind part others (subst (λ r. IsToken kind r part others) same.1 is))
+    absurd (left.none kind part others (subst (λ r. IsToken kind r part others) same.1 is))
 only_tokens (more {place = place} {text = text} {between = between} {rest = rest} {part = part} {others = others} {kind = kind} {tokens = tokens} longest is behind)
     (more {between = between'} {rest = rest'} {part = part'} {others = others'} {kind = kind'} {tokens = tokens'} longest' is' behind') =
     let fronts = same_longest AreSeparators text between between' rest rest' longest longest' in
@@ -85,7 +87,7 @@ only_tokens (more {place = place} {text = text} {between = between} {rest = rest
     let next : place + length between' + length part' ≡ place + length between + length part = omega (arith, ap length fronts.0, ap length same.parts) in
     let further = only_tokens behind
     (subst (λ p. AreTokensFrom p others tokens') next
-      (subst (λ o. AreTokensFrom (place + length between' + length part') o tokens') (sym same.rests) behind')) in
+    (subst (λ o. AreTokensFrom (place + length between' + length part') o tokens') (sym same.rests) behind')) in
     ap (λ k. token_from place between k ∷ tokens) same.kinds ∙ ap (λ b. token_from place b kind' ∷ tokens) fronts.0
     ∙ ap (λ ts. token_from place between' kind' ∷ ts) further
 
@@ -95,17 +97,18 @@ only_tokens (more {place = place} {text = text} {between = between} {rest = rest
 separators_longest : (text : List ℕ) → IsLongest AreSeparators text (take (separators text) text) (drop (separators text) text)
 separators_longest text = record {
   whole = sym (take-append-drop (separators text) text);
-  sort = separators_are text;
+  fits = separators_are text;
   longest = λ longer others whole are.
-    let most : length longer ≤ separators text = subst (λ t. length longer ≤ separators t) (sym whole) (longest_separators longer others are) in
-    rw (length-take-le (separators text) text (separators-fit text)) most;
+      let most : length longer ≤ separators text = subst (λ t. length longer ≤ separators t) (sym whole) (longest_separators longer others are) in
+      rw (length-take-le (separators text) text (separators-fit text)) most;
 }
 
 -- where no token is read, none begins
-begins_none : (text : List ℕ) → token_at text ≡ None → BeginsNoToken text
-begins_none text none kind part rest is =
-    let read = token_at-token kind text part rest is in
-    let never : ⊥ = cc in never
+begins_none : (text : List ℕ) → text ≢ [] → token_at text ≡ None → BeginsNoToken text
+begins_none text some none = record {
+  some = some;
+  none = λ kind part rest is. let read = token_at-token kind text part rest is in let never : ⊥ = cc in never;
+}
 
 -- The last tokens -------------------------------------------------------------------------------------------------
 
@@ -118,7 +121,7 @@ none_at text place none =
     let start : ℕ = behind_separators text place in
     elim (token_at (drop start text)) as (λ (o : Option (TokenKind × ℕ)). token_at (drop start text) ≡ o
     → option_map {T = TokenKind × ℕ} {U = Token × ℕ} (λ found. (record { kind = found.0; place = start }, found.1))
-      (option_map {T = TokenKind × ℕ} {U = TokenKind × ℕ} (λ found. (found.0, start + found.1)) o) ≡ None
+    (option_map {T = TokenKind × ℕ} {U = TokenKind × ℕ} (λ found. (found.0, start + found.1)) o) ≡ None
     → token_at (drop start text) ≡ None) [
       | None ↦ λ here is. here
       | Some found ↦ λ here is. absurd (let never : ⊥ = cc in never)
@@ -134,8 +137,8 @@ last_tokens text to none =
       | true ↦ λ below.
           let inside : to + count < length text = ltb-true (to + count) (length text) below in
           let some : drop count rest ≢ [] = λ empty. omega (arith, ap length empty, length-drop count rest, length-drop to text, inside) in
-          let no_token : BeginsNoToken (drop count rest) = begins_none (drop count rest) (ap token_at (sym (behind_rest text to)) ∙ none_at text to none) in
-          subst (λ n. AreTokensFrom to rest (record { kind = token.Unread; place = to + n } ∷ [])) size (stopped (separators_longest rest) some no_token)
+          let no_token : BeginsNoToken (drop count rest) = begins_none (drop count rest) some (ap token_at (sym (behind_rest text to)) ∙ none_at text to none) in
+          subst (λ n. AreTokensFrom to rest (record { kind = token.Unread; place = to + n } ∷ [])) size (unread (separators_longest rest) no_token)
       | false ↦ λ past.
           let over : length text ≤ to + count = ltb-false (to + count) (length text) past in
           let all : take count rest ≡ rest = take_all count rest (omega (arith, length-drop to text, over)) in
@@ -157,7 +160,7 @@ next_read text place read next is =
     let start : ℕ = behind_separators text place in
     elim (token_at (drop start text)) as (λ (o : Option (TokenKind × ℕ)). token_at (drop start text) ≡ o
     → option_map {T = TokenKind × ℕ} {U = Token × ℕ} (λ found. (record { kind = found.0; place = start }, found.1))
-      (option_map {T = TokenKind × ℕ} {U = TokenKind × ℕ} (λ found. (found.0, start + found.1)) o) ≡ Some (read, next)
+    (option_map {T = TokenKind × ℕ} {U = TokenKind × ℕ} (λ found. (found.0, start + found.1)) o) ≡ Some (read, next)
     → IsNextToken text place read next) [
       | None ↦ λ here none. absurd (let never : ⊥ = cc in never)
       | Some found ↦ λ here same.
@@ -172,7 +175,7 @@ more_at : (text between rest part others : List ℕ) (place start next : ℕ) (k
 more_at text between rest part others place start next kind read tokens longest is at end same behind =
     let there : place + length between + length part ≡ next = ap (λ n. n + length part) at ∙ end in
     let front : AreTokensFrom place text (record { kind = kind; place = place + length between } ∷ tokens) =
-      more longest is (subst (λ n. AreTokensFrom n others tokens) (sym there) behind) in
+    more longest is (subst (λ n. AreTokensFrom n others tokens) (sym there) behind) in
     subst (λ t. AreTokensFrom place text (t ∷ tokens)) same
     (subst (λ n. AreTokensFrom place text (record { kind = kind; place = n } ∷ tokens)) at front)
 
@@ -188,8 +191,8 @@ tokens_from text from (read ∷ tokens) to stand none =
     let there = token_found (drop count rest) next.kind next.len (ap token_at (sym (behind_rest text from)) ∙ next.found) in
     let end : start + length there.part ≡ stand.0 = ap (λ n. start + n) (sym there.size) ∙ next.end in
     let others : drop stand.0 text ≡ there.rest =
-      ap (λ n. drop n text) (sym end) ∙ sym (drop-drop (length there.part) start text)
-          ∙ ap (drop (length there.part)) (behind_rest text from ∙ there.is.longest.whole) ∙ drop-append_seam there.part there.rest in
+    ap (λ n. drop n text) (sym end) ∙ sym (drop-drop (length there.part) start text)
+    ∙ ap (drop (length there.part)) (behind_rest text from ∙ there.is.longest.whole) ∙ drop-append_seam there.part there.rest in
     let size : from + length (take count rest) ≡ start = ap (λ n. from + n) (length-take-le count rest (separators-fit rest)) in
     let behind = tokens_from text stand.0 tokens to stand.2 none in
     more_at rest (take count rest) (drop count rest) there.part there.rest from start stand.0 next.kind read (tokens ++ unread_at text (behind_separators text to))
@@ -249,3 +252,40 @@ exact text tokens = (
   λ same. subst (AreTokensOf text) same (tokens_are text),
   λ are. only_tokens (tokens_are text) are,
 )
+
+-- Places ----------------------------------------------------------------------------------------------------------
+
+-- what stands behind a part that stands at a place
+past_part : (text front rest : List ℕ) (place : ℕ) → drop place text ≡ front ++ rest → drop (place + length front) text ≡ rest
+past_part text front rest place here = sym (drop-drop (length front) place text) ∙ ap (drop (length front)) here ∙ drop-append_seam front rest
+
+all_stand : (text : List ℕ) {place : ℕ} {from : List ℕ} {tokens : List Token} → drop place text ≡ from → AreTokensFrom place from tokens → All (StandsInText text) tokens
+all_stand text at (ended are) = All-nil (StandsInText text)
+all_stand text at (unread {place = place} {between = between} {rest = rest} longest left) =
+    let there : drop (place + length between) text ≡ rest = past_part text between rest place (at ∙ longest.whole) in
+    All-cons (StandsInText text) (token_from place between token.Unread) [] (inr (refl, subst BeginsNoToken (sym there) left)) (All-nil (StandsInText text))
+all_stand text at (more {place = place} {between = between} {rest = rest} {part = part} {others = others} {kind = kind} {tokens = tokens} longest is behind) =
+    let there : drop (place + length between) text ≡ rest = past_part text between rest place (at ∙ longest.whole) in
+    let next : drop (place + length between + length part) text ≡ others = past_part text part others (place + length between) (there ∙ is.longest.whole) in
+    let first : IsToken kind (drop (place + length between) text) part others = subst (λ r. IsToken kind r part others) (sym there) is in
+    All-cons (StandsInText text) (token_from place between kind) tokens (inl (part, others, first)) (all_stand text next behind)
+
+pub placed : (text : List ℕ) → All (StandsInText text) (tokens_of text)
+placed text = all_stand text refl (tokens_are text)
+
+last_unread : {place : ℕ} {text : List ℕ} {tokens : List Token} → AreTokensFrom place text tokens
+    → (before after : List Token) (listed : Token) → tokens ≡ before ++ listed ∷ after → listed.kind ≡ token.Unread → after ≡ []
+last_unread (ended are) [] after listed same is = absurd (let never : ⊥ = cc in never)
+last_unread (ended are) (t ∷ before) after listed same is = absurd (let never : ⊥ = cc in never)
+last_unread (unread longest left) [] after listed same is = cc
+last_unread (unread longest left) (t ∷ before) after listed same is = absurd (omega (arith, ap length same, length-append before (listed ∷ after)))
+last_unread (more {place = place} {between = between} {part = part} {kind = kind} longest first behind) [] after listed same is =
+    let here : token_from place between kind ≡ listed = cc in
+    let no_kind : kind ≡ token.Unread = ap (λ (t : Token). t.kind) here ∙ is in
+    absurd (subst (λ k. HasForm k part) no_kind first.form)
+last_unread (more {tokens = tokens} longest first behind) (t ∷ before) after listed same is =
+    let others : tokens ≡ before ++ listed ∷ after = cc in
+    last_unread behind before after listed others is
+
+pub last : (text : List ℕ) (before after : List Token) (listed : Token) → tokens_of text ≡ before ++ listed ∷ after → listed.kind ≡ token.Unread → after ≡ []
+last text before after listed same is = last_unread (tokens_are text) before after listed same is

@@ -1,6 +1,6 @@
--- What the tokens of a script are (Zeek manual, Script Reference): separators and tokens take turns in a
--- text, each the longest that fits at its place.
-use Rattle.std.specs.Prelude.{◌≡◌, ◌≢◌, ℕ, ◌+◌, ◌*◌, ◌<◌, ◌≤◌, ◌^◌, ◌==◌, List, [], ◌∷◌, ◌++◌, length, map, Some, IsTrue}
+-- What the tokens of a script are (Zeek manual, Script Reference): the forms of separators and of tokens, which
+-- take turns in a text, each the longest that fits at its place.
+use Rattle.std.specs.Prelude.{◌≡◌, ◌≢◌, ◌⊎◌, ℕ, ◌+◌, ◌*◌, ◌<◌, ◌≤◌, ◌^◌, ◌==◌, List, [], ◌∷◌, ◌++◌, length, drop, map, Some, IsTrue}
 use Rattle.std.specs.List.{All, AllPass, flat_map}
 use Rattle.std.specs.Char.{is_ascii_digit, is_digit, digit_value}
 use Rattle.std.specs.Map.{lookup}
@@ -28,46 +28,49 @@ separator_bytes LineFeed = 10 ∷ []
 separator_bytes CarriageReturnLineFeed = 13 ∷ 10 ∷ []
 separator_bytes (Comment text) = 35 ∷ text
 
--- no LF stands in a comment, which goes up to an LF or the end of the text, since the longest is taken
+-- No LF stands in a comment. It goes up to an LF or the end of the text, since the longest fits.
 abbrev pub IsSeparator : Separator → Type 0
 IsSeparator (Comment text) = All (λ byte. byte ≢ 10) text
 IsSeparator separator = Unit {0}
 
--- the bytes are those of separators, one behind another
+-- the bytes are separators, one behind another
 abbrev pub AreSeparators : List ℕ → Type 0
 AreSeparators bytes = (separators : List Separator) × All IsSeparator separators × (bytes ≡ flat_map separator_bytes separators)
 
 -- The forms of tokens ---------------------------------------------------------------------------------------------
 
--- how a byte is written in a string: by itself, by a letter behind a backslash, or by two hexadecimal digits
-pub data Written : Type 0 where
-  Plain : (byte : ℕ) → Written
-  Escape : (letter byte : ℕ) → Written
-  Hexadecimal : (high low : ℕ) → Written
+-- a byte of a string: one that stands for itself, a letter behind a backslash, or two hexadecimal digits
+pub data SpelledByte : Type 0 where
+  Plain : (byte : ℕ) → SpelledByte
+  Escape : (letter byte : ℕ) → SpelledByte
+  Hexadecimal : (high low : ℕ) → SpelledByte
 
--- the bytes that are written, with a backslash (92), and an x (120) before hexadecimal digits
-abbrev pub written_bytes : Written → List ℕ
-written_bytes (Plain byte) = byte ∷ []
-written_bytes (Escape letter byte) = 92 ∷ letter ∷ []
-written_bytes (Hexadecimal high low) = 92 ∷ 120 ∷ high ∷ low ∷ []
+-- the bytes that spell it: an escape begins with a backslash (92), hexadecimal digits stand behind an x (120)
+abbrev pub spelling_of : SpelledByte → List ℕ
+spelling_of (Plain byte) = byte ∷ []
+spelling_of (Escape letter byte) = 92 ∷ letter ∷ []
+spelling_of (Hexadecimal high low) = 92 ∷ 120 ∷ high ∷ low ∷ []
 
--- the byte that they stand for
-abbrev pub byte_meant : Written → ℕ
-byte_meant (Plain byte) = byte
-byte_meant (Escape letter byte) = byte
-byte_meant (Hexadecimal high low) = 16 * digit_value high + digit_value low
+-- the byte that they spell
+abbrev pub byte_of : SpelledByte → ℕ
+byte_of (Plain byte) = byte
+byte_of (Escape letter byte) = byte
+byte_of (Hexadecimal high low) = 16 * digit_value high + digit_value low
 
--- Every byte but an LF (10), a quote (34) and a backslash (92) stands for itself.
-abbrev pub IsWritten : Written → Type 0
-IsWritten (Plain byte) = (byte ≢ 10) × (byte ≢ 34) × (byte ≢ 92)
-IsWritten (Escape letter byte) = lookup (λ name. name == letter) escapes ≡ Some byte
-IsWritten (Hexadecimal high low) = IsTrue (is_digit high 16) × IsTrue (is_digit low 16)
+-- An LF (10), a quote (34) and a backslash (92) don't stand for themselves.
+abbrev pub IsSpelledByte : SpelledByte → Type 0
+IsSpelledByte (Plain byte) = (byte ≢ 10) × (byte ≢ 34) × (byte ≢ 92)
+IsSpelledByte (Escape letter byte) = lookup (λ name. name == letter) escapes ≡ Some byte
+IsSpelledByte (Hexadecimal high low) = IsTrue (is_digit high 16) × IsTrue (is_digit low 16)
 
--- a string of these bytes: between two quotes (34) stands how each is written
+-- the spelling of a string's bytes, between two quotes
+abbrev pub quoted : List SpelledByte → List ℕ
+quoted spelled = 34 ∷ (flat_map spelling_of spelled ++ 34 ∷ [])
+
+-- the text is a string of these bytes
 abbrev pub IsString : List ℕ → List ℕ → Type 0
 IsString bytes text =
-    (parts : List Written) × All IsWritten parts × (bytes ≡ map byte_meant parts)
-    × (text ≡ 34 ∷ (flat_map written_bytes parts ++ 34 ∷ []))
+    (spelled : List SpelledByte) × All IsSpelledByte spelled × (bytes ≡ map byte_of spelled) × (text ≡ quoted spelled)
 
 -- a letter or `_`, and then letters, digits and `_`
 abbrev pub IsName : List ℕ → Type 0
@@ -78,7 +81,7 @@ IsName (first ∷ others) = IsTrue (begins_name first) × AllPass goes_on_name o
 abbrev pub AreDigits : List ℕ → Type 0
 AreDigits text = (text ≢ []) × AllPass is_ascii_digit text
 
--- The text has the form of a token of this kind. Digits may have any value.
+-- The text has the form of a token of this kind. Digits may have any value; nothing has the form of `Unread`.
 abbrev pub HasForm : TokenKind → List ℕ → Type 0
 HasForm (token.Name name) text = IsName text × (name ≡ text)
 HasForm (token.Number value) text = AreDigits text × (value ≡ digits_value 10 text)
@@ -90,36 +93,37 @@ HasForm token.Unread text = ⊥
 abbrev pub HasSomeForm : List ℕ → Type 0
 HasSomeForm text = (kind : TokenKind) × HasForm kind text
 
--- a number is below 2^64
+-- the value of a number is below 2^64
 abbrev pub IsInRange : TokenKind → Type 0
 IsInRange (token.Number value) = value < 2 ^ 64
 IsInRange kind = Unit {0}
 
 -- The tokens of a text --------------------------------------------------------------------------------------------
 
--- A text is a part of some sort and a rest, and no longer part at its front is of that sort.
-pub record IsLongest (IsPart : List ℕ → Type 0) (text part rest : List ℕ) : Type 0 where
+-- A text is a part that fits and a rest, and no longer part at its front fits.
+pub record IsLongest (Fits : List ℕ → Type 0) (text part rest : List ℕ) : Type 0 where
   pub whole : text ≡ part ++ rest
-  pub sort : IsPart part
-  pub longest : (longer others : List ℕ) → text ≡ longer ++ others → IsPart longer → length longer ≤ length part
+  pub fits : Fits part
+  pub longest : (longer others : List ℕ) → text ≡ longer ++ others → Fits longer → length longer ≤ length part
 
--- A text is a token of this kind and a rest. The longest part that has a form decides.
+-- A text is a token of this kind and a rest. So digits whose value is too great are no token, nor is a part of them.
 pub record IsToken (kind : TokenKind) (text part rest : List ℕ) : Type 0 where
   pub longest : IsLongest HasSomeForm text part rest
   pub form : HasForm kind part
   pub range : IsInRange kind
 
--- no token stands at the front of a text
-abbrev pub BeginsNoToken : List ℕ → Type 0
-BeginsNoToken text = (kind : TokenKind) (part rest : List ℕ) → IsToken kind text part rest → ⊥
+-- something is left, and no token stands at its front
+pub record BeginsNoToken (text : List ℕ) : Type 0 where
+  pub some : text ≢ []
+  pub none : (kind : TokenKind) (part rest : List ℕ) → IsToken kind text part rest → ⊥
 
--- The tokens of a text that stands from a place on.
+-- the tokens of a text that begins at a place
 pub data AreTokensFrom : ℕ → List ℕ → List Token → Type 0 where
   -- only separators are left
   ended : {place : ℕ} {text : List ℕ} → AreSeparators text → AreTokensFrom place text []
   -- behind the separators something is left that begins no token
-  stopped : {place : ℕ} {text between rest : List ℕ} → IsLongest AreSeparators text between rest → rest ≢ []
-      → BeginsNoToken rest → AreTokensFrom place text (record { kind = token.Unread; place = place + length between } ∷ [])
+  unread : {place : ℕ} {text between rest : List ℕ} → IsLongest AreSeparators text between rest → BeginsNoToken rest
+      → AreTokensFrom place text (record { kind = token.Unread; place = place + length between } ∷ [])
   -- behind the separators stands a token, and behind it stand the others
   more : {place : ℕ} {text between rest part others : List ℕ} {kind : TokenKind} {tokens : List Token}
       → IsLongest AreSeparators text between rest → IsToken kind rest part others
@@ -129,3 +133,9 @@ pub data AreTokensFrom : ℕ → List ℕ → List Token → Type 0 where
 -- the tokens of a whole text
 abbrev pub AreTokensOf : List ℕ → List Token → Type 0
 AreTokensOf text tokens = AreTokensFrom 0 text tokens
+
+-- at the place of a token it stands, or no token where it is `Unread`
+abbrev pub StandsInText : List ℕ → Token → Type 0
+StandsInText text listed =
+    ((part rest : List ℕ) × IsToken listed.kind (drop listed.place text) part rest)
+    ⊎ ((listed.kind ≡ token.Unread) × BeginsNoToken (drop listed.place text))

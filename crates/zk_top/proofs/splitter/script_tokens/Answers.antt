@@ -1,5 +1,5 @@
-use Rattle.zk_top.proofs.TokenLaws.{exact}
+use Rattle.zk_top.proofs.TokenLaws.{exact, placed, last}
 use Rattle.zk_top.proofs.splitter.script_tokens.Goals as goal
 
 pub returns : goal.returns
-returns c = exact
+returns c = record { exact = exact; placed = placed; last = last }

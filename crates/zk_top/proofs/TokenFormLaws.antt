@@ -1,22 +1,41 @@
 -- The reader of tokens finds the longest part of a text that has the form of a token.
-use Rattle.std.proofs.Common.{◌≡◌, ◌≢◌, ℕ, ◌+◌, ◌*◌, ◌<◌, ◌≤◌, ◌^◌, Bool, true, false, not, ◌&&◌, ◌||◌, ◌==◌, nat_lt, ◌⊎◌, inl, inr, cond, if◌then◌else◌, List, [], ◌∷◌, ◌++◌, length, map, take, drop, Option, Some, None, IsTrue, refl, sym, ap, subst, ◌∙◌, arith, length-append, append_assoc}
+use Rattle.std.proofs.Common.{◌≡◌, ◌≢◌, ◌↔◌, ℕ, ◌+◌, ◌*◌, ◌<◌, ◌≤◌, ◌^◌, Bool, true, false, not, ◌&&◌, ◌||◌, ◌==◌, nat_lt, ◌⊎◌, inl, inr, cond, if◌then◌else◌, List, [], ◌∷◌, ◌++◌, length, map, take, drop, Option, Some, None, IsTrue, refl, sym, ap, subst, ◌∙◌, arith, length-append, append_assoc}
 use Rattle.std.specs.List.{All, AllPass, take_while, prefix_len, flat_map, list_all}
 use Rattle.std.specs.Char.{is_ascii_digit}
 use Rattle.std.specs.Map.{lookup}
 use Rattle.std.specs.Option.{option_map}
 use Rattle.std.specs.Str.Parse.{digits_value}
-use Rattle.std.proofs.lemmas.Bool.{eqb-true, lt-ltb, ltb-true}
+use Rattle.std.proofs.lemmas.Bool.{eqb-true, ne_eqb, lt-ltb, le-ltb, ltb-true, ltb-false}
 use Rattle.std.proofs.lemmas.Bool.Decides.{nat_tests}
 use Rattle.std.proofs.lemmas.List.{append-nil, take-append-drop}
 use Rattle.std.proofs.lemmas.List.Elements.{All-nil, All-cons, All-head, All-tail}
 use Rattle.std.proofs.lemmas.List.Sums.{take_while-cons}
+use Rattle.std.proofs.Math.Seq.{drop-append_seam, take-append_seam}
 use Rattle.zk_tree.specs.declared.token.TokenKind.{TokenKind}
 use Rattle.zk_tree.specs.declared.token.TokenKind.TheVariants as token
 use Rattle.zk_tree.specs.declared.token.Sign.{Sign}
 use Rattle.zk_top.specs.Tokens.{begins_name, goes_on_name, name_at, number_at, string_at, signs, sign_at, token_at}
-use Rattle.zk_top.specs.TokenForms.{SpelledByte, spelling_of, byte_of, IsSpelledByte, quoted, IsString, IsName, AreDigits, HasForm, HasSomeForm, IsInRange, IsLongest, IsToken, BeginsNoToken}
-use Rattle.zk_top.proofs.SeparatorLaws.{both}
+use Rattle.zk_top.specs.TokenForms.{SpelledByte, spelling_of, byte_of, IsSpelledByte, quoted, IsString, IsName, AreDigits, HasForm, HasSomeForm, IsInRange, IsLongest, IsToken, BeginsNoToken, IsUnread, other_byte, great_number, open_string}
+use Rattle.zk_top.proofs.SeparatorLaws.{both, differs}
 use Rattle.zk_top.proofs.StringLaws.{kind_parts, string_at-spelling, IsStringFound, string_found}
+
+-- Parts at the front of a text ------------------------------------------------------------------------------------
+
+-- two parts at the front of a text that are as long are the same
+pub same_front : (text one two : List ℕ) (rest others : List ℕ) → text ≡ one ++ rest → text ≡ two ++ others → length one ≡ length two → (one ≡ two) × (rest ≡ others)
+same_front text one two rest others first second size =
+    let here : one ++ rest ≡ two ++ others = sym first ∙ second in (
+      sym (take-append_seam one rest) ∙ ap (λ n. take n (one ++ rest)) size ∙ ap (take (length two)) here ∙ take-append_seam two others,
+      sym (drop-append_seam one rest) ∙ ap (λ n. drop n (one ++ rest)) size ∙ ap (drop (length two)) here ∙ drop-append_seam two others,
+    )
+
+-- the longest part that fits is one
+pub same_longest : (Fits : List ℕ → Type 0) (text one two : List ℕ) (rest others : List ℕ) → IsLongest Fits text one rest → IsLongest Fits text two others
+    → (one ≡ two) × (rest ≡ others)
+same_longest Fits text one two rest others first second =
+    let more : length one ≤ length two = second.longest one rest first.whole first.fits in
+    let less : length two ≤ length one = first.longest two others second.whole second.fits in
+    same_front text one two rest others first.whole second.whole (omega arith)
 
 -- Elements from the front that pass a test ------------------------------------------------------------------------
 
@@ -425,3 +444,127 @@ token_at-token kind text part rest token =
     let size : least.len ≡ length part = omega (arith, most, there.size, least.size) in
     let same : form_at text ≡ Some (kind, length part) = read ∙ ap (λ n. Some (least.read, n)) size ∙ ap (λ k. Some (k, length part)) (least.same size) in
     token_at-form text kind (length part) same token.range
+
+-- Where no token stands -------------------------------------------------------------------------------------------
+
+-- where no token is read, none begins
+pub begins_none : (text : List ℕ) → text ≢ [] → token_at text ≡ None → BeginsNoToken text
+begins_none text some none = record {
+  some = some;
+  none = λ kind part rest is. let read = token_at-token kind text part rest is in let never : ⊥ = cc in never;
+}
+
+-- where none begins, none is read
+not_read : (text : List ℕ) → BeginsNoToken text → token_at text ≡ None
+not_read text left =
+    elim (token_at text) as (λ (o : Option (TokenKind × ℕ)). token_at text ≡ o → token_at text ≡ None) [
+      | None ↦ λ here. here
+      | Some found ↦ λ here. let there = token_found text found.0 found.1 here in absurd (left.none found.0 there.part there.rest there.is)
+    ] refl
+
+-- the digits at the front of a text that begins with one are the longest
+digits_longest : (byte : ℕ) (rest : List ℕ) → is_ascii_digit byte ≡ true
+    → IsLongest AreDigits (byte ∷ rest) (take_while is_ascii_digit (byte ∷ rest)) (drop (prefix_len is_ascii_digit (byte ∷ rest)) (byte ∷ rest))
+digits_longest byte rest digit =
+    let text : List ℕ = byte ∷ rest in
+    let more = take_while-more is_ascii_digit byte rest digit in
+    let some : take_while is_ascii_digit text ≢ [] = λ none. let never : ⊥ = cc in never in
+    record {
+      whole = sym (take-append-drop (prefix_len is_ascii_digit text) text);
+      fits = (some, take_while-passes is_ascii_digit text);
+      longest = λ longer others whole are.
+          let size = pass_size is_ascii_digit longer others are.1 in
+          subst (λ t. length longer ≤ length (take_while is_ascii_digit t)) (sym whole) size;
+    }
+
+-- a number that isn't read is too great
+number_not_read : (text : List ℕ) → number_at text ≡ None → 2 ^ 64 ≤ digits_value 10 (take_while is_ascii_digit text)
+number_not_read text none =
+    let digits : List ℕ = take_while is_ascii_digit text in
+    let value : ℕ = digits_value 10 digits in
+    elim (nat_lt value (2 ^ 64)) as (λ b. nat_lt value (2 ^ 64) ≡ b → cond {A = Option (TokenKind × ℕ)} b (Some (token.Number value, length digits)) None ≡ None
+    → 2 ^ 64 ≤ value) [
+      | true ↦ λ below is. absurd (let never : ⊥ = cc in never)
+      | false ↦ λ past is. ltb-false value (2 ^ 64) past
+    ] refl none
+
+-- no string stands where none is read
+no_string : (rest bytes part others : List ℕ) → string_at rest ≡ None → 34 ∷ rest ≡ part ++ others → IsString bytes part → ⊥
+no_string rest bytes part others none whole (spelled, are, value, is) =
+    let read = string_at-spelling spelled others are in
+    let back : 34 ∷ rest ≡ 34 ∷ (flat_map spelling_of spelled ++ 34 ∷ others) =
+    whole ∙ ap (λ p. p ++ others) is ∙ ap (λ r. 34 ∷ r) (append_assoc (flat_map spelling_of spelled) (34 ∷ []) others) in
+    let same : rest ≡ flat_map spelling_of spelled ++ 34 ∷ others = cc in
+    let found = ap string_at same ∙ read in
+    let never : ⊥ = cc in never
+
+-- no sign is at a byte where none is read
+no_sign : (byte : ℕ) → sign_at byte ≡ None → lookup (λ code. code == byte) signs ≡ None
+no_sign byte none =
+    elim (lookup (λ code. code == byte) signs) as (λ (o : Option Sign). lookup (λ code. code == byte) signs ≡ o
+    → option_map {T = Sign} {U = TokenKind × ℕ} (λ s. (token.Sign s, 1)) o ≡ None → lookup (λ code. code == byte) signs ≡ None) [
+      | None ↦ λ here is. here
+      | Some sign ↦ λ here is. absurd (let never : ⊥ = cc in never)
+    ] refl none
+
+unread_by : (byte : ℕ) (rest : List ℕ) → IsReadBy byte rest (number_at (byte ∷ rest)) None → IsUnread (byte ∷ rest)
+unfolding IsReadBy
+unread_by byte rest (first name is) = absurd (let never : ⊥ = cc in never)
+unread_by byte rest (second other digit is) = great_number (digits_longest byte rest digit) (number_not_read (byte ∷ rest) is)
+unread_by byte rest (third other different quote is) =
+    subst (λ b. IsUnread (b ∷ rest)) (sym (eqb-true byte 34 quote)) (open_string (λ bytes part others. no_string rest bytes part others is))
+unread_by byte rest (fourth other different unquoted is) = other_byte other different (differs byte 34 unquoted) (no_sign byte is)
+
+unread_where_none : (text : List ℕ) → BeginsNoToken text → IsUnread text
+unread_where_none [] left = absurd (left.some refl)
+unread_where_none (byte ∷ rest) left = unread_by byte rest (token_read_by byte rest None (not_read (byte ∷ rest) left))
+
+-- a string that is read is one
+string_not_read : (rest : List ℕ) → ((bytes part others : List ℕ) → 34 ∷ rest ≡ part ++ others → IsString bytes part → ⊥) → string_at rest ≡ None
+string_not_read rest none =
+    elim (string_at rest) as (λ (o : Option (TokenKind × ℕ)). string_at rest ≡ o → string_at rest ≡ None) [
+      | None ↦ λ here. here
+      | Some found ↦ λ here.
+          let there = string_found rest found.0 found.1 here in
+          let whole : 34 ∷ rest ≡ quoted there.parts ++ there.rest =
+          ap (λ r. 34 ∷ r) (there.whole ∙ sym (append_assoc (flat_map spelling_of there.parts) (34 ∷ []) there.rest)) in
+          absurd (none (map byte_of there.parts) (quoted there.parts) there.rest whole (there.parts, there.are, refl, refl))
+    ] refl
+
+-- where the longest digits are too great, no number is read
+great_not_read : (byte : ℕ) (others rest : List ℕ) → IsLongest AreDigits (byte ∷ (others ++ rest)) (byte ∷ others) rest → 2 ^ 64 ≤ digits_value 10 (byte ∷ others)
+    → token_at (byte ∷ (others ++ rest)) ≡ None
+unfolding IsReadBy
+great_not_read byte others rest longest great =
+    let text : List ℕ = byte ∷ (others ++ rest) in
+    let digits : List ℕ = take_while is_ascii_digit text in
+    let digit : is_ascii_digit byte ≡ true = All-head (λ b. is_ascii_digit b ≡ true) byte others longest.fits.1 in
+    let same = same_longest AreDigits text digits (byte ∷ others) (drop (prefix_len is_ascii_digit text) text) rest (digits_longest byte (others ++ rest) digit) longest in
+    let past : 2 ^ 64 ≤ digits_value 10 digits = subst (λ d. 2 ^ 64 ≤ digits_value 10 d) (sym same.0) great in
+    let none : number_at text ≡ None =
+    ap (λ b. cond {A = Option (TokenKind × ℕ)} b (Some (token.Number (digits_value 10 digits), length digits)) None) (le-ltb (digits_value 10 digits) (2 ^ 64) past) in
+    token_at-by byte (others ++ rest) None (second (digit_begins_no_name byte digit) digit none)
+
+great_begins_none : (text digits rest : List ℕ) → IsLongest AreDigits text digits rest → 2 ^ 64 ≤ digits_value 10 digits → BeginsNoToken text
+great_begins_none text [] rest longest great = absurd (longest.fits.0 refl)
+great_begins_none text (byte ∷ others) rest longest great =
+    let at_front = subst (λ t. IsLongest AreDigits t (byte ∷ others) rest) longest.whole longest in
+    subst BeginsNoToken (sym longest.whole)
+    (begins_none (byte ∷ (others ++ rest)) (λ is. let never : ⊥ = cc in never) (great_not_read byte others rest at_front great))
+
+other_not_read : (byte : ℕ) (rest : List ℕ) → begins_name byte ≡ false → is_ascii_digit byte ≡ false → byte ≢ 34 → lookup (λ code. code == byte) signs ≡ None
+    → token_at (byte ∷ rest) ≡ None
+unfolding IsReadBy
+other_not_read byte rest name digit quote sign =
+    token_at-by byte rest None (fourth name digit (ne_eqb byte 34 quote) (ap (option_map {T = Sign} {U = TokenKind × ℕ} (λ s. (token.Sign s, 1))) sign))
+
+none_where_unread : {text : List ℕ} → IsUnread text → BeginsNoToken text
+none_where_unread (other_byte {byte = byte} {rest = rest} name digit quote sign) =
+    begins_none (byte ∷ rest) (λ is. let never : ⊥ = cc in never)
+    (other_not_read byte rest name digit quote sign)
+none_where_unread (great_number {text = text} {digits = digits} {rest = rest} longest great) = great_begins_none text digits rest longest great
+none_where_unread (open_string {rest = rest} none) =
+    begins_none (34 ∷ rest) (λ is. let never : ⊥ = cc in never) (string_not_read rest none)
+
+pub unread : (text : List ℕ) → BeginsNoToken text ↔ IsUnread text
+unread text = (unread_where_none text, none_where_unread)

@@ -13,27 +13,11 @@ use Rattle.zk_top.specs.Tokens.{in_front, items_from, found_at, token_at, separa
 use Rattle.zk_top.specs.TokenForms.{AreSeparators, HasForm, HasSomeForm, IsLongest, IsToken, BeginsNoToken, AreTokensFrom, ended, unread, more, AreTokensOf, StandsInText}
 use Rattle.zk_top.proofs.SeparatorLaws.{longest_separators, separators_are, separators-fit}
 use Rattle.zk_top.proofs.StringLaws.{items_from-stands, pair_parts, kind_parts}
-use Rattle.zk_top.proofs.TokenFormLaws.{IsTokenFound, token_found, token_at-token}
+use Rattle.zk_top.proofs.TokenFormLaws.{same_front, same_longest, IsTokenFound, token_found, token_at-token, begins_none}
 
 -- One token -------------------------------------------------------------------------------------------------------
 
--- two parts at the front of a text that are as long are the same
-same_front : (text one two : List ℕ) (rest others : List ℕ) → text ≡ one ++ rest → text ≡ two ++ others → length one ≡ length two → (one ≡ two) × (rest ≡ others)
-same_front text one two rest others first second size =
-    let here : one ++ rest ≡ two ++ others = sym first ∙ second in (
-      sym (take-append_seam one rest) ∙ ap (λ n. take n (one ++ rest)) size ∙ ap (take (length two)) here ∙ take-append_seam two others,
-      sym (drop-append_seam one rest) ∙ ap (λ n. drop n (one ++ rest)) size ∙ ap (drop (length two)) here ∙ drop-append_seam two others,
-    )
-
--- the longest part that fits is one
-same_longest : (Fits : List ℕ → Type 0) (text one two : List ℕ) (rest others : List ℕ) → IsLongest Fits text one rest → IsLongest Fits text two others
-    → (one ≡ two) × (rest ≡ others)
-same_longest Fits text one two rest others first second =
-    let more : length one ≤ length two = second.longest one rest first.whole first.fits in
-    let less : length two ≤ length one = first.longest two others second.whole second.fits in
-    same_front text one two rest others first.whole second.whole (omega arith)
-
--- so is the token at a place
+-- the token at a place is one
 record IsSameToken (kind other : TokenKind) (one two rest others : List ℕ) : Type 0 where
   kinds : kind ≡ other
   parts : one ≡ two
@@ -101,13 +85,6 @@ separators_longest text = record {
   longest = λ longer others whole are.
       let most : length longer ≤ separators text = subst (λ t. length longer ≤ separators t) (sym whole) (longest_separators longer others are) in
       rw (length-take-le (separators text) text (separators-fit text)) most;
-}
-
--- where no token is read, none begins
-begins_none : (text : List ℕ) → text ≢ [] → token_at text ≡ None → BeginsNoToken text
-begins_none text some none = record {
-  some = some;
-  none = λ kind part rest is. let read = token_at-token kind text part rest is in let never : ⊥ = cc in never;
 }
 
 -- The last tokens -------------------------------------------------------------------------------------------------

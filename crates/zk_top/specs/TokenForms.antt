@@ -1,6 +1,6 @@
 -- What the tokens of a script are (Zeek manual, Script Reference): the forms of separators and of tokens, which
 -- take turns in a text, each the longest that fits at its place.
-use Rattle.std.specs.Prelude.{◌≡◌, ◌≢◌, ◌⊎◌, ℕ, ◌+◌, ◌*◌, ◌<◌, ◌≤◌, ◌^◌, ◌==◌, List, [], ◌∷◌, ◌++◌, length, drop, map, Some, IsTrue}
+use Rattle.std.specs.Prelude.{◌≡◌, ◌≢◌, ◌⊎◌, ℕ, ◌+◌, ◌*◌, ◌<◌, ◌≤◌, ◌^◌, ◌==◌, false, List, [], ◌∷◌, ◌++◌, length, drop, map, Some, None, IsTrue}
 use Rattle.std.specs.List.{All, AllPass, flat_map}
 use Rattle.std.specs.Char.{is_ascii_digit, is_digit, digit_value}
 use Rattle.std.specs.Map.{lookup}
@@ -116,6 +116,16 @@ pub record IsToken (kind : TokenKind) (text part rest : List ℕ) : Type 0 where
 pub record BeginsNoToken (text : List ℕ) : Type 0 where
   pub some : text ≢ []
   pub none : (kind : TokenKind) (part rest : List ℕ) → IsToken kind text part rest → ⊥
+
+-- why none does
+pub data IsUnread : List ℕ → Type 0 where
+  -- the byte begins no form
+  other_byte : {byte : ℕ} {rest : List ℕ} → begins_name byte ≡ false → is_ascii_digit byte ≡ false → byte ≢ 34
+      → lookup (λ code. code == byte) signs ≡ None → IsUnread (byte ∷ rest)
+  -- the number is too great
+  great_number : {text digits rest : List ℕ} → IsLongest AreDigits text digits rest → 2 ^ 64 ≤ digits_value 10 digits → IsUnread text
+  -- a quote begins no string: none closes it on its line, or an escape is none
+  open_string : {rest : List ℕ} → ((bytes part others : List ℕ) → 34 ∷ rest ≡ part ++ others → IsString bytes part → ⊥) → IsUnread (34 ∷ rest)
 
 -- the tokens of a text that begins at a place
 pub data AreTokensFrom : ℕ → List ℕ → List Token → Type 0 where

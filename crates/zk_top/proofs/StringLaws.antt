@@ -1,17 +1,17 @@
 -- The reader of strings finds the bytes that are spelled between two quotes, and no others.
-use Rattle.std.proofs.Common.{◌≡◌, ◌≢◌, ℕ, zero, suc, ◌+◌, ◌*◌, ◌<◌, ◌≤◌, Bool, true, false, ◌&&◌, ◌||◌, ◌==◌, ◌⊎◌, inl, inr, cond, if◌then◌else◌, List, [], ◌∷◌, ◌++◌, length, map, drop, slice_index, get_or, Option, Some, None, IsTrue, refl, sym, ap, subst, ◌∙◌, arith, zero-add, length-append, length-drop, append_assoc, drop-cons}
+use Rattle.std.proofs.Common.{◌≡◌, ℕ, zero, suc, ◌+◌, ◌*◌, ◌<◌, ◌≤◌, Bool, true, false, ◌&&◌, ◌||◌, ◌==◌, inl, inr, cond, List, [], ◌∷◌, ◌++◌, length, map, drop, slice_index, Option, Some, None, refl, sym, ap, subst, ◌∙◌, arith, zero-add, length-append, length-drop, append_assoc, drop-cons}
 use Rattle.std.specs.List.{All, flat_map}
 use Rattle.std.specs.Char.{is_digit, digit_value}
 use Rattle.std.specs.Map.{lookup}
 use Rattle.std.specs.Option.{option_map, option_map_or}
-use Rattle.std.proofs.lemmas.Bool.{eqb-true, eq-eqb, ne_eqb, cases_lt}
-use Rattle.std.proofs.lemmas.List.{drop-drop, get_or_past, length-map}
+use Rattle.std.proofs.lemmas.Bool.{eqb-true, ne_eqb, cases_lt}
+use Rattle.std.proofs.lemmas.List.{drop-drop, get_or_past}
 use Rattle.std.proofs.lemmas.List.Elements.{All-nil, All-cons, All-head, All-tail}
 use Rattle.std.proofs.Math.Seq.{drop-append_seam, get_or-append_seam}
 use Rattle.zk_tree.specs.declared.token.TokenKind.{TokenKind}
 use Rattle.zk_tree.specs.declared.token.TokenKind.TheVariants as token
 use Rattle.zk_top.specs.Tokens.{in_front, items_from, found_at, escapes, hexadecimal_at, escape_at, spelled_at, string_at, StandBetween}
-use Rattle.zk_top.specs.TokenForms.{SpelledByte, Plain, Escape, Hexadecimal, spelling_of, byte_of, IsSpelledByte, IsString}
+use Rattle.zk_top.specs.TokenForms.{SpelledByte, Plain, Escape, Hexadecimal, spelling_of, byte_of, IsSpelledByte}
 use Rattle.zk_top.proofs.SeparatorLaws.{both, differs}
 use Rattle.zk_top.proofs.TokensLemmas.{string_closed}
 

@@ -1,19 +1,19 @@
 -- The tokens that are read from a text are its tokens, and it has no others.
-use Rattle.std.proofs.Common.{◌≡◌, ◌≢◌, ◌↔◌, ℕ, zero, suc, ◌+◌, ◌-◌, ◌<◌, ◌≤◌, Bool, true, false, nat_lt, ◌⊎◌, inl, inr, cond, List, [], ◌∷◌, ◌++◌, length, take, drop, Option, Some, None, refl, sym, ap, subst, ◌∙◌, arith, zero-add, length-append, length-drop}
+use Rattle.std.proofs.Common.{◌≡◌, ◌≢◌, ◌↔◌, ℕ, zero, suc, ◌+◌, ◌-◌, ◌<◌, ◌≤◌, true, false, nat_lt, inl, inr, cond, List, [], ◌∷◌, ◌++◌, length, take, drop, Option, Some, None, refl, sym, ap, subst, ◌∙◌, arith, length-append, length-drop}
 use Rattle.std.specs.List.{All}
 use Rattle.std.specs.Option.{option_map, option_map_or}
 use Rattle.std.proofs.lemmas.Bool.{ltb-true, ltb-false}
 use Rattle.std.proofs.lemmas.List.{append-nil, drop-drop, length-take-le, take-append-drop, take_all}
 use Rattle.std.proofs.lemmas.List.Elements.{All-nil, All-cons}
-use Rattle.std.proofs.Math.Seq.{drop-append_seam, take-append_seam}
+use Rattle.std.proofs.Math.Seq.{drop-append_seam}
 use Rattle.zk_tree.specs.declared.token.Token.{Token}
 use Rattle.zk_tree.specs.declared.token.TokenKind.{TokenKind}
 use Rattle.zk_tree.specs.declared.token.TokenKind.TheVariants as token
-use Rattle.zk_top.specs.Tokens.{in_front, items_from, found_at, token_at, separators, behind_separators, next_token, unread_at, tokens_of, StandBetween}
-use Rattle.zk_top.specs.TokenForms.{AreSeparators, HasForm, HasSomeForm, IsLongest, IsToken, BeginsNoToken, AreTokensFrom, ended, unread, more, AreTokensOf, StandsInText}
+use Rattle.zk_top.specs.Tokens.{in_front, items_from, token_at, separators, behind_separators, next_token, unread_at, tokens_of, StandBetween}
+use Rattle.zk_top.specs.TokenForms.{AreSeparators, HasForm, IsLongest, IsToken, BeginsNoToken, AreTokensFrom, ended, unread, more, AreTokensOf, StandsInText}
 use Rattle.zk_top.proofs.SeparatorLaws.{longest_separators, separators_are, separators-fit}
 use Rattle.zk_top.proofs.StringLaws.{items_from-stands, pair_parts, kind_parts}
-use Rattle.zk_top.proofs.TokenFormLaws.{same_front, same_longest, IsTokenFound, token_found, token_at-token, begins_none}
+use Rattle.zk_top.proofs.TokenFormLaws.{same_front, same_longest, token_found, token_at-token, begins_none}
 
 -- One token -------------------------------------------------------------------------------------------------------
 

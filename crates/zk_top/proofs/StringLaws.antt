@@ -140,7 +140,8 @@ spelled_at-spelling_of (Hexadecimal high low) rest is = rw is.0 (rw is.1 refl)
 spelling : List SpelledByte → List ℕ
 spelling parts = flat_map spelling_of parts
 
-past_front : (front rest text : List ℕ) (place : ℕ) → drop place text ≡ front ++ rest → drop (place + length front) text ≡ rest
+-- what stands behind a part that stands at a place
+pub past_front : (front rest text : List ℕ) (place : ℕ) → drop place text ≡ front ++ rest → drop (place + length front) text ≡ rest
 past_front front rest text place here = sym (drop-drop (length front) place text) ∙ ap (drop (length front)) here ∙ drop-append_seam front rest
 
 found_at-here : {X : Type 0} (reader : List ℕ → Option (X × ℕ)) (text rest : List ℕ) (place : ℕ) (item : X) (len : ℕ)

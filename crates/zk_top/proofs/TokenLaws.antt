@@ -12,7 +12,7 @@ use Rattle.zk_tree.specs.declared.token.TokenKind.TheVariants as token
 use Rattle.zk_top.specs.Tokens.{in_front, items_from, token_at, separators, behind_separators, next_token, unread_at, tokens_of, StandBetween}
 use Rattle.zk_top.specs.TokenForms.{AreSeparators, HasForm, IsLongest, IsToken, BeginsNoToken, AreTokensFrom, ended, unread, more, AreTokensOf, StandsInText}
 use Rattle.zk_top.proofs.SeparatorLaws.{longest_separators, separators_are, separators-fit}
-use Rattle.zk_top.proofs.StringLaws.{items_from-stands, pair_parts, kind_parts}
+use Rattle.zk_top.proofs.StringLaws.{items_from-stands, past_front, pair_parts, kind_parts}
 use Rattle.zk_top.proofs.TokenFormLaws.{same_front, same_longest, token_found, token_at-token, begins_none}
 
 -- One token -------------------------------------------------------------------------------------------------------
@@ -34,7 +34,6 @@ same_token kind other text one two rest others first second =
 nothing_left : (text between rest : List ℕ) → AreSeparators text → IsLongest AreSeparators text between rest → rest ≡ []
 nothing_left text between rest are longest =
     let most : length text ≤ length between = longest.longest text [] (sym (append-nil text)) are in
-    let size : length rest ≡ 0 = omega (arith, most, ap length longest.whole, length-append between rest) in
     (same_front text between text rest [] longest.whole (sym (append-nil text)) (omega (arith, most, ap length longest.whole, length-append between rest))).1
 
 nothing_is_no_token : (kind : TokenKind) (text part rest : List ℕ) → text ≡ [] → IsToken kind text part rest → ⊥
@@ -232,18 +231,14 @@ exact text tokens = (
 
 -- Places ----------------------------------------------------------------------------------------------------------
 
--- what stands behind a part that stands at a place
-past_part : (text front rest : List ℕ) (place : ℕ) → drop place text ≡ front ++ rest → drop (place + length front) text ≡ rest
-past_part text front rest place here = sym (drop-drop (length front) place text) ∙ ap (drop (length front)) here ∙ drop-append_seam front rest
-
 all_stand : (text : List ℕ) {place : ℕ} {from : List ℕ} {tokens : List Token} → drop place text ≡ from → AreTokensFrom place from tokens → All (StandsInText text) tokens
 all_stand text at (ended are) = All-nil (StandsInText text)
 all_stand text at (unread {place = place} {between = between} {rest = rest} longest left) =
-    let there : drop (place + length between) text ≡ rest = past_part text between rest place (at ∙ longest.whole) in
+    let there : drop (place + length between) text ≡ rest = past_front between rest text place (at ∙ longest.whole) in
     All-cons (StandsInText text) (token_from place between token.Unread) [] (inr (refl, subst BeginsNoToken (sym there) left)) (All-nil (StandsInText text))
 all_stand text at (more {place = place} {between = between} {rest = rest} {part = part} {others = others} {kind = kind} {tokens = tokens} longest is behind) =
-    let there : drop (place + length between) text ≡ rest = past_part text between rest place (at ∙ longest.whole) in
-    let next : drop (place + length between + length part) text ≡ others = past_part text part others (place + length between) (there ∙ is.longest.whole) in
+    let there : drop (place + length between) text ≡ rest = past_front between rest text place (at ∙ longest.whole) in
+    let next : drop (place + length between + length part) text ≡ others = past_front part others text (place + length between) (there ∙ is.longest.whole) in
     let first : IsToken kind (drop (place + length between) text) part others = subst (λ r. IsToken kind r part others) (sym there) is in
     All-cons (StandsInText text) (token_from place between kind) tokens (inl (part, others, first)) (all_stand text next behind)
 

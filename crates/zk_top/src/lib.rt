@@ -23,6 +23,7 @@ mod typing;
 pub use bodies::script_bodies;
 pub use command::command_line;
 pub use entry::run;
+pub use splitter::script_tokens;
 
 #[cfg(test)]
 mod tests;

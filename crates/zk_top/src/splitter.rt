@@ -1,8 +1,10 @@
-ghost use Rattle.std.specs.Prelude.{◌≡◌, ℕ, ◌+◌, ◌*◌, ◌<◌, ◌≤◌, ◌^◌, nat_lt, if◌then◌else◌, length, slice_index, true, Some, None, IfOk, IfSome, SomeIff};
+ghost use Rattle.std.specs.Prelude.{◌≡◌, ◌↔◌, ◌++◌, ◌∷◌, [], All, List, ℕ, ◌+◌, ◌*◌, ◌<◌, ◌≤◌, ◌^◌, nat_lt, if◌then◌else◌, length, slice_index, true, Some, None, IfOk, IfSome, SomeIff};
 ghost use Rattle.std.specs.Char.{is_ascii_digit, digit_value};
 ghost use Rattle.std.specs.List.{prefix_len};
 ghost use Rattle.std.specs.Str.Parse.{digits_value};
 ghost use Rattle.zk_top.specs.Tokens.{tokens_of, next_token, token_at, name_at, number_at, string_at, spelled_at, escape_at, hexadecimal_at, sign_at, found_at, separators, separates, begins_name, goes_on_name, StandBetween};
+ghost use Rattle.zk_top.specs.TokenForms.{AreTokensOf, BeginsNoToken, IsUnread, StandsInText};
+ghost use Rattle.zk_tree.specs.declared.token.Token.{Token};
 
 use std::alloc::Global;
 use zk_base::{Bytes, Mem};
@@ -23,6 +25,22 @@ pub fn tokens(alloc: Global, text: &[u8]) -> Result<Vec<Token>, Mem>
     }
     Ok(tokens)
 }
+
+/// What the tokens of a script are, in the subject's own words. There is nothing to run.
+pub fn script_tokens()
+    // The tokens that are read are those of the text, and there are no others.
+    ensures exact { (text : List ℕ) (tokens : List Token) → (tokens_of text ≡ tokens) ↔ AreTokensOf text tokens }
+
+    // No token begins where another byte stands, a number that is too great, or a quote with no string.
+    ensures unread { (text : List ℕ) → BeginsNoToken text ↔ IsUnread text }
+
+    // At the place of each token it stands, or no token where it is `Unread`.
+    ensures placed { (text : List ℕ) → All (StandsInText text) (tokens_of text) }
+
+    // `Unread` ends the list.
+    ensures last { (text : List ℕ) (before after : List Token) (token : Token) →
+        tokens_of text ≡ before ++ token ∷ after → token.kind ≡ TokenKind.Unread → after ≡ [] }
+{}
 
 /// The tokens up to the end of a text, or up to a byte that begins none, and the place behind the
 /// last.

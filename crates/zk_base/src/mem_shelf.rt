@@ -202,9 +202,8 @@ mod tests {
     use super::*;
     use std::test::Fail;
 
-    /// What each call of a script of seven answers, in a letter; a call that cannot be made is left
-    /// out.
-    fn play(shelf: &mut MemShelf) -> [u8; 7] {
+    /// What each of seven calls in a row answers, in a letter, and `-` for a call that can't be made.
+    fn answers_of(shelf: &mut MemShelf) -> [u8; 7] {
         let mut answers = [b'-'; 7];
         let started = shelf.start(b"greeting");
         answers[0] = started_letter(started);
@@ -267,7 +266,7 @@ mod tests {
             let content = Bytes::copy_of(alloc, b"good day")?;
             let inputs = vec![in alloc; (name, content)]?;
             let mut shelf = MemShelf::new(alloc, inputs, Vec::from_slice(alloc, fails)?)?;
-            assert_eq!(rt; play(&mut shelf), **answers, "where {fails:?} fail");
+            assert_eq!(rt; answers_of(&mut shelf), **answers, "where {fails:?} fail");
             assert_eq!(rt; shelf.output(b"log"), *output, "where {fails:?} fail");
             assert_eq!(rt; shelf.said(), *said, "where {fails:?} fail");
             assert_eq!(rt; shelf.complained(), *complained, "where {fails:?} fail");

@@ -269,14 +269,14 @@ const ROWS: [(&[u8], &[u8], &[u8], u8, &[u8], &[u8]); 27] = [
 
 #[test]
 fn each_run_says_its_lines_and_complains_of_its_ending(rt: HostRuntime) -> Result<(), Fail> {
-    for (line, capture, script, status, said, complained) in &ROWS {
+    for (n, (line, capture, script, status, said, complained)) in ROWS.iter().enumerate() {
         let alloc = rt.alloc();
         let files = inputs(alloc, capture, script)?;
         let mut shelf = SureShelf::new(alloc, files)?;
         let ending = run(alloc, &words(alloc, line)?, &mut shelf);
-        assert_eq!(rt; ending.status(), *status);
-        assert_eq!(rt; shelf.said(), *said);
-        assert_eq!(rt; shelf.complained(), *complained);
+        assert_eq!(rt; ending.status(), *status, "in row {n}");
+        assert_eq!(rt; shelf.said(), *said, "in row {n}");
+        assert_eq!(rt; shelf.complained(), *complained, "in row {n}");
     }
     Ok(())
 }
@@ -292,8 +292,8 @@ fn a_script_may_have_a_mebibyte_and_no_byte_more(rt: HostRuntime) -> Result<(), 
         let blanks = vec![in alloc; b' '; len]?;
         let mut shelf = SureShelf::new(alloc, inputs(alloc, &HEADER, &blanks)?)?;
         let ending = run(alloc, &words(alloc, RUN)?, &mut shelf);
-        assert_eq!(rt; ending.status(), status);
-        assert_eq!(rt; shelf.complained(), complained.as_bytes());
+        assert_eq!(rt; ending.status(), status, "at {len} bytes");
+        assert_eq!(rt; shelf.complained(), complained.as_bytes(), "at {len} bytes");
     }
     Ok(())
 }

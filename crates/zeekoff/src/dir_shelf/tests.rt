@@ -3,7 +3,7 @@ use std::path::PathBuf;
 use std::test::Fail;
 use std::{env, fs, process};
 
-/// A path of this process in the system's folder for what is temporary.
+/// Makes a folder of this process's own in the system's folder for what is temporary.
 fn own_folder(rt: &HostRuntime) -> Result<PathBuf, Fail> {
     let name = format!(in rt.alloc(); "zeekoff-shelf-{}", process::id(rt.process()))?;
     let folder = env::temp_dir(rt)?.join(rt.alloc(), name.as_str())?;

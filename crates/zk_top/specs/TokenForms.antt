@@ -117,7 +117,7 @@ pub record BeginsNoToken (text : List ℕ) : Type 0 where
   pub some : text ≢ []
   pub none : (kind : TokenKind) (part rest : List ℕ) → IsToken kind text part rest → ⊥
 
--- why none does
+-- why no token stands at the front of a text
 pub data IsUnread : List ℕ → Type 0 where
   -- the byte begins no form
   other_byte : {byte : ℕ} {rest : List ℕ} → begins_name byte ≡ false → is_ascii_digit byte ≡ false → byte ≢ 34

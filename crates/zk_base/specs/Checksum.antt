@@ -1,5 +1,5 @@
 -- The Internet checksum (RFC 1071).
-use Rattle.std.specs.Prelude.{ℕ, zero, suc, ◌+◌, ◌*◌, ◌/◌, ◌%◌, ◌<◌, Bool, ◌==◌, IsTrue, List, [], ◌∷◌, sum, fold, All}
+use Rattle.std.specs.Prelude.{ℕ, zero, suc, ◌+◌, ◌*◌, ◌/◌, ◌%◌, ◌<◌, Bool, ◌==◌, List, [], ◌∷◌, fold, All}
 
 -- the 16-bit words of a run of bytes in network order; a zero byte follows a last odd one (RFC 1071, section 1)
 abbrev pub words : List ℕ → List ℕ

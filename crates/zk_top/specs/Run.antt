@@ -1,13 +1,9 @@
 -- What a run leaves of the outside, beside what was there before.
-use Rattle.std.specs.Prelude.{◌≡◌, ◌⊎◌, ◌<◌, ◌≤◌, ℕ, List, [], ◌∷◌, ◌++◌, length, Option, Some, None}
+use Rattle.std.specs.Prelude.{◌≡◌, ◌⊎◌, ℕ, List, ◌++◌, Option, Some, None}
 use Rattle.std.specs.Option.{option_map}
 use Rattle.zk_base.specs.declared.endings.Ending.{Ending}
 use Rattle.zk_base.specs.declared.endings.Ending.TheVariants.{Done, Usage, ScriptRefused, NoInput, CaptureRefused, CutShort, ReadFault, WriteFault, NoMemory, Flood}
-use Rattle.zk_base.specs.Shelf.{Files, Outside, HasRisen, appended}
-use Rattle.zk_top.specs.declared.found.Found.{Found}
-use Rattle.zk_top.specs.declared.found.Found.TheVariants.{Refused}
-use Rattle.zk_top.specs.declared.stop.Stop.{Stop}
-use Rattle.zk_top.specs.declared.stop.Stop.TheVariants as stop
+use Rattle.zk_base.specs.Shelf.{Files, Outside, appended}
 use Rattle.zk_top.specs.Outcome.{Outcome}
 
 -- neither the outside nor want of memory has stopped the run

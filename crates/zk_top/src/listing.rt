@@ -4,9 +4,9 @@ ghost use Rattle.zk_top.specs.Line.{lines_of};
 ghost use Rattle.zk_top.specs.Outcome.{listing};
 ghost use Rattle.zk_top.specs.Parts.{DoesAll, DoesPart, Fulfils, BreaksOff, IsOfCommand};
 
+use crate::capture::{end_of, later, read_capture};
 use crate::found::Found;
 use crate::line::push_packet_line;
-use crate::capture::{end_of, later, read_capture};
 use crate::output::{PIECE, make_room, say};
 use crate::stop::Stop;
 use std::alloc::Global;

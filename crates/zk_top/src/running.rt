@@ -4,8 +4,8 @@ ghost use Rattle.zk_typed.specs.declared.program.Program.{Program};
 ghost use Rattle.zk_top.specs.Outcome.{over_capture, opened, loaded, run_report, running};
 ghost use Rattle.zk_top.specs.Parts.{Fulfils, BreaksOff, IsOfCommand};
 
-use crate::found::Found;
 use crate::capture::{end_of, read_capture};
+use crate::found::Found;
 use crate::replay::replay_packets;
 use crate::script::read_script;
 use crate::stop::Stop;

@@ -1,6 +1,6 @@
 -- The text of a value as `print` writes it (Zeek manual, Statements, print). That times are written in seconds with
 -- six decimals is this project's own form.
-use Rattle.std.specs.Prelude.{ℕ, List, [], ◌∷◌, ◌++◌, map, codes, decimal, if◌then◌else◌}
+use Rattle.std.specs.Prelude.{ℕ, List, map, codes, decimal, if◌then◌else◌}
 use Rattle.zk_tree.specs.Value.{Value, Bool, Count, String, Time}
 use Rattle.zk_tree.specs.Lists.{joined_by}
 use Rattle.zk_text.specs.Span.{span_decimal}

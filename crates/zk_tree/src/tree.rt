@@ -23,7 +23,7 @@ pub enum Decl {
 pub struct Param {
     pub place: u64,
     pub name: Bytes,
-    pub param_type: Type,
+    pub of: Type,
 }
 
 /// A type.

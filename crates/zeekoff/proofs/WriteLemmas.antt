@@ -6,7 +6,7 @@ use Rattle.zk_base.specs.declared.counts.Counts.{Counts}
 use Rattle.zk_base.specs.Shelf.{Outside, Puts}
 use Rattle.zeekoff.specs.DirShelf.{untold, CountsWrite}
 
--- a write of which nothing is told leaves its count, and a front of no bytes is a front
+-- a write of which nothing is told leaves its count, and a prefix of no bytes is a prefix
 pub puts : (after : List ℕ → Outside) (is_open : Bool) (old : Counts) (piece : List ℕ) (result : Wrote) (new : Counts)
     → ((part : List ℕ) → after part ≡ untold is_open old)
     → CountsWrite old result new → Puts after (untold is_open old) piece result (untold is_open new)

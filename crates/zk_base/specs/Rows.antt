@@ -1,5 +1,6 @@
 -- What the definitions give at some values, computed by the checker.
 use Rattle.std.specs.Prelude.{◌≡◌, ℕ, ◌-◌, ◌^◌, List, [], ◌∷◌, true, false, Some, None, codes, refl}
+use Rattle.zk_base.specs.declared.network.TheConstants.{LINKTYPE_ETHERNET, LINKTYPE_RAW, IP4_TOTAL_LENGTH_MAX}
 use Rattle.zk_base.specs.Shelf.{At, rest_of, with_piece}
 use Rattle.zk_base.specs.Files.{files_of}
 use Rattle.zk_base.specs.Contents.{at_first}
@@ -52,3 +53,16 @@ an_output_is_emptied = refl
 
 pub an_absent_output_stays_absent : with_emptied (files_of (log ∷ [])) (codes "lo") (codes "lo") ≡ None
 an_absent_output_stays_absent = refl
+
+-- Constants of standards -------------------------------------------------------------------------------------
+
+-- the list of link types of the capture format
+pub ethernet_is_link_type_1 : LINKTYPE_ETHERNET ≡ 1
+ethernet_is_link_type_1 = refl
+
+pub raw_ip_is_link_type_101 : LINKTYPE_RAW ≡ 101
+raw_ip_is_link_type_101 = refl
+
+-- RFC 791, section 3.1: the total length has 16 bits
+pub a_total_length_has_16_bits : IP4_TOTAL_LENGTH_MAX ≡ 2 ^ 16 - 1
+a_total_length_has_16_bits = refl

@@ -54,7 +54,7 @@ param_taken tokens x e =
     let a = bind_some _ _ _ e in
     let b = bind_some _ _ _ a.2 in
     let c = bind_some _ _ _ b.2 in
-    let made : Param × List Token = (record { place = a.0.0.0; name = a.0.0.1; of = c.0.0 }, c.0.1) in
+    let made : Param × List Token = (record { place = a.0.0.0; name = a.0.0.1; param_type = c.0.0 }, c.0.1) in
     let same = some_same made x c.2 in
     let typed = type_taken b.0 c.0 c.1 in
     let colon = sign_taken sign.Colon (spelled_type c.0.0) a.0.1 b.0 c.0.1 b.1 typed in
@@ -68,10 +68,10 @@ AnyParam param = Unit {0}
 param_again : IsAgain spelled_param param_at AnyParam IsCalm
 unfolding param_at
 param_again param tokens rest any calm p =
-    let others = follows (token.Sign sign.Colon) ∷ spelled_type param.of in
+    let others = follows (token.Sign sign.Colon) ∷ spelled_type param.param_type in
     let a = name_first param.place param.name others tokens rest p in
-    let b = sign_first sign.Colon (spelled_type param.of) a.0 rest a.2 in
-    let c = type_again param.of b.0 rest b.2 in
+    let b = sign_first sign.Colon (spelled_type param.param_type) a.0 rest a.2 in
+    let c = type_again param.param_type b.0 rest b.2 in
     rw (a.1, b.1, c) refl
 
 any_params : (params : List Param) → AllByRecursion AnyParam params
@@ -95,7 +95,7 @@ listed_params_again [] tokens rest after p closes =
     rw (closed, p) refl
 listed_params_again (param ∷ params) tokens rest after p closes =
     let first = listed_first spelled_param param params tokens rest p in
-    let others = follows (token.Sign sign.Colon) ∷ spelled_type param.of in
+    let others = follows (token.Sign sign.Colon) ∷ spelled_type param.param_type in
     let goes : begins sign.CloseParenthesis tokens ≡ false = name_other param.place param.name sign.CloseParenthesis others tokens first.0 first.1 in
     let no_comma = sign_other sign.CloseParenthesis sign.Comma [] rest after closes in
     let calm = sign_other sign.CloseParenthesis sign.OpenParenthesis [] rest after closes in

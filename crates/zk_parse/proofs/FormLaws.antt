@@ -26,7 +26,7 @@ are_params_other [] (formal ∷ formals) ne = refl
 are_params_other (param ∷ params) [] ne = refl
 are_params_other (param ∷ params) (formal ∷ formals) ne =
     let others : are_params params formals ≡ false = are_params_other params formals (λ e. ne (omega arith)) in
-    rw others (and_false (bytes_eq param.name formal.0 && bytes_eq (type_name param.of) formal.1))
+    rw others (and_false (bytes_eq param.name formal.0 && bytes_eq (type_name param.param_type) formal.1))
 
 pub are_params_none : (params : List Param) → are_params params [] ≡ (length params == 0)
 are_params_none [] = refl
@@ -45,8 +45,8 @@ names_of-params [] [] e = refl
 names_of-params [] (formal ∷ formals) e = absurd cc
 names_of-params (param ∷ params) [] e = absurd cc
 names_of-params (param ∷ params) (formal ∷ formals) e =
-    let a = and_parts (bytes_eq param.name formal.0 && bytes_eq (type_name param.of) formal.1) (are_params params formals) e in
-    let b = and_parts (bytes_eq param.name formal.0) (bytes_eq (type_name param.of) formal.1) a.0 in
+    let a = and_parts (bytes_eq param.name formal.0 && bytes_eq (type_name param.param_type) formal.1) (are_params params formals) e in
+    let b = and_parts (bytes_eq param.name formal.0) (bytes_eq (type_name param.param_type) formal.1) a.0 in
     let first = bytes_eq-same param.name formal.0 b.0 in
     let others = names_of-params params formals a.1 in
     cc

@@ -58,9 +58,9 @@ packet_handler : tree_of (at_places 0 (
     ∷ word (codes "network_time") ∷ token.Sign sign.OpenParenthesis ∷ token.Sign sign.CloseParenthesis ∷ ended
     )) ≡ Ok (record {
       decls = decl.Event 0 (codes "packet_seen") (
-          record { place = 3; name = codes "t"; of = of.Time 5 }
-          ∷ record { place = 7; name = codes "caplen"; of = of.Count 9 }
-          ∷ record { place = 11; name = codes "len"; of = of.Count 13 } ∷ []
+          record { place = 3; name = codes "t"; param_type = of.Time 5 }
+          ∷ record { place = 7; name = codes "caplen"; param_type = of.Count 9 }
+          ∷ record { place = 11; name = codes "len"; param_type = of.Count 13 } ∷ []
           ) (record { place = 15; stmts = stmt.Print 16 (expr.Name 17 (codes "t") ∷ expr.True 19 ∷ expr.Call 21 (codes "network_time") ∷ []) ∷ [] }) ∷ [];
     })
 unfolding sign_at name_at word_at repeated behind_comma listed call_at named_at expr_at stmt_at stmts_at block_at type_at param_at listed_params_at params_at handler_at decl_at decls_from tree_of

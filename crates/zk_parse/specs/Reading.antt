@@ -182,7 +182,7 @@ param_at tokens = do
   name ← name_at tokens
   colon ← sign_at sign.Colon name.1
   typed ← type_at colon
-  Some (record { place = name.0.0; name = name.0.1; of = typed.0 }, typed.1)
+  Some (record { place = name.0.0; name = name.0.1; param_type = typed.0 }, typed.1)
 
 -- the parameters before a closing parenthesis
 unfoldable pub listed_params_at : List Token → Option (List Param × List Token)

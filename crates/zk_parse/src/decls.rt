@@ -43,9 +43,16 @@ fn param(alloc: Global, tokens: &[Token]) -> Result<(Param, &[Token]), FormFault
 {
     let (place, name, rest) = name(tokens)?;
     let rest = sign(Sign::Colon, rest)?;
-    let (of, rest) = type_of(rest)?;
+    let (param_type, rest) = type_of(rest)?;
     let name = Bytes::copy_of(alloc, name)?;
-    Ok((Param { place, name, of }, rest))
+    Ok((
+        Param {
+            place,
+            name,
+            param_type,
+        },
+        rest,
+    ))
 }
 
 impl Element for Param {

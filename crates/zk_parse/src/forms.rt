@@ -18,9 +18,9 @@ fn type_name(of: &Type) -> &'static [u8]
 
 /// Whether a parameter is named and typed so.
 fn is_param(param: &Param, name: &[u8], typed: &[u8]) -> bool
-    ensures { result ≡ (bytes_eq param.now.name name.now && bytes_eq (type_name param.now.of) typed.now) }
+    ensures { result ≡ (bytes_eq param.now.name name.now && bytes_eq (type_name param.now.param_type) typed.now) }
 {
-    param.name.as_slice() == name && type_name(&param.of) == typed
+    param.name.as_slice() == name && type_name(&param.param_type) == typed
 }
 
 /// Whether there are no parameters.

@@ -73,9 +73,9 @@ const HANDLERS: &[u8] =
 fn are_params(params: &[Param]) -> bool {
     match params {
         [t, caplen, len] => {
-            matches!(t.of, Type::Time { place: 5 })
-                && matches!(caplen.of, Type::Count { place: 9 })
-                && matches!(len.of, Type::Count { place: 13 })
+            matches!(t.param_type, Type::Time { place: 5 })
+                && matches!(caplen.param_type, Type::Count { place: 9 })
+                && matches!(len.param_type, Type::Count { place: 13 })
                 && (t.place, caplen.place, len.place) == (3, 7, 11)
                 && t.name.as_slice() == b"t".as_slice()
                 && caplen.name.as_slice() == b"caplen".as_slice()

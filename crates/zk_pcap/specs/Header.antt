@@ -29,6 +29,7 @@ form_after (Some nano) big = Some (record { big = false; nano = nano })
 form_after None (Some nano) = Some (record { big = true; nano = nano })
 form_after None None = None
 
+-- the form by the first four bytes as a number in either byte order
 abbrev pub form_by : ℕ → ℕ → Option Form
 form_by little big = form_after (nano_of little) (nano_of big)
 

@@ -193,7 +193,7 @@ are_params-length [] [] are = refl
 are_params-length [] (formal ∷ formals) are = absurd cc
 are_params-length (param ∷ params) [] are = absurd cc
 are_params-length (param ∷ params) (formal ∷ formals) are =
-    ap suc (are_params-length params formals (and_parts (bytes_eq param.name formal.0 && bytes_eq (type_name param.of) formal.1) (are_params params formals) are).1)
+    ap suc (are_params-length params formals (and_parts (bytes_eq param.name formal.0 && bytes_eq (type_name param.param_type) formal.1) (are_params params formals) are).1)
 
 -- by its name each of these events has a number, and by that as many parameters as it has
 abbrev AreNumbered : List Event → Type 0

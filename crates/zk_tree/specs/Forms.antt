@@ -52,7 +52,7 @@ are_params [] [] = true
 are_params [] (formal ∷ formals) = false
 are_params (param ∷ params) [] = false
 are_params (param ∷ params) (formal ∷ formals) =
-    bytes_eq param.name formal.0 && bytes_eq (type_name param.of) formal.1 && are_params params formals
+    bytes_eq param.name formal.0 && bytes_eq (type_name param.param_type) formal.1 && are_params params formals
 
 -- the head of a handler is that of a predefined event
 abbrev pub is_head : List ℕ → List Param → Bool

@@ -60,7 +60,7 @@ spelled_type (of.Count place) = begins place (word (type_name (of.Count place)))
 spelled_type (of.Time place) = begins place (word (type_name (of.Time place))) ∷ []
 
 abbrev pub spelled_param : Param → List Spelled
-spelled_param param = begins param.place (word param.name) ∷ follows (token.Sign sign.Colon) ∷ spelled_type param.of
+spelled_param param = begins param.place (word param.name) ∷ follows (token.Sign sign.Colon) ∷ spelled_type param.param_type
 
 abbrev pub spelled_params : List Param → List Spelled
 spelled_params params =

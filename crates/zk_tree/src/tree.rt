@@ -23,7 +23,7 @@ pub enum Decl {
 pub struct Param {
     pub place: u64,
     pub name: Bytes,
-    pub of: Type,
+    pub param_type: Type,
 }
 
 /// A type.

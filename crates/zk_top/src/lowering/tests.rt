@@ -11,17 +11,17 @@ fn params(alloc: Global) -> Result<Sequence<Param>, Mem> {
     params.push(Param {
         place: 18,
         name: Bytes::copy_of(alloc, b"t")?,
-        of: Type::Time { place: 21 },
+        param_type: Type::Time { place: 21 },
     })?;
     params.push(Param {
         place: 27,
         name: Bytes::copy_of(alloc, b"caplen")?,
-        of: Type::Count { place: 35 },
+        param_type: Type::Count { place: 35 },
     })?;
     params.push(Param {
         place: 42,
         name: Bytes::copy_of(alloc, b"len")?,
-        of: Type::Count { place: 47 },
+        param_type: Type::Count { place: 47 },
     })?;
     Ok(Sequence::from(params))
 }

@@ -11,7 +11,7 @@ use Rattle.zk_frag.specs.declared.assembly.Assembly.{Assembly}
 use Rattle.zk_frag.specs.Fragment.{Fragment, byte_of, end}
 use Rattle.zk_frag.specs.Group.{byte_at, named_end, bytes_below, covered_to, datagram}
 use Rattle.zk_frag.specs.Buffer.{byte_held}
-use Rattle.zk_frag.specs.Standing.{Holds, Carries}
+use Rattle.zk_frag.specs.Assembly.{Holds, Carries}
 use Rattle.zk_frag.proofs.PlaceLemmas.{option_or_assoc}
 
 -- the byte that a fragment has at a place

@@ -14,7 +14,8 @@ use Rattle.zk_frag.specs.declared.key.Key.{Key}
 use Rattle.zk_frag.specs.Fragment.{Fragment, end, same_key, is_ignored}
 use Rattle.zk_frag.specs.Group.{first_moment, is_later, comes_late, joined_by, is_covered}
 use Rattle.zk_frag.specs.Histories.{fragments_of, left_of, open_group, group_of, joined_of, datagram_of}
-use Rattle.zk_frag.specs.Standing.{group_at, Keeps, Takes, Stays, StandsFor}
+use Rattle.zk_frag.specs.Standing.{StandsFor}
+use Rattle.zk_frag.specs.Table.{group_at, Keeps, Takes, Stays}
 use Rattle.zk_frag.proofs.KeyLemmas.{is_eq-key_cmp, same_key_is}
 
 -- the fragment counts for the key

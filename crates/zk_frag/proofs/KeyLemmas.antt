@@ -10,7 +10,7 @@ use Rattle.zk_base.specs.declared.network.Addr.TheVariants.{V4, V6}
 use Rattle.zk_base.specs.contracts.network.AddrOrd.TheImpl as address_ord
 use Rattle.zk_frag.specs.declared.key.Key.{Key}
 use Rattle.zk_frag.specs.Fragment.{same_address, same_key}
-use Rattle.zk_frag.specs.Standing.{key_cmp}
+use Rattle.zk_frag.specs.Table.{key_cmp}
 
 address_ties : (a b : Addr) → is_eq ((address_ord.ghosts).cmp a b) ≡ same_address a b
 address_ties (V4 a) (V4 b) = sym (unsigned_ties a b)

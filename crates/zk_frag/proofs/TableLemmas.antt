@@ -12,7 +12,7 @@ use Rattle.zk_frag.specs.declared.key.Key.{Key}
 use Rattle.zk_frag.specs.Fragment.{Fragment}
 use Rattle.zk_frag.specs.Group.{first_moment, is_covered, datagram}
 use Rattle.zk_frag.specs.Histories.{left_of}
-use Rattle.zk_frag.specs.Standing.{key_cmp, group_at, Keeps, IsGroup, Takes, Stays}
+use Rattle.zk_frag.specs.Table.{key_cmp, group_at, Keeps, IsGroup, Takes, Stays}
 
 -- a table has at one key what it was given, and is the same elsewhere
 abbrev pub Changes : Frags → Frags → Key → Option Group → Type 0

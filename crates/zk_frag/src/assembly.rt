@@ -71,7 +71,7 @@ pub struct Assembly {
 }
 
 impl Assembly {
-    ghost use Rattle.zk_frag.specs.Standing.{Carries, Holds};
+    ghost use Rattle.zk_frag.specs.Assembly.{Carries, Holds};
 
     /// No bytes. No memory is taken.
     pub fn new(alloc: Global) -> Assembly

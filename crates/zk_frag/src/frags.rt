@@ -50,10 +50,11 @@ pub struct Frags {
 }
 
 impl Frags {
-    ghost use Rattle.zk_frag.specs.Standing.{group_at, Keeps, StandsFor, Stays, Takes};
+    ghost use Rattle.zk_frag.specs.Standing.{StandsFor};
+    ghost use Rattle.zk_frag.specs.Table.{group_at, Keeps, Stays, Takes};
 
     /// No fragments. No memory is taken.
-    #[tactic(auto, unfolding(crate::specs::Standing::group_at))]
+    #[tactic(auto, unfolding(crate::specs::Table::group_at))]
     pub fn new(alloc: Global) -> Frags
         ensures { StandsFor result [] }
     {
@@ -105,7 +106,7 @@ impl Frags {
     }
 
     /// Whether a group of the key is open that is not over by now.
-    #[tactic(auto, unfolding(crate::specs::Standing::group_at, crate::specs::Standing::key_cmp))]
+    #[tactic(auto, unfolding(crate::specs::Table::group_at, crate::specs::Table::key_cmp))]
     fn is_open(&self, key: &Key, now: Moment) -> bool
         ensures { result ≡ option_map_or (λ group. not (is_later group.since now)) (group_at self.now key.now) false }
     {

@@ -6,7 +6,8 @@ use Rattle.std.proofs.lemmas.Result.{err_from_is_err_and}
 use Rattle.zk_link_ip.specs.Views.{packet}
 use Rattle.zk_frag.specs.declared.group.Group.{Group}
 use Rattle.zk_frag.specs.Fragment.{fragment_of}
-use Rattle.zk_frag.specs.Standing.{key_cmp, group_at, Carries, Holds, IsGroup, Keeps}
+use Rattle.zk_frag.specs.Assembly.{Carries, Holds}
+use Rattle.zk_frag.specs.Table.{key_cmp, group_at, IsGroup, Keeps}
 use Rattle.zk_frag.proofs.TableLemmas.{first_moment-append, takes_held, takes_whole, stays_changed}
 use Rattle.zk_frag.proofs.frags.Frags.go_on.Goals as goal
 

@@ -3,7 +3,7 @@ use Rattle.std.proofs.lemmas.Bool.{true≢false}
 use Rattle.std.proofs.lemmas.Result.{IfOk-weaker, on_err_weaker}
 use Rattle.zk_link_ip.specs.Views.{packet}
 use Rattle.zk_frag.specs.Fragment.{fragment_of}
-use Rattle.zk_frag.specs.Standing.{group_at}
+use Rattle.zk_frag.specs.Table.{group_at}
 use Rattle.zk_frag.proofs.HistoryLemmas.{within_from_counted, takes_open, takes_begun, there_from_open, answer_ignored, answer_taken, stands_taken, stands_ignored, stands_on}
 use Rattle.zk_frag.proofs.frags.Frags.take.Goals as goal
 

@@ -11,7 +11,7 @@ use zk_typed::{BodyEnd, FaultKind};
 use zk_value::{Operand, Print, Value, push_count, push_span};
 
 /// The body of a handler as it runs.
-#[derive(Drop)]
+#[derive(Debug, Drop)]
 pub struct Frame<'a> {
     /// Where the lines take their memory.
     pub alloc: Global,

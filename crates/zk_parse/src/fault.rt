@@ -35,7 +35,7 @@ impl<T: Drop> From<AllocFailed<T>> for ParseFault {
 }
 
 /// Why a form was not read from the front of tokens.
-#[derive(Clone, Copy)]
+#[derive(Clone, Copy, Debug, PartialEq, Eq)]
 pub enum FormFault {
     /// The tokens don't begin with it.
     NoForm,

@@ -59,8 +59,8 @@ fn the_first_declaration_that_does_not_read_is_named(rt: HostRuntime) -> Result<
     let alloc = rt.alloc();
     for (text, at) in &REFUSED {
         let tokens = tokens(alloc, text)?;
-        let fault = parse(alloc, &tokens).err().ok_or("it is refused")?;
-        assert_eq!(rt; fault, ParseFault::NoTree { at: *at }, "at {text:?}");
+        let fault = parse(alloc, &tokens).err();
+        assert_eq!(rt; fault, Some(ParseFault::NoTree { at: *at }), "at {text:?}");
     }
     Ok(())
 }

@@ -20,7 +20,7 @@ pub struct Header {
 }
 
 /// How a file writes its numbers and the fractions of a second, which its magic number tells.
-#[derive(Clone, Copy)]
+#[derive(Clone, Copy, Debug)]
 struct Form {
     big: bool,
     nano: bool,

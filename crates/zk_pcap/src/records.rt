@@ -21,7 +21,7 @@ pub struct Packet {
 }
 
 /// A packet whose bytes are borrowed from the file.
-#[derive(Clone, Copy)]
+#[derive(Clone, Copy, Debug)]
 pub struct RecordView<'a> {
     moment: Moment,
     orig_len: u32,

@@ -4,6 +4,7 @@ ghost use Rattle.zk_top.specs.Command.{Command as CommandMeaning, IsCommand, IsF
 use zk_base::Word;
 
 /// What the command line asks for.
+#[derive(Debug, Drop)]
 pub enum Command<'a> {
     /// `list FILE`: a line for each item of a capture.
     List { file: &'a [u8] },
@@ -12,7 +13,7 @@ pub enum Command<'a> {
 }
 
 /// A word of a command.
-#[derive(Clone, Copy)]
+#[derive(Clone, Copy, Debug)]
 enum Slot {
     /// `list`
     List,

@@ -1,7 +1,7 @@
 use zk_base::Ending;
 
 /// What a run finds in an input that it asked for.
-#[derive(Drop)]
+#[derive(Debug, Drop)]
 pub enum Found<T> {
     /// What the input holds.
     Accepted(T),

@@ -26,7 +26,7 @@ use zk_value::{Code, Out, Value};
 const BUDGET: u64 = 1_000_000;
 
 /// A replay of a capture to a program: the machine, and what it has printed that is not yet said.
-#[derive(Drop)]
+#[derive(Debug, Drop)]
 pub struct Replay {
     machine: Machine,
     piece: Vec<u8>,
@@ -176,7 +176,7 @@ impl Replay {
 }
 
 /// The handlers of each event, in load order.
-#[derive(Drop)]
+#[derive(Debug, Drop)]
 pub struct Handlers {
     init: Vec<HandlerNo>,
     seen: Vec<HandlerNo>,

@@ -1,3 +1,4 @@
 mod ChecksumLemmas
 mod FileLemmas
 mod MemShelfLemmas
+mod Rows

@@ -5,7 +5,6 @@ pub mod Ending
 pub mod Faults
 pub mod Files
 pub mod MemShelf
-pub mod Rows
 pub mod Shelf
 pub mod Slices
 pub mod SureShelf

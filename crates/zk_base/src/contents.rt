@@ -10,16 +10,11 @@ use std::alloc::Global;
 /// A file in memory: its name and its content.
 type File = (Bytes, Bytes);
 
-/// The number of the first file of a name. A shelf in memory holds a handful, so it walks.
+/// The number of the first file of a name. A shelf in memory holds a handful, so no table is needed.
 fn find(files: &[File], name: &[u8]) -> Option<usize>
     ensures { result ≡ number_of files.now name.now }
 {
-    for (i, file) in files.iter().enumerate() {
-        if file.0.as_slice() == name {
-            return Some(i);
-        }
-    }
-    None
+    files.iter().position(|file| file.0.as_slice() == name)
 }
 
 /// Gives a file this content, and makes it where there is none of the name. At `Mem` nothing is
@@ -261,10 +256,8 @@ impl Contents {
     pub fn output(&self, name: &[u8]) -> Option<&[u8]>
         ensures { option_copied result ≡ files_of self.now.outputs.items name.now }
     {
-        match find(&self.outputs, name) {
-            Some(i) => Some(self.outputs[i].1.as_slice()),
-            None => None,
-        }
+        let i = find(&self.outputs, name)?;
+        Some(self.outputs[i].1.as_slice())
     }
 
     /// What was said.

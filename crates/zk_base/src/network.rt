@@ -5,8 +5,8 @@ pub const LINKTYPE_ETHERNET: u16 = 1;
 /// The link type of frames that are IP packets with nothing before them (LINKTYPE_RAW in that list).
 pub const LINKTYPE_RAW: u16 = 101;
 
-/// The greatest total length of an IPv4 packet, and so of a datagram, in bytes (RFC 791, section
-/// 3.1).
+/// The greatest total length of an IPv4 packet, in bytes (RFC 791, section 3.1). The payload of a
+/// datagram, and what stands in one, is bounded by the same number.
 pub const IP4_TOTAL_LENGTH_MAX: usize = 65_535;
 
 /// An address of an internet host, as the number that its bytes make in network order.

@@ -1,3 +1,5 @@
+// Numbers by which crates name what another one holds. Some of these crates are still to come.
+
 /// A connection instance, numbered from 1 over the capture.
 #[derive(Clone, Copy, Debug, PartialEq, Eq)]
 pub struct ConnNo(pub u64);

@@ -41,8 +41,8 @@ pub enum Wrote {
 /// error. Inputs and outputs are separate name spaces.
 ///
 /// A shelf counts how often an input has failed, an output has failed and an input was absent. The
-/// counts never fall, and a count at 2^64 - 1 counts as risen. What a shelf tells of the rest is
-/// its own affair: one that stands for real files tells nothing, one in memory tells all.
+/// counts never fall, and a count at 2^64 - 1 counts as risen. Each shelf says what it tells of the
+/// rest: one that stands for real files tells nothing, one in memory tells all.
 pub trait Shelf {
     /// What the shelf shows of the outside.
     ghost outside: { Self → Outside };

@@ -152,7 +152,7 @@ stands_on old new key given stays stands = record {
   whole = λ earlier last is made. stays.whole ∙ stands.whole earlier last is made;
 }
 
--- a fragment that counts ends within the longest datagram
+-- a fragment that counts ends within 65,535 bytes
 pub within_from_counted : (fragment : Fragment) → is_ignored fragment ≡ false → end fragment ≤ 65535
 within_from_counted fragment counted = by_cases fragment.was_cut counted
   where

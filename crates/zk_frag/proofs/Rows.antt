@@ -69,7 +69,7 @@ whole_is_gone : joined_of (last ∷ middle 0 ∷ first 0 ∷ []) last ≡ Held
 unfolding last middle first fragment one_key joined_of
 whole_is_gone = refl
 
--- the longest datagram, and one byte more
+-- 65,535 bytes, and one more
 longest_held : joined_of [] (fragment 0 65528 false (codes "1234567")) ≡ Held
 unfolding fragment one_key joined_of
 longest_held = refl

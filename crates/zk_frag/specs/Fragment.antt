@@ -54,7 +54,7 @@ same_key a b =
 abbrev pub end : Fragment → ℕ
 end fragment = fragment.place + length fragment.payload
 
--- it is cut, or passes the longest datagram
+-- it is cut, or its place and its payload together pass 65,535 bytes (the header is not counted)
 abbrev pub is_ignored : Fragment → Bool
 is_ignored fragment = fragment.was_cut || nat_lt IP4_TOTAL_LENGTH_MAX (end fragment)
 

@@ -20,7 +20,7 @@ use zk_link_ip::Ip4;
 pub enum Joined {
     /// It is kept, and its datagram is not yet whole.
     Held,
-    /// It is cut, or passes the longest datagram, and does nothing.
+    /// It is cut, or its place and its payload together pass 65,535 bytes, and does nothing.
     Ignored,
     /// Its datagram is whole.
     Whole,
@@ -33,7 +33,8 @@ fn place_of(ip: &Ip4<'_>) -> usize
     8 * usize::from(ip.offset())
 }
 
-/// Whether a fragment is cut, or passes the longest datagram.
+/// Whether a fragment is cut, or its place and its payload together pass 65,535 bytes. The header is
+/// not counted.
 fn is_ignored(ip: &Ip4<'_>) -> bool
     ensures { (t : Moment) → result ≡ is_ignored (fragment_of t (packet ip.now).now) }
 {

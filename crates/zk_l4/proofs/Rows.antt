@@ -4,6 +4,7 @@ use Rattle.zk_base.specs.Checksum.{folded}
 use Rattle.zk_base.specs.declared.network.Addr.{Addr}
 use Rattle.zk_base.specs.declared.network.Addr.TheVariants.{V4, V6}
 use Rattle.zk_l4.specs.declared.fault.L4Fault.TheVariants.{Short, Offset, Length, Checksum}
+use Rattle.zk_l4.specs.declared.flags.TheConstants.{FIN, SYN, RST, PSH, ACK, URG, ECE, CWR}
 use Rattle.zk_l4.specs.Tcp as tcp
 use Rattle.zk_l4.specs.PseudoHeader.{has_right_checksum}
 use Rattle.zk_l4.specs.Tcp.{data_offset, sequence_number, tcp_fault}
@@ -125,3 +126,8 @@ tcp6_right = refl
 tcp6_payload : tcp.payload segment6 ≡ 0x68 ∷ 0x65 ∷ 0x6c ∷ 0x6c ∷ 0x6f ∷ []
 unfolding data_offset
 tcp6_payload = refl
+
+-- the control bits as RFC 9293, section 3.1 draws them, from the right
+control_bits_have_their_places :
+    FIN ∷ SYN ∷ RST ∷ PSH ∷ ACK ∷ URG ∷ ECE ∷ CWR ∷ [] ≡ 1 ∷ 2 ∷ 4 ∷ 8 ∷ 16 ∷ 32 ∷ 64 ∷ 128 ∷ []
+control_bits_have_their_places = refl

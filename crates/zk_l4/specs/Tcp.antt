@@ -1,4 +1,4 @@
--- A TCP segment as a list of bytes: its fields by place, and the first fault of its header (RFC 9293 3.1).
+-- A TCP segment as a list of bytes: its fields by place, and the first fault of its header (RFC 9293, section 3.1).
 use Rattle.std.specs.Prelude.{ℕ, ◌*◌, ◌/◌, ◌==◌, ◌&&◌, ◌||◌, nat_lt, not, if◌then◌else◌, Bool, List, length, drop, slice_index, Option, Some, None}
 use Rattle.byteorder.specs.Endian.{big_number}
 use Rattle.zk_base.specs.declared.network.Addr.{Addr}

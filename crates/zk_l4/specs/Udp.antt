@@ -16,7 +16,7 @@ destination_port bytes = big_number 2 (drop 2 bytes)
 unfoldable pub length_field : List ℕ → ℕ
 length_field bytes = big_number 2 (drop 4 bytes)
 
--- 0 where the sender computed none; that this counts over IPv6 too is this project's own rule (RFC 8200 8.1 has it discarded)
+-- 0 where the sender computed none; that this counts over IPv6 too is this project's own rule (RFC 8200, section 8.1 has it discarded)
 unfoldable pub checksum_field : List ℕ → ℕ
 checksum_field bytes = big_number 2 (drop 6 bytes)
 

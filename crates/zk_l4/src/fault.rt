@@ -6,7 +6,7 @@ pub enum L4Fault {
     /// Fewer bytes than the least header: 20 for TCP, 8 for UDP.
     #[error("the header is cut short")]
     Short,
-    /// The data offset of TCP is below 5 words or leads past the bytes (RFC 9293 3.1).
+    /// The data offset of TCP is below 5 words or leads past the bytes (RFC 9293, section 3.1).
     #[error("the data offset is wrong")]
     Offset,
     /// The length field of UDP is below 8 or above the length by the IP header (RFC 768).

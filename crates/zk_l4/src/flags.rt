@@ -1,4 +1,4 @@
-//! The control bits of TCP, as [`crate::Tcp::flags`] holds them (RFC 9293 3.1).
+//! The control bits of TCP, as [`crate::Tcp::flags`] holds them (RFC 9293, section 3.1).
 
 /// The sender has no more bytes to send.
 pub const FIN: u8 = 0x01;

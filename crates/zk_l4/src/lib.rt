@@ -1,7 +1,7 @@
 //! TCP and UDP headers, read in place: each view borrows the bytes of its packet and takes no memory.
 //!
 //! So a payload can't outlive the packet. This does not compile, since `bytes` does not live long
-//! enough:
+//! enough (`checks/borrows` tries it):
 //!
 //! ```text
 //! pub fn payload_outlives_its_segment() -> usize {
@@ -21,10 +21,11 @@ mod fault;
 pub mod flags;
 mod pseudo_header;
 mod tcp;
-#[cfg(test)]
-mod tests;
 mod udp;
 
 pub use fault::L4Fault;
 pub use tcp::Tcp;
 pub use udp::Udp;
+
+#[cfg(test)]
+mod tests;

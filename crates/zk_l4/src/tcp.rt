@@ -31,7 +31,7 @@ const DATA_OFFSET: usize = 12;
 
 const CONTROL_BITS: usize = 13;
 
-/// A TCP segment, or the part of it that was captured (RFC 9293 3.1).
+/// A TCP segment, or the part of it that was captured (RFC 9293, section 3.1).
 #[derive(Clone, Copy, Debug)]
 pub struct Tcp<'a> {
     bytes: &'a [u8],

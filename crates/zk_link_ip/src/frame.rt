@@ -27,7 +27,7 @@ const TYPE_LEN: usize = 2;
 ///
 /// `None` exactly where the frame ends before its type, a third tag follows, a raw frame is empty
 /// or has other first bits, or the link type is neither `LINKTYPE_ETHERNET` nor `LINKTYPE_RAW`.
-pub fn content<'a>(link: u16, frame: &'a [u8]) -> Option<(u16, &'a [u8])>
+pub fn content(link: u16, frame: &[u8]) -> Option<(u16, &[u8])>
     ensures exact { MatchOption result (content_of link frame.now ≡ None)
         (λ found. content_of link frame.now ≡ Some (found.0, found.1.now)) }
     ensures place { IfSome result
@@ -41,7 +41,7 @@ pub fn content<'a>(link: u16, frame: &'a [u8]) -> Option<(u16, &'a [u8])>
 }
 
 /// The IPv4 packet that a frame holds with what follows it there: the content of type 0x0800.
-pub fn ip_part<'a>(link: u16, frame: &'a [u8]) -> Option<&'a [u8]>
+pub fn ip_part(link: u16, frame: &[u8]) -> Option<&[u8]>
     ensures exact { MatchOption result (ip_part_of link frame.now ≡ None)
         (λ part. ip_part_of link frame.now ≡ Some part.now) }
     ensures place { IfSome result
@@ -54,7 +54,7 @@ pub fn ip_part<'a>(link: u16, frame: &'a [u8]) -> Option<&'a [u8]>
 }
 
 /// What an Ethernet frame holds: the first type that is no tag's, and what stands behind it.
-fn ethernet_content<'a>(frame: &'a [u8]) -> Option<(u16, &'a [u8])>
+fn ethernet_content(frame: &[u8]) -> Option<(u16, &[u8])>
     ensures exact { MatchOption result (ethernet_content frame.now ≡ None)
         (λ found. ethernet_content frame.now ≡ Some (found.0, found.1.now)) }
     ensures place { IfSome result
@@ -70,7 +70,7 @@ fn ethernet_content<'a>(frame: &'a [u8]) -> Option<(u16, &'a [u8])>
 }
 
 /// The type at a place and what stands behind it, `None` where the frame ends before that.
-fn type_and_rest<'a>(frame: &'a [u8], place: usize) -> Option<(u16, &'a [u8])>
+fn type_and_rest(frame: &[u8], place: usize) -> Option<(u16, &[u8])>
     requires { place < 2 ^ 32 }
     ensures exact { MatchOption result (length frame.now < place + 2)
         (λ found. (place + 2 ≤ length frame.now) × (found.0 ≡ type_at frame.now place)
@@ -91,7 +91,7 @@ fn is_tag_type(ether_type: u16) -> bool
 }
 
 /// What a raw frame holds: itself, of the type that its first four bits say.
-fn raw_content<'a>(frame: &'a [u8]) -> Option<(u16, &'a [u8])>
+fn raw_content(frame: &[u8]) -> Option<(u16, &[u8])>
     ensures exact { MatchOption result (raw_content frame.now ≡ None)
         (λ found. raw_content frame.now ≡ Some (found.0, found.1.now)) }
     ensures place { IfSome result (λ found. BeginsAt 0 frame.entry found.1) }

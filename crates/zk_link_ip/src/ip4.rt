@@ -176,7 +176,7 @@ impl<'a> Ip4<'a> {
     /// packet is padding, and left out.
     ///
     /// The slice outlives the packet, and not the bytes. So this does not compile: `frame` is
-    /// borrowed past its end.
+    /// borrowed past its end (`checks/borrows` tries it).
     ///
     /// ```text
     /// pub fn payload_outlives_its_frame() -> usize {

@@ -157,7 +157,7 @@ fn a_payload_begins_behind_the_options_and_ends_before_the_padding(rt: HostRunti
 }
 
 /// The payload of a raw frame: it outlives the packet that it was taken from.
-fn payload_of<'a>(frame: &'a [u8]) -> Option<&'a [u8]> {
+fn payload_of(frame: &[u8]) -> Option<&[u8]> {
     let packet = Ip4::read(ip_part(LINKTYPE_RAW, frame)?, false).ok()?;
     Some(packet.payload())
 }

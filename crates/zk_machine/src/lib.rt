@@ -1,4 +1,4 @@
-//! One handler's body at a time: code that runs in a world.
+//! Runs the code of a program, one handler's body at a time.
 #![tactic(auto)]
 
 mod frame;
@@ -7,8 +7,6 @@ mod machine;
 mod texts;
 
 pub use machine::Machine;
-pub use zk_tree::Place;
-pub use zk_typed::{BodyEnd, FaultKind};
 
 #[cfg(test)]
 mod tests;

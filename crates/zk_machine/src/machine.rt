@@ -48,7 +48,7 @@ impl Machine {
         &self.code
     }
 
-    /// Sets network time, which a call of `network_time` gives (Zeek manual, functions, network_time).
+    /// Sets network time, which a call of `network_time` gives (Zeek manual, Functions, network_time).
     pub fn set_time(&mut self, t: Moment)
         ensures stands { (program : Program) (given : List (List ℕ)) (world : World) → StandsFor self.old program given world
             → StandsFor self.new program given (at_time t world) }
@@ -58,9 +58,9 @@ impl Machine {
         self.time = t;
     }
 
-    /// Runs the body of a handler, given its arguments and so many units (Zeek manual, statements,
-    /// event handlers). Each statement that is begun takes a unit, and each call another; a print that
-    /// is spent or at fault prints nothing. Printed lines wait for `out`. `Mem`: memory was wanting, now
+    /// Runs the body of a handler, given its arguments and so many units (Zeek manual,
+    /// Declarations, event). Each statement that is begun takes a unit, and each call another; a print
+    /// that is spent or at fault prints nothing. Printed lines wait for `out`. `Mem`: memory was wanting, now
     /// or at an earlier call, and the machine has failed.
     pub fn body(&mut self, handler: HandlerNo, args: &[Value], budget: u64) -> Result<BodyEnd, Mem>
         requires { handler.0 < length (code_of self.old).handlers }
@@ -89,7 +89,7 @@ impl Machine {
     }
 
     /// The next printed line that was not yet given, or none where all were or the machine has failed.
-    /// Lines come in the order in which they were printed (Zeek manual, statements, print).
+    /// Lines come in the order in which they were printed (Zeek manual, Statements, print).
     pub fn out(&mut self) -> Option<Out>
         ensures some { IfSome result (λ out. (program : Program) (given : List (List ℕ)) (world : World) → StandsFor self.old program given world
             → StandsFor self.new program (given ++ line_in out ∷ []) world) }

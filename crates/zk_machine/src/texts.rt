@@ -23,7 +23,7 @@ pub fn push_bool(line: &mut Vec<u8>, truth: bool) -> Result<(), AllocError>
     line.extend_from_slice(if truth { b"T" } else { b"F" })
 }
 
-/// Adds the text of a value as `print` writes it (Zeek manual, print).
+/// Adds the text of a value as `print` writes it (Zeek manual, Statements, print).
 pub fn push_value(line: &mut Vec<u8>, value: &Value) -> Result<(), AllocError>
     ensures { OnOk result (line.new.items ≡ line.old.items ++ text_of (value_of value.now)) }
 {

@@ -24,16 +24,18 @@ pub struct Capture {
 pub enum CaptureEnding {
     /// The last record ends with the bytes that count.
     Whole,
-    /// No whole record begins at this place, though the bytes that count go on.
+    /// At this place begins a record that isn't whole within the bytes that count, or that says more
+    /// bytes were captured than a record may have.
     Cut { place: u64 },
 }
 
-/// How many bytes of a file count.
+/// The greatest number of bytes of a file that count.
 pub const CAPTURE_MAX: usize = 1 << 40;
 
 /// Reads the packets of a capture (draft-ietf-opsawg-pcap). Only the first 2^40 bytes of the file
 /// count. The capture is cut at the first record that isn't whole within them, or whose captured
-/// length is above 262,144. A fault of the header is refused as `Header::read` does.
+/// length is above 262,144. (Both limits are this project's own.) A fault of the header is refused as
+/// `Header::read` does.
 pub fn packets(alloc: Global, bytes: &[u8]) -> Result<Capture, CaptureFault>
     ensures exact { UnlessNoMemory result (capture_of bytes.now) }
 

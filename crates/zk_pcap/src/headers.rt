@@ -30,14 +30,18 @@ struct Form {
 pub const HEADER_LEN: usize = 24;
 
 // Places of a header's fields.
+
+/// The place of the magic number.
 pub const MAGIC: usize = 0;
 
+/// The place of the first number of the version.
 pub const MAJOR: usize = 4;
 
 const MINOR: usize = 6;
 
 const SNAPLEN: usize = 16;
 
+/// The place of the link type.
 pub const LINK: usize = 20;
 
 // The lengths of the magic number and of the version.

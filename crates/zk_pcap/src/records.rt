@@ -39,8 +39,8 @@ const CAPTURED: usize = 8;
 
 const ORIGINAL: usize = 12;
 
-/// The most bytes that a record may say were captured.
-const CAPTURED_MAX: usize = 262_144;
+/// The most bytes that a record may say were captured: the snaplen that tcpdump sets at most.
+const RECORD_BYTES_MAX: usize = 262_144;
 
 impl<'a> RecordView<'a> {
     /// The record that begins at a place of a file, if it is whole.
@@ -58,7 +58,7 @@ impl<'a> RecordView<'a> {
         if file.len() - data < captured {
             return None;
         }
-        if captured > CAPTURED_MAX {
+        if captured > RECORD_BYTES_MAX {
             return None;
         }
         let seconds = number_at::<T>(file, place);
@@ -80,8 +80,8 @@ impl<'a> RecordView<'a> {
     }
 
     /// The packet with a copy of the bytes.
-    pub fn to_packet(&self, alloc: Global) -> Result<Packet, Mem>
-        ensures { IfOk result (λ packet. packet ≡ packet_of self.now) }
+    pub fn to_packet(self, alloc: Global) -> Result<Packet, Mem>
+        ensures { IfOk result (λ packet. packet ≡ packet_of self.entry) }
     {
         Ok(Packet {
             moment: self.moment,

@@ -58,7 +58,11 @@ fn a_capture_cut_at_each_byte_says_where(rt: HostRuntime) {
             110..194 => Ok((1, CaptureEnding::Cut { place: 109 })),
             _ => Ok((2, CaptureEnding::Whole)),
         };
-        assert_eq!(rt; summary(rt.alloc(), &QUERY_AND_ANSWER[..n]), wanted, "at {n}");
+        assert_eq!(rt;
+            summary(rt.alloc(), &QUERY_AND_ANSWER[..n]),
+            wanted,
+            "at {n}"
+        );
     }
 }
 

@@ -1,2 +1,3 @@
 pub mod Injective
+mod Rows
 pub mod Seconds

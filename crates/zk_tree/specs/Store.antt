@@ -1,4 +1,4 @@
--- The objects that scripts make: records, vectors, sets and tables (Zeek manual, types). A script passes them
+-- The objects that scripts make: records, vectors, sets and tables (Zeek manual, Types). A script passes them
 -- by reference, and none is given back before the run ends.
 use Rattle.std.specs.Prelude.{ℕ, List, Option}
 use Rattle.zk_base.specs.declared.numbers.RecordNo.{RecordNo}

@@ -1,4 +1,4 @@
--- The values that scripts compute with (Zeek manual, types).
+-- The values that scripts compute with (Zeek manual, Types).
 use Rattle.std.specs.Prelude as prelude
 use Rattle.std.specs.Prelude.{ℕ, List}
 use Rattle.zk_base.specs.declared.time.Moment.{Moment}

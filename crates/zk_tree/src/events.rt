@@ -16,7 +16,7 @@ pub const PACKET_SEEN: EventNo = EventNo(2);
 /// The number of a name that no event has.
 const NO_EVENT: EventNo = EventNo(3);
 
-/// The number of the predefined event of a name (Zeek manual, events zeek_init and zeek_done), or how
+/// The number of the predefined event of a name (Zeek manual, Events, zeek_init and zeek_done), or how
 /// many events there are where none has the name.
 pub fn event_number(name: &[u8]) -> EventNo
     ensures { result ≡ event_number name.now }

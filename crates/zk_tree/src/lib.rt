@@ -1,4 +1,4 @@
-//! Tokens and syntax trees of scripts, each with its place in the text.
+//! Tokens and syntax trees of scripts, each with its place in the text, and the predefined events.
 #![tactic(auto)]
 
 mod events;

@@ -27,7 +27,7 @@ pub struct Param {
 }
 
 /// A type.
-#[derive(Debug, Drop)]
+#[derive(Clone, Copy, Debug, PartialEq, Eq)]
 pub enum Type {
     /// `count`
     Count { place: u64 },

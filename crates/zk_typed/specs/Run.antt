@@ -1,4 +1,4 @@
--- A run of a program over the items of a capture (Zeek manual, events zeek_init and zeek_done). Events are
+-- A run of a program over the items of a capture (Zeek manual, Events, zeek_init and zeek_done). Events are
 -- dispatched one at a time: those that an item raises wait in the queue, and so will those that handlers raise.
 use Rattle.std.specs.Prelude.{ℕ, zero, suc, ◌==◌, List, [], ◌∷◌, filter, fold}
 use Rattle.zk_base.specs.declared.numbers.EventNo.{EventNo}

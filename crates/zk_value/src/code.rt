@@ -8,7 +8,7 @@ pub struct Code {
 }
 
 /// The code of a handler: the event that it handles, and its prints, one after another (Zeek manual,
-/// statements, event handlers and print).
+/// Declarations, event, and Statements, print).
 #[derive(Debug, Drop)]
 pub struct HandlerCode {
     pub event: EventNo,

@@ -4,7 +4,7 @@ ghost use Rattle.zk_text.specs.Span.{span_decimal};
 use std::alloc::AllocError;
 use zk_text::{COUNT_TEXT_MAX, SPAN_TEXT_MAX, count_text, span_text};
 
-/// Adds the decimal digits of a number, as `print` writes a `count` (Zeek manual, types, count). Where
+/// Adds the decimal digits of a number, as `print` writes a `count` (Zeek manual, Types, count). Where
 /// memory is wanting nothing is added.
 pub fn push_count(out: &mut Vec<u8>, n: u64) -> Result<(), AllocError>
     ensures ok { OnOk result (out.new.items ≡ out.old.items ++ decimal n) }

@@ -1,6 +1,6 @@
 use zk_base::{Bytes, Moment};
 
-/// A value that a script computes with (Zeek manual, types).
+/// A value that a script computes with (Zeek manual, Types).
 #[derive(Debug, PartialEq, Eq, Drop)]
 pub enum Value {
     /// `T` or `F`.

@@ -6,18 +6,18 @@ use Rattle.zk_base.proofs.contents.Contents.output.Goals as goal
 pub index-requires : goal.index-requires
 index-requires c =
     let outputs = c.args.self.now.outputs.items in
-    let at : number_of outputs c.args.name.now ≡ Some c.in-Some.i = cc in
-    omega (arith, (first_at outputs c.args.name.now c.in-Some.i at).within)
+    let at : number_of outputs c.args.name.now ≡ Some c.in_ok-i.i = cc (c.deref.ensures.value, c.find.ensures, c.in_ok-i.was) in
+    omega (arith, (first_at outputs c.args.name.now c.in_ok-i.i at).within)
 
-pub returns-in-None : goal.returns-in-None
-returns-in-None c =
+pub returns-in_err-i : goal.returns-in_err-i
+returns-in_err-i c =
     let outputs = c.args.self.now.outputs.items in
-    let at : number_of outputs c.args.name.now ≡ None = cc in
-    sym (is_new outputs c.args.name.now 0 at).none
+    let at : number_of outputs c.args.name.now ≡ None = cc (c.deref.ensures.value, c.find.ensures, c.in_err-i.was) in
+    cc (is_new outputs c.args.name.now 0 at).none
 
-pub returns-in-Some : goal.returns-in-Some
-returns-in-Some c =
+pub returns : goal.returns
+returns c =
     let outputs = c.args.self.now.outputs.items in
-    let at : number_of outputs c.args.name.now ≡ Some c.in-Some.i = cc in
+    let at : number_of outputs c.args.name.now ≡ Some c.in_ok-i.i = cc (c.deref.ensures.value, c.find.ensures, c.in_ok-i.was) in
     let file = c.index.result.now in
-    ap Some (c.as_slice.ensures ∙ ap (λ (f : List ℕ × List ℕ). f.1) c.index.ensures) ∙ sym ((first_at outputs c.args.name.now c.in-Some.i at).holds file)
+    ap Some (c.as_slice.ensures ∙ ap (λ (f : List ℕ × List ℕ). f.1) c.index.ensures) ∙ sym ((first_at outputs c.args.name.now c.in_ok-i.i at).holds file)

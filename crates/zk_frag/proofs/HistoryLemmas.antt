@@ -13,17 +13,15 @@ use Rattle.zk_frag.specs.declared.group.Group.{Group}
 use Rattle.zk_frag.specs.declared.key.Key.{Key}
 use Rattle.zk_frag.specs.Fragment.{Fragment, end, same_key, is_ignored}
 use Rattle.zk_frag.specs.Group.{first_moment, is_later, comes_late, joined_by, is_covered}
-use Rattle.zk_frag.specs.Histories.{fragments_of, left_of, open_group, group_of, joined_of, datagram_of}
+use Rattle.zk_frag.specs.Histories.{fragments_of, open_group, group_of, joined_of, datagram_of}
 use Rattle.zk_frag.specs.Standing.{StandsFor}
 use Rattle.zk_frag.specs.Table.{group_at, Keeps, Takes, Stays}
+use Rattle.zk_frag.proofs.GroupLaws.{step}
 use Rattle.zk_frag.proofs.KeyLemmas.{is_eq-key_cmp, same_key_is}
 
 -- the fragment counts for the key
 abbrev counts : Key → Fragment → Bool
 counts key fragment = same_key fragment.key key && not (is_ignored fragment)
-
-abbrev step : List Fragment → Fragment → List Fragment
-step group fragment = left_of (joined_by group fragment)
 
 open_group-append : (key : Key) (given : List Fragment) (last : Fragment) → (b : Bool) → counts key last ≡ b
     → open_group key (given ++ last ∷ []) ≡ cond b (step (open_group key given) last) (open_group key given)

@@ -14,9 +14,13 @@ fragments_of key given = filter (λ fragment. same_key fragment.key key && not (
 abbrev pub left_of : List Fragment → List Fragment
 left_of group = if is_covered group then [] else group
 
+-- the group that is not yet whole, of the fragments of one key that count
+abbrev pub open_of : List Fragment → List Fragment
+open_of fragments = fold (λ group fragment. left_of (joined_by group fragment)) [] fragments
+
 -- the group of a key that is not yet whole
 abbrev pub open_group : Key → List Fragment → List Fragment
-open_group key given = fold (λ group fragment. left_of (joined_by group fragment)) [] (fragments_of key given)
+open_group key given = open_of (fragments_of key given)
 
 -- the group that one more fragment belongs to
 abbrev pub group_of : List Fragment → Fragment → List Fragment

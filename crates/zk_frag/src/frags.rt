@@ -1,11 +1,12 @@
-ghost use Rattle.std.specs.Prelude.{◌≡◌, ◌+◌, ◌*◌, ◌≤◌, true, false, not, List, [], ◌∷◌, ◌++◌, length, vec_len, IsSome, IfOk, OnErr};
+ghost use Rattle.std.specs.Prelude.{◌≡◌, ◌↔◌, ◌+◌, ◌*◌, ◌≤◌, true, false, not, List, [], ◌∷◌, ◌++◌, length, vec_len, IsSome, IfOk, OnErr};
 ghost use Rattle.std.specs.Option.{option_map_or};
 ghost use Rattle.zk_base.specs.declared.time.Moment.{Moment};
 ghost use Rattle.zk_link_ip.specs.Ip4.{offset, payload};
 ghost use Rattle.zk_link_ip.specs.Views.{packet};
 ghost use Rattle.zk_frag.specs.Fragment.{Fragment, fragment_of, is_ignored};
 ghost use Rattle.zk_frag.specs.Group.{is_later};
-ghost use Rattle.zk_frag.specs.Histories.{joined_of, datagram_of};
+ghost use Rattle.zk_frag.specs.Groups.{AreCutInto};
+ghost use Rattle.zk_frag.specs.Histories.{open_of, joined_of, datagram_of};
 
 use crate::assembly::Assembly;
 use crate::group::Group;
@@ -40,6 +41,17 @@ fn is_ignored(ip: &Ip4<'_>) -> bool
 {
     ip.was_cut() || place_of(ip) + ip.payload().len() > IP4_TOTAL_LENGTH_MAX
 }
+
+/// What the groups of fragments are, in the subject's own words. There is nothing to run.
+pub fn fragment_groups()
+    // Fragments can be cut into closed groups and an open one behind them, and each such cutting leaves the same open group.
+    ensures cut { (fragments current : List Fragment) → (open_of fragments ≡ current)
+        ↔ ((groups : List (List Fragment)) × AreCutInto fragments groups current) }
+
+    // There is no other such cutting.
+    ensures one { (fragments current : List Fragment) (groups others : List (List Fragment))
+        → AreCutInto fragments groups current → AreCutInto fragments others current → groups ≡ others }
+{}
 
 /// The fragments of the datagrams of a capture that are not yet whole.
 #[derive(Debug, Drop)]

@@ -6,7 +6,7 @@ mod frags;
 mod group;
 mod key;
 
-pub use frags::{Frags, Joined};
+pub use frags::{Frags, Joined, fragment_groups};
 
 #[cfg(test)]
 mod tests;

@@ -1,12 +1,18 @@
 -- What a shelf of real files shows of the outside.
-use Rattle.std.specs.Prelude.{◌≡◌, ℕ, List, ⊤, take, Bool, Option, Some, None, if◌then◌else◌}
+use Rattle.std.specs.Prelude.{◌≡◌, ℕ, List, ⊤, take, Bool, Option, Some, None, Result, Ok, Err, if◌then◌else◌}
+use Rattle.std.specs.declared.io.Error.{Error}
+use Rattle.std.specs.declared.io.ErrorKind.{ErrorKind}
+use Rattle.std.specs.declared.io.ErrorKind.TheVariants.{NotFound}
+use Rattle.std.specs.IoError.{error_kind}
 use Rattle.std.specs.Io.KnownBytes.{Consumes, Keeps, IsAtEnd}
+use Rattle.zk_base.specs.declared.shelf.Started.{Started}
+use Rattle.zk_base.specs.declared.shelf.Started.TheVariants as started
 use Rattle.zk_base.specs.declared.shelf.Got.{Got}
 use Rattle.zk_base.specs.declared.shelf.Got.TheVariants as got
 use Rattle.zk_base.specs.declared.shelf.Wrote.{Wrote}
 use Rattle.zk_base.specs.declared.shelf.Wrote.TheVariants as wrote
 use Rattle.zk_base.specs.declared.counts.Counts.{Counts}
-use Rattle.zk_base.specs.Counts.{with_write_fault}
+use Rattle.zk_base.specs.Counts.{with_absence, with_read_fault, with_write_fault}
 use Rattle.zk_base.specs.Shelf.{Outside, Closed, Untold, HasRisen}
 
 -- whether an input is open, and the counts; nothing of what files hold
@@ -22,6 +28,23 @@ untold is_open counts = record {
   write_faults = counts.write_faults;
   absences = counts.absences;
 }
+
+-- what comes of a start where the file can't be opened: only one that isn't found is absent
+abbrev pub started_on_error : ErrorKind → Started
+started_on_error NotFound = started.Absent
+started_on_error _ = started.Failed
+
+-- what comes of a start, by what the opening of its file gave
+abbrev pub started_of : {File : Type 0} → Result File Error → Started
+started_of (Ok file) = started.Open
+started_of (Err error) = started_on_error (error_kind error)
+
+-- what a start counts; it takes no memory, so it never wants any
+abbrev pub CountsStart : Counts → Started → Counts → Type 0
+CountsStart old started.Open new = new ≡ old
+CountsStart old started.Absent new = (new ≡ with_absence old) × HasRisen old.absences new.absences
+CountsStart old started.Failed new = (new ≡ with_read_fault old) × HasRisen old.read_faults new.read_faults
+CountsStart old started.NoMemory new = ⊥
 
 -- what a write counts; it takes no memory, so it never wants any
 abbrev pub CountsWrite : Counts → Wrote → Counts → Type 0

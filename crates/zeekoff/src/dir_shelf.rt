@@ -3,7 +3,7 @@ ghost use Rattle.std.specs.IoError.{error_kind};
 ghost use Rattle.std.specs.Str.{IsUtf8};
 ghost use Rattle.std.specs.Io.{ReadsAtMost};
 ghost use Rattle.std.specs.Io.KnownBytes.{Consumes, Keeps, IsAtEnd};
-ghost use Rattle.zeekoff.specs.DirShelf.{CountsWrite};
+ghost use Rattle.zeekoff.specs.DirShelf.{started_of, CountsStart, CountsWrite};
 
 use std::fs::{File, Files};
 use std::io::{ErrorKind, Read, Write};
@@ -45,7 +45,7 @@ impl<F: Files, O: Write, E: Write> DirShelf<F, O, E> {
 
 impl<F: Files, O: Write, E: Write> Shelf for DirShelf<F, O, E> {
     ghost use Rattle.std.specs.Io.KnownBytes.{Appends};
-    ghost use Rattle.zk_base.specs.Shelf.{Starts, is_open, Reads, Puts, after_say, after_complaint};
+    ghost use Rattle.zk_base.specs.Shelf.{Starts, is_open, Reads, Creates, Puts, after_append, after_say, after_complaint};
     ghost use Rattle.zeekoff.specs.DirShelf.{untold, Takes};
 
     ghost outside = { λ shelf. untold (is_some shelf.input) shelf.counts };
@@ -53,22 +53,14 @@ impl<F: Files, O: Write, E: Write> Shelf for DirShelf<F, O, E> {
     fn start(&mut self, name: &[u8]) -> Started
         ensures leaves { Starts (untold (is_some self.old.input) self.old.counts) name.now result (untold (is_some self.new.input) self.new.counts) }
         ensures no_text { ¬ (IsUtf8 name.now) → result ≡ Started.Failed }
+        ensures rest { self.new ≡ record self.old { input = self.new.input; counts = self.new.counts } }
     {
+        // The file before is closed first, so that there are never two.
         self.input = None;
-        match open(&self.files, name) {
-            Ok(file) => {
-                self.input = Some(file);
-                Started::Open
-            }
-            Err(error) if error.kind() == ErrorKind::NotFound => {
-                self.counts.add_absence();
-                Started::Absent
-            }
-            Err(_) => {
-                self.counts.add_read_fault();
-                Started::Failed
-            }
-        }
+        let opened = open(&self.files, name);
+        let answer = started(&opened, &mut self.counts);
+        self.input = opened.ok();
+        answer
     }
 
     fn read(&mut self, buf: &mut [u8]) -> Got
@@ -76,6 +68,7 @@ impl<F: Files, O: Write, E: Write> Shelf for DirShelf<F, O, E> {
         requires input { IsTrue (is_open (untold (is_some self.old.input) self.old.counts).reading) }
         ensures leaves { Reads (untold (is_some self.old.input) self.old.counts) buf.old result buf.new (untold (is_some self.new.input) self.new.counts) }
         ensures took { Takes F.File.remaining self.old.input result buf.new self.new.input }
+        ensures rest { self.new ≡ record self.old { input = self.new.input; counts = self.new.counts } }
     {
         let Some(file) = &mut self.input else {
             unreachable!()
@@ -90,12 +83,18 @@ impl<F: Files, O: Write, E: Write> Shelf for DirShelf<F, O, E> {
         }
     }
 
-    fn create(&mut self, name: &[u8]) -> Wrote {
+    fn create(&mut self, name: &[u8]) -> Wrote
+        ensures leaves { Creates (untold (is_some self.old.input) self.old.counts) name.now result (untold (is_some self.new.input) self.new.counts) }
+        ensures rest { self.new ≡ record self.old { counts = self.new.counts } }
+    {
         let created = create(&self.files, name);
         wrote(created, &mut self.counts)
     }
 
-    fn append(&mut self, name: &[u8], bytes: &[u8]) -> Wrote {
+    fn append(&mut self, name: &[u8], bytes: &[u8]) -> Wrote
+        ensures leaves { Puts (after_append (untold (is_some self.old.input) self.old.counts) name.now) (untold (is_some self.old.input) self.old.counts) bytes.now result (untold (is_some self.new.input) self.new.counts) }
+        ensures rest { self.new ≡ record self.old { counts = self.new.counts } }
+    {
         let appended = append(&self.files, name, bytes);
         wrote(appended, &mut self.counts)
     }
@@ -103,6 +102,7 @@ impl<F: Files, O: Write, E: Write> Shelf for DirShelf<F, O, E> {
     fn say(&mut self, bytes: &[u8]) -> Wrote
         ensures leaves { Puts (after_say (untold (is_some self.old.input) self.old.counts)) (untold (is_some self.old.input) self.old.counts) bytes.now result (untold (is_some self.new.input) self.new.counts) }
         ensures written { result ≡ Wrote.Done → Appends (O.contents self.old.out) (O.contents self.new.out) bytes.now }
+        ensures rest { self.new ≡ record self.old { out = self.new.out; counts = self.new.counts } }
     {
         let said = self.out.write_all(bytes);
         wrote(said, &mut self.counts)
@@ -111,9 +111,28 @@ impl<F: Files, O: Write, E: Write> Shelf for DirShelf<F, O, E> {
     fn complain(&mut self, bytes: &[u8]) -> Wrote
         ensures leaves { Puts (after_complaint (untold (is_some self.old.input) self.old.counts)) (untold (is_some self.old.input) self.old.counts) bytes.now result (untold (is_some self.new.input) self.new.counts) }
         ensures written { result ≡ Wrote.Done → Appends (E.contents self.old.err) (E.contents self.new.err) bytes.now }
+        ensures rest { self.new ≡ record self.old { err = self.new.err; counts = self.new.counts } }
     {
         let complained = self.err.write_all(bytes);
         wrote(complained, &mut self.counts)
+    }
+}
+
+/// What became of the opening of a file, which is counted if none was opened.
+fn started<T>(opened: &io::Result<T>, counts: &mut Counts) -> Started
+    ensures answer { result ≡ started_of opened.now }
+    ensures counted { CountsStart counts.old result counts.new }
+{
+    match opened {
+        Ok(_) => Started::Open,
+        Err(error) if error.kind() == ErrorKind::NotFound => {
+            counts.add_absence();
+            Started::Absent
+        }
+        Err(_) => {
+            counts.add_read_fault();
+            Started::Failed
+        }
     }
 }
 

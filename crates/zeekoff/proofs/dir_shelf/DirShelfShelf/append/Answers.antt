@@ -4,7 +4,7 @@ use Rattle.zeekoff.specs.DirShelf.{untold}
 use Rattle.zeekoff.proofs.WriteLemmas.{puts}
 use Rattle.zeekoff.proofs.dir_shelf.DirShelfShelf.append.Goals as goal
 
-pub returns : goal.returns
-returns g c =
+pub returns-clause-leaves : goal.returns-clause-leaves
+returns-clause-leaves g c =
     let is_open = is_some c.args.self.now.input in
-    record { leaves = puts (after_append (untold is_open c.args.self.now.counts) c.args.name.now) is_open c.args.self.now.counts c.args.bytes.now c.wrote.result c.wrote.new.counts (λ part. refl) c.wrote.ensures.counted }
+    puts (after_append (untold is_open c.args.self.now.counts) c.args.name.now) is_open c.args.self.now.counts c.args.bytes.now c.wrote.result c.wrote.new.counts (λ part. refl) c.wrote.ensures.counted

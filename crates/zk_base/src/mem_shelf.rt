@@ -26,7 +26,8 @@ impl MemShelf {
     ghost use Rattle.zk_base.specs.Faults.{first_half};
 
     /// A shelf with these inputs, each a name and what lies under it, and the numbers of the calls
-    /// that are to fail. Of two inputs with one name the first counts.
+    /// that are to fail. Of two inputs with one name the first counts. So far no memory is taken, and
+    /// `Mem` never comes.
     pub fn new(alloc: Global, inputs: Vec<(Bytes, Bytes)>, fails: Vec<u64>) -> Result<MemShelf, Mem>
         ensures { IfOk result (λ shelf. state_of shelf ≡ record { outside = at_first inputs.items; fails = fails.items; calls = 0 }) }
     {

@@ -21,7 +21,7 @@ impl SureShelf {
     ghost use Rattle.zk_base.specs.SureShelf.{sure_outside, calls_of};
 
     /// A shelf with these inputs, each a name and what lies under it. Of two with one name the
-    /// first counts.
+    /// first counts. So far no memory is taken, and `Mem` never comes.
     pub fn new(alloc: Global, inputs: Vec<(Bytes, Bytes)>) -> Result<SureShelf, Mem>
         ensures outside { IfOk result (λ shelf. sure_outside shelf ≡ at_first inputs.items) }
         ensures calls { IfOk result (λ shelf. calls_of shelf ≡ 0) }

@@ -27,7 +27,8 @@ pub struct Machine {
 impl Machine {
     ghost use Rattle.zk_machine.specs.Standing.{StandsFor, HasFailed, code_of, waiting};
 
-    /// A machine at the beginning of a run: network time is 0, and nothing is printed.
+    /// A machine at the beginning of a run: network time is 0, and nothing is printed. So far no memory
+    /// is taken, and `Mem` never comes.
     pub fn new(alloc: Global, code: Code) -> Result<Machine, Mem>
         ensures stands { IfOk result (λ machine. (program : Program) → code ≡ lowered program → StandsFor machine program [] first_world) }
         ensures code { IfOk result (λ machine. code_of machine ≡ code) }

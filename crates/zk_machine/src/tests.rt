@@ -4,7 +4,8 @@ use super::*;
 use std::alloc::{AllocError, Global};
 use std::test::Fail;
 use zk_base::{Bytes, HandlerNo, Mem, Moment, Sequence};
-use zk_typed::PACKET_SEEN;
+use zk_tree::Place;
+use zk_typed::{BodyEnd, FaultKind, PACKET_SEEN};
 use zk_value::{Code, HandlerCode, Operand, Out, Print, Value};
 
 /// The places of the prints of a handler.

@@ -7,7 +7,7 @@ use Rattle.std.proofs.lemmas.List.{append-nil}
 use Rattle.std.proofs.Math.Seq.{take-append_seam}
 use Rattle.zk_top.specs.declared.command.Slot.{Slot}
 use Rattle.zk_top.specs.declared.command.Slot.TheVariants as slot
-use Rattle.zk_top.specs.Command.{Command, ListItems, RunScript, IsCommand, IsFirstNotUnderstood, is_file_name, fits, list_slots, run_slots, begins_with, command_of, begins, understood}
+use Rattle.zk_top.specs.Command.{Command, ListItems, RunScript, IsCommand, IsFirstNotUnderstood, is_file_name, fits, list_slots, run_slots, begins_with, command_of, begins, first_not_understood}
 
 both : (a b : Bool) → (a && b) ≡ true → (a ≡ true) × (b ≡ true)
 both true b h = (refl, h)
@@ -213,14 +213,14 @@ prefix_taken whole prefix rest word is =
     let size : length one ≡ length prefix + 1 = length-append prefix (word ∷ []) in
     subst (λ n. take n whole ≡ one) size (ap (take (length one)) (is ∙ sym (append_assoc prefix (word ∷ []) rest)) ∙ take-append_seam one rest)
 
-first_from : (whole prefix rest : List (List ℕ)) → whole ≡ prefix ++ rest → IsFirstFrom whole (length prefix) (understood prefix rest)
+first_from : (whole prefix rest : List (List ℕ)) → whole ≡ prefix ++ rest → IsFirstFrom whole (length prefix) (first_not_understood prefix rest)
 first_from whole prefix [] is = first_at_end whole prefix is
 first_from whole prefix (word ∷ rest) is =
     let one : List (List ℕ) = prefix ++ word ∷ [] in
     let taken : take (length prefix + 1) whole ≡ one = prefix_taken whole prefix rest word is in
     let size : length one ≡ length prefix + 1 = length-append prefix (word ∷ []) in
     let long : length whole ≡ length prefix + suc (length rest) = ap length is ∙ length-append prefix (word ∷ rest) in
-    elim (begins one) as (λ b. begins one ≡ b → IsFirstFrom whole (length prefix) (cond b (understood one rest) (length prefix))) [
+    elim (begins one) as (λ b. begins one ≡ b → IsFirstFrom whole (length prefix) (cond b (first_not_understood one rest) (length prefix))) [
       | true ↦ λ begun.
           let later = first_from whole one rest (is ∙ sym (append_assoc prefix (word ∷ []) rest)) in
           record {
@@ -238,7 +238,7 @@ first_from whole prefix (word ∷ rest) is =
       }
     ] refl
 
-pub first : (words : List (List ℕ)) → IsFirstNotUnderstood words (understood [] words)
+pub first : (words : List (List ℕ)) → IsFirstNotUnderstood words (first_not_understood [] words)
 first words =
     let from = first_from words [] words refl in
     record { within = from.within; before = λ n below. from.before n (omega arith) below; there = from.there }

@@ -4,10 +4,10 @@ use Rattle.std.proofs.lemmas.List.{take-append-drop, append-nil}
 use Rattle.zk_base.specs.Shelf.{Outside, HasRisen, FailsToStart, OpensInput, PutsPrefix, after_say, after_complaint, appended}
 use Rattle.zk_top.specs.declared.stop.Stop.{Stop}
 use Rattle.zk_top.specs.declared.stop.Stop.TheVariants.{ReadFault, WriteFault, NoMemory}
-use Rattle.zk_top.specs.Parts.{HasCause, Does, DoesAll, DoesPart}
+use Rattle.zk_top.specs.Parts.{HasCause, IsQuiet, Does, DoesWithoutFault, DoesAll, DoesPart}
 use Rattle.zk_top.specs.Run.{IsPrefix, SameFaults}
 
--- Fronts ---------------------------------------------------------------------------------------------------
+-- Prefixes -------------------------------------------------------------------------------------------------
 
 pub prefix_none : {X : Type 0} (whole : List X) → IsPrefix [] whole
 prefix_none whole = record { rest = whole; joined = refl }
@@ -27,6 +27,11 @@ prefix_more part whole more prefix = record { rest = prefix.rest ++ more; joined
 
 pub prefix_trans : {X : Type 0} (a b c : List X) → IsPrefix a b → IsPrefix b c → IsPrefix a c
 prefix_trans a b c ab bc = record { rest = ab.rest ++ bc.rest; joined = bc.joined ∙ ap (λ xs. xs ++ bc.rest) ab.joined ∙ append_assoc a ab.rest bc.rest }
+
+-- nothing but nothing is a prefix of nothing
+pub prefix_of_none : {X : Type 0} (part : List X) → IsPrefix part [] → part ≡ []
+prefix_of_none [] prefix = refl
+prefix_of_none (x ∷ xs) prefix = let is : [] ≡ x ∷ (xs ++ prefix.rest) = prefix.joined in absurd (let never : ⊥ = cc in never)
 
 -- What is told, after nothing and after two parts ----------------------------------------------------------
 
@@ -58,11 +63,10 @@ does_nothing old = record {
   says = none_appended old.said;
   complains = none_appended old.complained;
   starts = none_named old.started;
-  absences = omega arith;
 }
 
-pub does_nothing_all : (old : Outside) → DoesAll [] [] [] old old
-does_nothing_all old = record { does = does_nothing old; faults = same_faults old }
+pub does_nothing_without_fault : (old : Outside) → DoesWithoutFault [] [] [] old old
+does_nothing_without_fault old = record { does = does_nothing old; faults = same_faults old }
 
 -- one part after another
 pub does_both : (n m : List (List ℕ)) (s t c d : List ℕ) (a b e : Outside) → Does n s c a b → Does m t d b e → Does (n ++ m) (s ++ t) (c ++ d) a e
@@ -72,13 +76,19 @@ does_both n m s t c d a b e first second = record {
   says = second.says ∙ ap (λ o. appended o t) first.says ∙ both_appended a.said s t;
   complains = second.complains ∙ ap (λ o. appended o d) first.complains ∙ both_appended a.complained c d;
   starts = second.starts ∙ ap (λ o. appended o m) first.starts ∙ both_named a.started n m;
-  absences = omega arith;
+}
+
+pub without_fault_both : (n m : List (List ℕ)) (s t c d : List ℕ) (a b e : Outside)
+    → DoesWithoutFault n s c a b → DoesWithoutFault m t d b e → DoesWithoutFault (n ++ m) (s ++ t) (c ++ d) a e
+without_fault_both n m s t c d a b e first second = record {
+  does = does_both n m s t c d a b e first.does second.does;
+  faults = record { read = second.faults.read ∙ first.faults.read; write = second.faults.write ∙ first.faults.write };
 }
 
 pub does_both_all : (n m : List (List ℕ)) (s t c d : List ℕ) (a b e : Outside) → DoesAll n s c a b → DoesAll m t d b e → DoesAll (n ++ m) (s ++ t) (c ++ d) a e
 does_both_all n m s t c d a b e first second = record {
-  does = does_both n m s t c d a b e first.does second.does;
-  faults = record { read = second.faults.read ∙ first.faults.read; write = second.faults.write ∙ first.faults.write };
+  all = without_fault_both n m s t c d a b e first.all second.all;
+  present = second.present ∙ first.present;
 }
 
 -- a count that has risen since no fault
@@ -90,18 +100,19 @@ cause_since a b ReadFault e same cause = (risen_since a.read_faults b.read_fault
 cause_since a b WriteFault e same cause = (risen_since a.write_faults b.write_faults e.write_faults same.write cause.0, cause.1 ∙ same.read)
 cause_since a b NoMemory e same cause = record { read = cause.read ∙ same.read; write = cause.write ∙ same.write }
 
--- a part that is stopped, after one that isn't
-pub does_both_part : (n m : List (List ℕ)) (s t c d : List ℕ) (a b : Outside) (stop : Stop) (e : Outside)
-    → DoesAll n s c a b → DoesPart m t d b stop e → DoesPart (n ++ m) (s ++ t) (c ++ d) a stop e
-does_both_part n m s t c d a b stop e first second = record {
+-- a part that is stopped, after one that isn't and has not complained
+pub does_both_part : (n m : List (List ℕ)) (s t d : List ℕ) (a b : Outside) (stop : Stop) (e : Outside)
+    → DoesWithoutFault n s [] a b → DoesPart m t d b stop e → DoesPart (n ++ m) (s ++ t) d a stop e
+does_both_part n m s t d a b stop e first second = record {
   names_part = n ++ second.names_part;
   names_prefix = prefix_behind n second.names_part m second.names_prefix;
   said_part = s ++ second.said_part;
   said_prefix = prefix_behind s second.said_part t second.said_prefix;
-  complained_part = c ++ second.complained_part;
-  complained_prefix = prefix_behind c second.complained_part d second.complained_prefix;
-  does = does_both n second.names_part s second.said_part c second.complained_part a b e first.does second.does;
+  complained_part = second.complained_part;
+  complained_prefix = second.complained_prefix;
+  does = does_both n second.names_part s second.said_part [] second.complained_part a b e first.does second.does;
   cause = cause_since a b stop e first.faults second.cause;
+  quiet = second.quiet;
 }
 
 -- a prefix of a prefix
@@ -116,7 +127,13 @@ does_part_of n m s t c d a stop e names said complained part = record {
   complained_prefix = prefix_trans part.complained_part c d part.complained_prefix complained;
   does = part.does;
   cause = part.cause;
+  quiet = part.quiet;
 }
+
+quiet_none : (stop : Stop) → IsQuiet stop []
+quiet_none ReadFault = refl
+quiet_none WriteFault = tt
+quiet_none NoMemory = refl
 
 -- stopped before anything was done
 pub stopped_before : (names : List (List ℕ)) (said complained : List ℕ) (old : Outside) (stop : Stop) → HasCause old stop old → DoesPart names said complained old stop old
@@ -129,6 +146,7 @@ stopped_before names said complained old stop cause = record {
   complained_prefix = prefix_none complained;
   does = does_nothing old;
   cause = cause;
+  quiet = quiet_none stop;
 }
 
 pub out_of_memory : (names : List (List ℕ)) (said complained : List ℕ) (old new : Outside) → new ≡ old → DoesPart names said complained old NoMemory new
@@ -151,9 +169,9 @@ said_part piece old new puts = record {
     says = ap (λ (o : Outside). o.said) puts.left;
     complains = ap (λ (o : Outside). o.complained) puts.left ∙ none_appended old.complained;
     starts = ap (λ (o : Outside). o.started) puts.left ∙ none_named old.started;
-    absences = omega (arith, ap (λ (o : Outside). o.absences) puts.left);
   };
   cause = (subst (λ n. HasRisen old.write_faults n) (sym (ap (λ (o : Outside). o.write_faults) puts.left)) puts.risen, ap (λ (o : Outside). o.read_faults) puts.left);
+  quiet = tt;
 }
 
 pub complained_part : (piece : List ℕ) (old new : Outside) → PutsPrefix (after_complaint old) old piece new → DoesPart [] [] piece old WriteFault new
@@ -170,9 +188,9 @@ complained_part piece old new puts = record {
     says = ap (λ (o : Outside). o.said) puts.left ∙ none_appended old.said;
     complains = ap (λ (o : Outside). o.complained) puts.left;
     starts = ap (λ (o : Outside). o.started) puts.left ∙ none_named old.started;
-    absences = omega (arith, ap (λ (o : Outside). o.absences) puts.left);
   };
   cause = (subst (λ n. HasRisen old.write_faults n) (sym (ap (λ (o : Outside). o.write_faults) puts.left)) puts.risen, ap (λ (o : Outside). o.read_faults) puts.left);
+  quiet = tt;
 }
 
 -- a start ----------------------------------------------------------------------------------------------------
@@ -191,20 +209,22 @@ start_part name old new fails = record {
     says = ap (λ (o : Outside). o.said) fails.after ∙ none_appended old.said;
     complains = ap (λ (o : Outside). o.complained) fails.after ∙ none_appended old.complained;
     starts = ap (λ (o : Outside). o.started) fails.after;
-    absences = omega (arith, ap (λ (o : Outside). o.absences) fails.after);
   };
   cause = (subst (λ n. HasRisen old.read_faults n) (sym (ap (λ (o : Outside). o.read_faults) fails.after)) fails.risen, ap (λ (o : Outside). o.write_faults) fails.after);
+  quiet = refl;
 }
 
 pub start_all : (name : List ℕ) (old new : Outside) → OpensInput old name new → DoesAll (name ∷ []) [] [] old new
 start_all name old new opens = record {
-  does = record {
-    inputs_stay = ap (λ (o : Outside). o.inputs) opens.after;
-    outputs_stay = ap (λ (o : Outside). o.outputs) opens.after;
-    says = ap (λ (o : Outside). o.said) opens.after ∙ none_appended old.said;
-    complains = ap (λ (o : Outside). o.complained) opens.after ∙ none_appended old.complained;
-    starts = ap (λ (o : Outside). o.started) opens.after;
-    absences = omega (arith, ap (λ (o : Outside). o.absences) opens.after);
+  all = record {
+    does = record {
+      inputs_stay = ap (λ (o : Outside). o.inputs) opens.after;
+      outputs_stay = ap (λ (o : Outside). o.outputs) opens.after;
+      says = ap (λ (o : Outside). o.said) opens.after ∙ none_appended old.said;
+      complains = ap (λ (o : Outside). o.complained) opens.after ∙ none_appended old.complained;
+      starts = ap (λ (o : Outside). o.started) opens.after;
+    };
+    faults = record { read = ap (λ (o : Outside). o.read_faults) opens.after; write = ap (λ (o : Outside). o.write_faults) opens.after };
   };
-  faults = record { read = ap (λ (o : Outside). o.read_faults) opens.after; write = ap (λ (o : Outside). o.write_faults) opens.after };
+  present = ap (λ (o : Outside). o.absences) opens.after;
 }

@@ -1,5 +1,5 @@
 -- From what the parts of a run do to what a run does.
-use Rattle.std.proofs.Common.{◌≡◌, ◌↔◌, ℕ, ◌≤◌, List, [], ◌∷◌, ◌++◌, Option, Some, None, Result, Ok, Err, inl, refl, sym, ap, subst, ◌∙◌, arith}
+use Rattle.std.proofs.Common.{◌≡◌, ◌↔◌, ℕ, List, [], ◌∷◌, ◌++◌, Option, Some, None, Result, Ok, Err, inl, inr, refl, sym, ap, subst, ◌∙◌}
 use Rattle.std.specs.Option.{option_map}
 use Rattle.std.proofs.lemmas.List.{append-nil}
 use Rattle.zk_base.specs.declared.endings.Ending.{Ending}
@@ -15,7 +15,7 @@ use Rattle.zk_top.specs.Complaint.{complaint_of}
 use Rattle.zk_top.specs.Outcome.{Outcome, Report, no_files, opened, loaded, over_capture, list_report, run_report, running, outcome_of, outcome}
 use Rattle.zk_top.specs.Parts.{IsOfCommand, DoesAll, DoesPart, Fulfils, BreaksOff}
 use Rattle.zk_top.specs.Run.{IsPrefix, files_over, IsDone, OutputsBegun, StaysWithin}
-use Rattle.zk_top.proofs.Doing.{prefix_all, does_nothing_all, does_both_all, does_both_part}
+use Rattle.zk_top.proofs.Doing.{prefix_of_none, prefix_all, does_nothing_without_fault, does_both, without_fault_both, cause_since}
 
 -- Of what is wanted: no file is written, and the complaint is that of the ending ---------------------------------
 
@@ -77,6 +77,7 @@ within_of_done words inputs old ending new told does =
       started = (outcome words inputs).asked;
       started_prefix = prefix_all (outcome words inputs).asked;
       started_is = done.started;
+      complaint_last = inr (record { files = done.files; said = done.said; started = done.started });
     }
 
 pub within_of_broken : (words : List (List ℕ)) (inputs : Files) (old : Outside) (stop : Stop) (new : Outside) → old.inputs ≡ Some inputs
@@ -92,10 +93,15 @@ within_of_broken words inputs old stop new told broken = record {
   started = broken.names;
   started_prefix = broken.names_prefix inputs told;
   started_is = broken.does.starts;
+  complaint_last = elim (broken.complaint_last inputs told) [
+    | inl none ↦ inl none
+    | inr all ↦ inr (record {
+      files = outputs_over (outcome words inputs).files old.outputs new.outputs (plain words inputs).files broken.does.outputs_stay;
+      said = broken.does.says ∙ ap (appended old.said) all.1;
+      started = broken.does.starts ∙ ap (appended old.started) all.0;
+    })
+  ];
 }
-
-risen_then : (a b c : ℕ) → HasRisen a b → b ≤ c → HasRisen a c
-risen_then a b c risen later = record { kept = omega arith; risen = omega arith }
 
 -- with the complaint
 pub with_complaint : (words : List (List ℕ)) (old mid : Outside) (ending : Ending) (new : Outside) → Fulfils (outcome words) [] old ending mid
@@ -103,9 +109,10 @@ pub with_complaint : (words : List (List ℕ)) (old mid : Outside) (ending : End
 with_complaint words old mid ending new does complains = record {
   names = does.names ++ [];
   said = does.said ++ [];
-  does = does_both_all does.names [] does.said [] [] (complaint_of ending) old mid new does.does complains;
+  does = without_fault_both does.names [] does.said [] [] (complaint_of ending) old mid new does.does complains.all;
   whole = does.whole;
-  absent = λ name is. risen_then old.absences mid.absences new.absences (does.absent name is) complains.does.absences;
+  absent = λ name is. subst (HasRisen old.absences) (sym complains.present) (does.absent name is);
+  present = λ other. complains.present ∙ does.present other;
   ends = does.ends;
   names_are = λ inputs told. append-nil does.names ∙ does.names_are inputs told;
   said_is = λ inputs told. append-nil does.said ∙ does.said_is inputs told;
@@ -115,17 +122,21 @@ with_complaint words old mid ending new does complains = record {
 pub broken_complaint : (words : List (List ℕ)) (old mid : Outside) (ending : Ending) (stop : Stop) (new : Outside) → Fulfils (outcome words) [] old ending mid
     → DoesPart [] [] (complaint_of ending) mid stop new → BreaksOff (outcome words) old stop new
 broken_complaint words old mid ending stop new does part =
-    let both : DoesPart (does.names ++ []) (does.said ++ []) (complaint_of ending) old stop new =
-    does_both_part does.names [] does.said [] [] (complaint_of ending) old mid stop new does.does part in
+    let no_names : part.names_part ≡ [] = prefix_of_none part.names_part part.names_prefix in
+    let no_said : part.said_part ≡ [] = prefix_of_none part.said_part part.said_prefix in
+    let names : does.names ++ part.names_part ≡ does.names = ap (λ xs. does.names ++ xs) no_names ∙ append-nil does.names in
+    let said : does.said ++ part.said_part ≡ does.said = ap (λ xs. does.said ++ xs) no_said ∙ append-nil does.said in
     record {
-      names = both.names_part;
-      said = both.said_part;
-      complained = both.complained_part;
-      does = both.does;
-      cause = both.cause;
-      names_prefix = λ inputs told. subst (λ names. IsPrefix both.names_part names) (append-nil does.names ∙ does.names_are inputs told) both.names_prefix;
-      said_prefix = λ inputs told. subst (λ said. IsPrefix both.said_part said) (append-nil does.said ∙ does.said_is inputs told) both.said_prefix;
-      complained_prefix = λ inputs told. subst (λ text. IsPrefix both.complained_part text) (ap complaint_of (does.ends inputs told) ∙ sym (plain words inputs).complained) both.complained_prefix;
+      names = does.names ++ part.names_part;
+      said = does.said ++ part.said_part;
+      complained = part.complained_part;
+      does = does_both does.names part.names_part does.said part.said_part [] part.complained_part old mid new does.does.does part.does;
+      cause = cause_since old mid stop new does.does.faults part.cause;
+      quiet = part.quiet;
+      names_prefix = λ inputs told. subst (λ xs. IsPrefix xs (outcome words inputs).asked) (sym (names ∙ does.names_are inputs told)) (prefix_all (outcome words inputs).asked);
+      said_prefix = λ inputs told. subst (λ xs. IsPrefix xs (outcome words inputs).said) (sym (said ∙ does.said_is inputs told)) (prefix_all (outcome words inputs).said);
+      complained_prefix = λ inputs told. subst (λ text. IsPrefix part.complained_part text) (ap complaint_of (does.ends inputs told) ∙ sym (plain words inputs).complained) part.complained_prefix;
+      complaint_last = λ inputs told. inr (names ∙ does.names_are inputs told, said ∙ does.said_is inputs told);
     }
 
 -- words that are no command
@@ -133,9 +144,10 @@ pub not_understood : (words : List (List ℕ)) (word : ℕ) (old : Outside) → 
 not_understood words word old is = record {
   names = [];
   said = [];
-  does = does_nothing_all old;
+  does = does_nothing_without_fault old;
   whole = tt;
   absent = λ name same. absurd (let never : ⊥ = cc in never);
+  present = λ other. refl;
   ends = λ inputs told. ap (λ asked. (outcome_of asked inputs).ending) (sym is);
   names_are = λ inputs told. ap (λ asked. (outcome_of asked inputs).asked) (sym is);
   said_is = λ inputs told. ap (λ asked. (outcome_of asked inputs).said) (sym is);

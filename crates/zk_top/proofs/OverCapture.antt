@@ -22,9 +22,9 @@ use Rattle.zk_parse.specs.Reading.{tree_of}
 use Rattle.zk_top.specs.Script.{Refusal, script_max, program_by, script_of}
 use Rattle.zk_top.specs.Tokens.{tokens_of}
 use Rattle.zk_top.specs.Outcome.{Report, over_capture, judged, opened, accepted, loaded, end_of_capture}
-use Rattle.zk_top.specs.Parts.{IsRefusal, IsOfCommand, IsReadBeyond, IsReadOf, DoesAll, DoesPart, Finds, Fulfils, BreaksOff}
-use Rattle.zk_top.specs.Run.{IsNotStopped, IsPrefix}
-use Rattle.zk_top.proofs.Doing.{prefix_none, prefix_trans, does_both_all, does_both_part}
+use Rattle.zk_top.specs.Parts.{IsRefusal, IsOfCommand, IsReadBeyond, IsReadOf, DoesWithoutFault, DoesAll, DoesPart, Finds, Fulfils, BreaksOff}
+use Rattle.zk_top.specs.Run.{IsNotStopped, IsPrefix, SameAbsences}
+use Rattle.zk_top.proofs.Doing.{prefix_none, prefix_of_none, prefix_trans, without_fault_both, does_both_part}
 
 -- a refusal that isn't for want of memory
 pub refused : (why : CaptureFault) (wanted : Result Capture CaptureFault) → UnlessNoMemory (Err why) wanted → why ≢ fault.NoMemory → wanted ≡ Err why
@@ -87,28 +87,32 @@ broken_before report file old stop new part = record {
   complained = part.complained_part;
   does = part.does;
   cause = part.cause;
+  quiet = part.quiet;
   names_prefix = λ inputs told. subst (λ names. IsPrefix part.names_part names) (sym (asked report (file ∷ []) (opened file (inputs file)))) part.names_prefix;
   said_prefix = λ inputs told. let whole : List ℕ = (over_capture report (file ∷ []) (opened file (inputs file))).said in
       prefix_trans part.said_part [] whole part.said_prefix (prefix_none whole);
   complained_prefix = λ inputs told. let whole : List ℕ = (over_capture report (file ∷ []) (opened file (inputs file))).complained in
       prefix_trans part.complained_part [] whole part.complained_prefix (prefix_none whole);
+  complaint_last = λ inputs told. inl (prefix_of_none part.complained_part part.complained_prefix);
 }
 
 -- stopped while its lines were said
 pub broken_within : (report : Capture → Report) (file : List ℕ) (capture : Capture) (old mid : Outside) (stop : Stop) (new : Outside) → Finds file (opened file) old (Accepted capture) mid
     → DoesPart [] (report capture).said [] mid stop new → BreaksOff (λ inputs. over_capture report (file ∷ []) (opened file (inputs file))) old stop new
 broken_within report file capture old mid stop new found says =
-    let part : DoesPart (file ∷ []) (report capture).said [] old stop new = does_both_part (file ∷ []) [] [] (report capture).said [] [] old mid stop new found.does says in
+    let part : DoesPart (file ∷ []) (report capture).said [] old stop new = does_both_part (file ∷ []) [] [] (report capture).said [] old mid stop new found.does says in
     record {
       names = part.names_part;
       said = part.said_part;
       complained = part.complained_part;
       does = part.does;
       cause = part.cause;
+      quiet = part.quiet;
       names_prefix = λ inputs told. subst (λ names. IsPrefix part.names_part names) (sym (asked report (file ∷ []) (opened file (inputs file)))) part.names_prefix;
       said_prefix = λ inputs told. subst (λ r. IsPrefix part.said_part (over_capture report (file ∷ []) r).said) (found.told inputs told) part.said_prefix;
       complained_prefix = λ inputs told. let whole : List ℕ = (over_capture report (file ∷ []) (opened file (inputs file))).complained in
           prefix_trans part.complained_part [] whole part.complained_prefix (prefix_none whole);
+      complaint_last = λ inputs told. inl (prefix_of_none part.complained_part part.complained_prefix);
     }
 
 -- its lines were said
@@ -118,9 +122,10 @@ pub fulfilled : (report : Capture → Report) (file : List ℕ) (capture : Captu
 fulfilled report file capture old mid e new found is same says = record {
   names = file ∷ [];
   said = (report capture).said;
-  does = does_both_all (file ∷ []) [] [] (report capture).said [] [] old mid new found.does says;
+  does = without_fault_both (file ∷ []) [] [] (report capture).said [] [] old mid new found.does says.all;
   whole = subst IsNotStopped (sym is) (whole_end file capture.ending);
   absent = λ name same. absurd (not_absent file capture.ending name (sym is ∙ same));
+  present = λ other. says.present ∙ found.present (λ name same. let never : ⊥ = cc in never);
   ends = λ inputs told. is ∙ sym same ∙ ap (λ r. (over_capture report (file ∷ []) r).ending) (found.told inputs told);
   names_are = λ inputs told. sym (asked report (file ∷ []) (opened file (inputs file)));
   said_is = λ inputs told. ap (λ r. (over_capture report (file ∷ []) r).said) (found.told inputs told);
@@ -135,6 +140,7 @@ fulfilled_refused report file old e new found = record {
   does = found.does;
   whole = whole_refusal e (found.refusal e refl);
   absent = λ name same. found.absent name (ap Refused same);
+  present = λ other. found.present (λ name same. other name (let is : e ≡ ending.NoInput name = cc in is));
   ends = λ inputs told. ap (λ r. (over_capture report (file ∷ []) r).ending) (found.told inputs told);
   names_are = λ inputs told. sym (asked report (file ∷ []) (opened file (inputs file)));
   said_is = λ inputs told. ap (λ r. (over_capture report (file ∷ []) r).said) (found.told inputs told);
@@ -169,13 +175,14 @@ opened_as file bytes None read = absurd read
 opened_as file bytes (Some whole) read = ap (judged file) (capture_read whole bytes read)
 
 -- a capture was read
-pub found_capture : (file bytes : List ℕ) (old : Outside) (found : Found Capture) (new : Outside) → DoesAll (file ∷ []) [] [] old new → IfSome old.inputs (λ files. IsReadOf (2 ^ 40) (files file) (Some bytes))
-    → found ≡ judged file (capture_of bytes) → Finds file (opened file) old found new
-found_capture file bytes old found new read holds is = record {
+pub found_capture : (file bytes : List ℕ) (old : Outside) (found : Found Capture) (new : Outside) → DoesWithoutFault (file ∷ []) [] [] old new → SameAbsences old new
+    → IfSome old.inputs (λ files. IsReadOf (2 ^ 40) (files file) (Some bytes)) → found ≡ judged file (capture_of bytes) → Finds file (opened file) old found new
+found_capture file bytes old found new read present holds is = record {
   does = read;
   told = λ inputs t. is ∙ opened_as file bytes (inputs file) (told old.inputs inputs file (Some bytes) (2 ^ 40) t holds);
   refusal = λ e same. judged_refusal file (capture_of bytes) e (sym is ∙ same);
   absent = λ name same. absurd (judged_there file (capture_of bytes) name (sym is ∙ same));
+  present = λ other. present;
 }
 
 -- there is no capture
@@ -183,13 +190,14 @@ lacks_capture : (file : List ℕ) (input : Option (List ℕ)) → IsReadOf (2 ^ 
 lacks_capture file None read = refl
 lacks_capture file (Some whole) read = absurd read
 
-pub found_no_capture : (file : List ℕ) (old new : Outside) → DoesAll (file ∷ []) [] [] old new → IfSome old.inputs (λ files. IsReadOf (2 ^ 40) (files file) None) → HasRisen old.absences new.absences
+pub found_no_capture : (file : List ℕ) (old new : Outside) → DoesWithoutFault (file ∷ []) [] [] old new → IfSome old.inputs (λ files. IsReadOf (2 ^ 40) (files file) None) → HasRisen old.absences new.absences
     → Finds file (opened file) old (Refused (ending.NoInput file)) new
 found_no_capture file old new read lacks risen = record {
   does = read;
   told = λ inputs t. lacks_capture file (inputs file) (told old.inputs inputs file None (2 ^ 40) t lacks);
   refusal = λ e same. let is : ending.NoInput file ≡ e = cc in subst IsRefusal is tt;
   absent = λ name same. risen;
+  present = λ other. absurd (other file refl);
 }
 
 accepted_refusal : (file : List ℕ) (read : Result Program Refusal) (e : Ending) → accepted file read ≡ Refused e → IsRefusal e
@@ -215,13 +223,14 @@ loaded_as file text None read = absurd read
 loaded_as file text (Some whole) read = ap (accepted file) (script_read whole text read)
 
 -- a script was read
-pub found_script : (file text : List ℕ) (old new : Outside) → DoesAll (file ∷ []) [] [] old new → IfSome old.inputs (λ files. IsReadOf script_max (files file) (Some text))
-    → Finds file (loaded file) old (accepted file (script_of text)) new
-found_script file text old new read holds = record {
+pub found_script : (file text : List ℕ) (old new : Outside) → DoesWithoutFault (file ∷ []) [] [] old new → SameAbsences old new
+    → IfSome old.inputs (λ files. IsReadOf script_max (files file) (Some text)) → Finds file (loaded file) old (accepted file (script_of text)) new
+found_script file text old new read present holds = record {
   does = read;
   told = λ inputs t. loaded_as file text (inputs file) (told old.inputs inputs file (Some text) script_max t holds);
   refusal = accepted_refusal file (script_of text);
   absent = λ name same. absurd (accepted_there file (script_of text) name same);
+  present = λ other. present;
 }
 
 -- there is no script
@@ -229,11 +238,12 @@ lacks_script : (file : List ℕ) (input : Option (List ℕ)) → IsReadOf script
 lacks_script file None read = refl
 lacks_script file (Some whole) read = absurd read
 
-pub found_no_script : (file : List ℕ) (old new : Outside) → DoesAll (file ∷ []) [] [] old new → IfSome old.inputs (λ files. IsReadOf script_max (files file) None) → HasRisen old.absences new.absences
+pub found_no_script : (file : List ℕ) (old new : Outside) → DoesWithoutFault (file ∷ []) [] [] old new → IfSome old.inputs (λ files. IsReadOf script_max (files file) None) → HasRisen old.absences new.absences
     → Finds file (loaded file) old (Refused (ending.NoInput file)) new
 found_no_script file old new read lacks risen = record {
   does = read;
   told = λ inputs t. lacks_script file (inputs file) (told old.inputs inputs file None script_max t lacks);
   refusal = λ e same. let is : ending.NoInput file ≡ e = cc in subst IsRefusal is tt;
   absent = λ name same. risen;
+  present = λ other. absurd (other file refl);
 }

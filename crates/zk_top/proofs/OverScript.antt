@@ -1,6 +1,7 @@
 -- What is done for a script and a capture.
-use Rattle.std.proofs.Common.{◌≡◌, ℕ, ◌≤◌, List, [], ◌∷◌, Some, refl, sym, ap, subst, ◌∙◌, arith}
+use Rattle.std.proofs.Common.{◌≡◌, ℕ, inl, inr, List, [], ◌∷◌, Some, refl, sym, ap, subst, ◌∙◌}
 use Rattle.zk_base.specs.declared.endings.Ending.{Ending}
+use Rattle.zk_base.specs.declared.endings.Ending.TheVariants.{NoInput}
 use Rattle.zk_base.specs.Shelf.{Files, Outside, HasRisen}
 use Rattle.zk_pcap.specs.declared.captures.Capture.{Capture}
 use Rattle.zk_typed.specs.declared.program.Program.{Program}
@@ -12,8 +13,8 @@ use Rattle.zk_machine.specs.Lowered.{lowered}
 use Rattle.zk_top.specs.Lowering.{code_found}
 use Rattle.zk_top.specs.Outcome.{Outcome, Report, over_capture, opened, loaded, run_report, running}
 use Rattle.zk_top.specs.Parts.{DoesPart, Finds, Fulfils, BreaksOff}
-use Rattle.zk_top.specs.Run.{IsPrefix}
-use Rattle.zk_top.proofs.Doing.{prefix_none, prefix_all, prefix_trans, prefix_behind, cause_since, does_both, does_both_all}
+use Rattle.zk_top.specs.Run.{IsPrefix, SameAbsences}
+use Rattle.zk_top.proofs.Doing.{prefix_none, prefix_of_none, prefix_all, prefix_trans, prefix_behind, cause_since, does_both, without_fault_both}
 use Rattle.zk_top.proofs.OverCapture.{whole_refusal}
 
 -- the same with that name before
@@ -34,8 +35,9 @@ same_run file script program inputs = same_over (run_report file program) script
 told_still : (old mid : Outside) (inputs : Files) → mid.inputs ≡ old.inputs → old.inputs ≡ Some inputs → mid.inputs ≡ Some inputs
 told_still old mid inputs stay told = stay ∙ told
 
-risen_before : (a b c : ℕ) → a ≤ b → HasRisen b c → HasRisen a c
-risen_before a b c le risen = record { kept = omega (arith, risen.kept); risen = omega (arith, risen.kept, risen.risen) }
+-- a program was found, so its input is there
+program_present : (script : List ℕ) (program : Program) (old mid : Outside) → Finds script (loaded script) old (Accepted program) mid → SameAbsences old mid
+program_present script program old mid found = found.present (λ name same. let never : ⊥ = cc in never)
 
 -- the program ran over the capture
 pub fulfilled_run : (file script : List ℕ) (program : Program) (old mid : Outside) (e : Ending) (new : Outside) → Finds script (loaded script) old (Accepted program) mid
@@ -44,9 +46,10 @@ pub fulfilled_run : (file script : List ℕ) (program : Program) (old mid : Outs
 fulfilled_run file script program old mid e new found ran = record {
   names = script ∷ ran.names;
   said = ran.said;
-  does = does_both_all (script ∷ []) ran.names [] ran.said [] [] old mid new found.does ran.does;
+  does = without_fault_both (script ∷ []) ran.names [] ran.said [] [] old mid new found.does ran.does;
   whole = ran.whole;
-  absent = λ name same. risen_before old.absences mid.absences new.absences found.does.does.absences (ran.absent name same);
+  absent = λ name same. subst (λ n. HasRisen n new.absences) (program_present script program old mid found) (ran.absent name same);
+  present = λ other. ran.present other ∙ program_present script program old mid found;
   ends = λ inputs t. ran.ends inputs (told_still old mid inputs found.does.does.inputs_stay t)
       ∙ ((same_run file script program inputs).ending ∙ ap (λ p. (running file script p inputs).ending) (found.told inputs t));
   names_are = λ inputs t. ap (λ names. script ∷ names) (ran.names_are inputs (told_still old mid inputs found.does.does.inputs_stay t))
@@ -65,6 +68,7 @@ stopped_run file script program old mid stop new found part = record {
   complained = part.complained;
   does = does_both (script ∷ []) part.names [] part.said [] part.complained old mid new found.does.does part.does;
   cause = cause_since old mid stop new found.does.faults part.cause;
+  quiet = part.quiet;
   names_prefix = λ inputs t.
       let inside = part.names_prefix inputs (told_still old mid inputs found.does.does.inputs_stay t) in
       subst (λ names. IsPrefix (script ∷ part.names) names)
@@ -76,6 +80,13 @@ stopped_run file script program old mid stop new found part = record {
   complained_prefix = λ inputs t. subst (λ said. IsPrefix part.complained said)
       ((same_run file script program inputs).complained ∙ ap (λ p. (running file script p inputs).complained) (found.told inputs t))
       (part.complained_prefix inputs (told_still old mid inputs found.does.does.inputs_stay t));
+  complaint_last = λ inputs t. elim (part.complaint_last inputs (told_still old mid inputs found.does.does.inputs_stay t)) [
+    | inl none ↦ inl none
+    | inr all ↦ inr (
+      ap (λ names. script ∷ names) all.0 ∙ ((same_run file script program inputs).asked ∙ ap (λ p. (running file script p inputs).asked) (found.told inputs t)),
+      all.1 ∙ ((same_run file script program inputs).said ∙ ap (λ p. (running file script p inputs).said) (found.told inputs t)),
+    )
+  ];
 }
 
 asked_file : (program : Program) (file : List ℕ) (found : Found Capture) → (over_capture (run_report file program) (file ∷ []) found).asked ≡ file ∷ []
@@ -95,6 +106,7 @@ refused_script file script old e new found = record {
   does = found.does;
   whole = whole_refusal e (found.refusal e refl);
   absent = λ name same. found.absent name (ap Refused same);
+  present = λ other. found.present (λ name same. other name (let is : e ≡ NoInput name = cc in is));
   ends = λ inputs t. ap (λ p. (running file script p inputs).ending) (found.told inputs t);
   names_are = λ inputs t. ap (λ p. (running file script p inputs).asked) (found.told inputs t);
   said_is = λ inputs t. ap (λ p. (running file script p inputs).said) (found.told inputs t);
@@ -109,12 +121,14 @@ stopped_script file script old stop new part = record {
   complained = part.complained_part;
   does = part.does;
   cause = part.cause;
+  quiet = part.quiet;
   names_prefix = λ inputs t. let whole : Outcome = running file script (loaded script (inputs script)) inputs in
       prefix_trans part.names_part (script ∷ []) whole.asked part.names_prefix (asked_first file script (loaded script (inputs script)) inputs);
   said_prefix = λ inputs t. let whole : Outcome = running file script (loaded script (inputs script)) inputs in
       prefix_trans part.said_part [] whole.said part.said_prefix (prefix_none whole.said);
   complained_prefix = λ inputs t. let whole : Outcome = running file script (loaded script (inputs script)) inputs in
       prefix_trans part.complained_part [] whole.complained part.complained_prefix (prefix_none whole.complained);
+  complaint_last = λ inputs t. inl (prefix_of_none part.complained_part part.complained_prefix);
 }
 
 -- the program that a code was made from

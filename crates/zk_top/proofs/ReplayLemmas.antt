@@ -36,7 +36,7 @@ pub stopped_in : (first : Outside) (program : Program) (taken : List (List ℕ))
 stopped_in first program taken world replay mid whole stop new come prefix part =
     does_part_of [] [] (come.said ++ replay.piece.items) whole [] [] first stop new (prefix_all [])
     (subst (λ text. IsPrefix text whole) come.joined prefix) (prefix_all [])
-    (does_both_part [] [] come.said replay.piece.items [] [] first mid stop new come.does part)
+    (does_both_part [] [] come.said replay.piece.items [] first mid stop new come.does.all part)
 
 -- for want of memory
 pub stopped_for_memory : (first : Outside) (program : Program) (taken : List (List ℕ)) (world : World) (replay : Replay) (mid : Outside) (whole : List ℕ)

@@ -54,4 +54,4 @@ pub said_part_of : (first old : Outside) (packets : List Packet) (index : ℕ) (
 said_part_of first old packets index time piece stop new far part =
     does_part_of [] [] (far.said ++ piece) (lines_of (items_of packets)) [] [] first stop new (prefix_all [])
     (record { rest = lines_of (items_after (take index packets) (drop index packets)); joined = far.lines }) (prefix_all [])
-    (does_both_part [] [] far.said piece [] [] first old stop new far.does part)
+    (does_both_part [] [] far.said piece [] first old stop new far.does.all part)

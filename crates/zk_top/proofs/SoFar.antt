@@ -5,7 +5,7 @@ use Rattle.std.proofs.lemmas.List.{append-nil, take-append-drop, length-take-le,
 use Rattle.std.proofs.Math.Seq.{take-append_seam, take-add}
 use Rattle.zk_base.specs.Shelf.{Files, Outside, Reading, Closed, Untold, At, is_open, bytes_from, rest_of, advanced, opened, GivesBytes, FailsToRead, FindsNone, OpensInput, IsReadOut, HasRisen}
 use Rattle.zk_top.specs.declared.stop.Stop.TheVariants.{ReadFault, NoMemory}
-use Rattle.zk_top.specs.Parts.{Does, DoesAll, DoesPart, IsReadBeyond, IsReadOf}
+use Rattle.zk_top.specs.Parts.{Does, DoesWithoutFault, DoesPart, IsReadBeyond, IsReadOf}
 use Rattle.zk_top.specs.Run.{SameFaults}
 use Rattle.zk_top.proofs.Doing.{does_nothing, prefix_none, does_both_part}
 
@@ -61,27 +61,6 @@ read_more first now new bytes longer before after n far given joined =
       same = given.goes_on ∙ ap (λ (o : Outside). record o { reading = advanced now.reading n }) far.same ∙ ap (λ r. record first { reading = r }) (sym reading);
     }
 
--- the buffer after one more read: the bytes before, and those that were given
-pub grown : (old resized buf rest items : List ℕ) (len n size : ℕ) → take len resized ≡ old → take len buf ≡ take len resized → length buf ≡ size
-    → items ≡ take (len + n) (take size (buf ++ rest)) → items ≡ old ++ take n (drop len buf)
-grown old resized buf rest items len n size before kept sized is =
-    is
-    ∙ ap (take (len + n)) (subst (λ m. take m (buf ++ rest) ≡ buf) sized (take-append_seam buf rest))
-    ∙ take-add len n buf
-    ∙ ap (λ prefix. prefix ++ take n (drop len buf)) (kept ∙ before)
-
--- the buffer after nothing more was read
-pub cut_back : (old resized buf rest items : List ℕ) (len size : ℕ) → take len resized ≡ old → take len buf ≡ take len resized → length buf ≡ size
-    → items ≡ take len (take size (buf ++ rest)) → items ≡ old
-cut_back old resized buf rest items len size before kept sized is =
-    is ∙ (ap (take len) (subst (λ m. take m (buf ++ rest) ≡ buf) sized (take-append_seam buf rest)) ∙ (kept ∙ before))
-
--- the front of a buffer that was made longer
-pub kept_by_resize : (old zeros resized now : List ℕ) (len more : ℕ) → now ≡ resized → resized ≡ take (len + more) old ++ zeros → len ≡ length old → take len now ≡ old
-kept_by_resize old zeros resized now len more same is all =
-    let whole : take (len + more) old ≡ old = take_all (len + more) old (omega arith) in
-    ap (take len) (same ∙ is ∙ ap (λ xs. xs ++ zeros) whole) ∙ subst (λ m. take m (old ++ zeros) ≡ old) (sym all) (take-append_seam old zeros)
-
 -- what a read of a part has done
 does_read : (first now : Outside) (bytes : List ℕ) → IsReadSoFar first bytes now → Does [] [] [] first now
 does_read first now bytes far =
@@ -92,7 +71,6 @@ does_read first now bytes far =
       says = (does_nothing first).says;
       complains = (does_nothing first).complains;
       starts = (does_nothing first).starts;
-      absences = omega arith;
     })
 
 same_faults_read : (first now : Outside) (bytes : List ℕ) → IsReadSoFar first bytes now → SameFaults first now
@@ -109,11 +87,12 @@ stopped_for_memory first now bytes far = record {
   complained_prefix = prefix_none [];
   does = does_read first now bytes far;
   cause = same_faults_read first now bytes far;
+  quiet = refl;
 }
 
 pub stopped_by_input : (first now new : Outside) (bytes : List ℕ) → IsReadSoFar first bytes now → FailsToRead now new → DoesPart [] [] [] first ReadFault new
 stopped_by_input first now new bytes far fails =
-    let all : DoesAll [] [] [] first now = record { does = does_read first now bytes far; faults = same_faults_read first now bytes far } in
+    let all : DoesWithoutFault [] [] [] first now = record { does = does_read first now bytes far; faults = same_faults_read first now bytes far } in
     let part : DoesPart [] [] [] now ReadFault new = record {
       names_part = [];
       names_prefix = prefix_none [];
@@ -127,11 +106,11 @@ stopped_by_input first now new bytes far fails =
         says = (does_nothing now).says;
         complains = (does_nothing now).complains;
         starts = (does_nothing now).starts;
-        absences = omega arith;
       });
       cause = (subst (λ n. HasRisen now.read_faults n) (sym (ap (λ (o : Outside). o.read_faults) fails.after)) fails.risen, ap (λ (o : Outside). o.write_faults) fails.after);
+      quiet = refl;
     } in
-    does_both_part [] [] [] [] [] [] first now ReadFault new all part
+    does_both_part [] [] [] [] [] first now ReadFault new all part
 
 -- How far an input is read ------------------------------------------------------------------------------------------
 

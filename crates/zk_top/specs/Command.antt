@@ -65,15 +65,15 @@ command_of (verb ∷ bare ∷ read ∷ file ∷ script ∷ []) =
 command_of words = None
 
 -- with words that begin a command before them: the number of words up to the first with which they don't
-abbrev pub understood : List (List ℕ) → List (List ℕ) → ℕ
-understood before [] = length before
-understood before (word ∷ words) =
-    if begins (before ++ word ∷ []) then understood (before ++ word ∷ []) words else length before
+abbrev pub first_not_understood : List (List ℕ) → List (List ℕ) → ℕ
+first_not_understood before [] = length before
+first_not_understood before (word ∷ words) =
+    if begins (before ++ word ∷ []) then first_not_understood (before ++ word ∷ []) words else length before
 
 -- the command, or the number of the first word that isn't understood
 abbrev pub command_or : Option Command → List (List ℕ) → Result Command ℕ
 command_or (Some command) words = Ok command
-command_or None words = Err (understood [] words)
+command_or None words = Err (first_not_understood [] words)
 
 abbrev pub understand : List (List ℕ) → Result Command ℕ
 understand words = command_or (command_of words) words

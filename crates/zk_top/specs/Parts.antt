@@ -1,5 +1,5 @@
 -- What a part of a run does to the outside, up to its end or to where it is stopped.
-use Rattle.std.specs.Prelude.{◌≡◌, ◌⊎◌, ◌<◌, ◌≤◌, ℕ, List, [], ◌∷◌, ◌++◌, length, Option, Some, None}
+use Rattle.std.specs.Prelude.{◌≡◌, ◌≢◌, ◌⊎◌, ◌<◌, ℕ, List, [], ◌∷◌, ◌++◌, length, Option, Some, None}
 use Rattle.zk_base.specs.declared.endings.Ending.{Ending}
 use Rattle.zk_base.specs.declared.endings.Ending.TheVariants.{Done, Usage, ScriptRefused, NoInput, CaptureRefused, CutShort, ReadFault, WriteFault, NoMemory, Flood}
 use Rattle.zk_base.specs.Shelf.{Files, Outside, HasRisen, appended}
@@ -8,7 +8,7 @@ use Rattle.zk_top.specs.declared.found.Found.TheVariants.{Refused}
 use Rattle.zk_top.specs.declared.stop.Stop.{Stop}
 use Rattle.zk_top.specs.declared.stop.Stop.TheVariants as stop
 use Rattle.zk_top.specs.Outcome.{Outcome}
-use Rattle.zk_top.specs.Run.{IsNotStopped, IsPrefix, SameFaults}
+use Rattle.zk_top.specs.Run.{IsNotStopped, IsPrefix, SameFaults, SameAbsences}
 
 -- an input is absent or refused
 abbrev pub IsRefusal : Ending → Type 0
@@ -42,6 +42,12 @@ HasCause old stop.ReadFault new = HasRisen old.read_faults new.read_faults × (n
 HasCause old stop.WriteFault new = HasRisen old.write_faults new.write_faults × (new.read_faults ≡ old.read_faults)
 HasCause old stop.NoMemory new = SameFaults old new
 
+-- A run that is stopped leaves a part of its complaint only where an output failed.
+abbrev pub IsQuiet : Stop → List ℕ → Type 0
+IsQuiet stop.ReadFault complained = complained ≡ []
+IsQuiet stop.WriteFault complained = Unit {0}
+IsQuiet stop.NoMemory complained = complained ≡ []
+
 -- A part of a run starts these names, and says and complains these bytes.
 pub record Does (names : List (List ℕ)) (said complained : List ℕ) (old new : Outside) : Type 0 where
   pub inputs_stay : new.inputs ≡ old.inputs
@@ -49,12 +55,16 @@ pub record Does (names : List (List ℕ)) (said complained : List ℕ) (old new 
   pub says : new.said ≡ appended old.said said
   pub complains : new.complained ≡ appended old.complained complained
   pub starts : new.started ≡ appended old.started names
-  pub absences : old.absences ≤ new.absences
 
 -- It does so wholly, and counts no fault.
-pub record DoesAll (names : List (List ℕ)) (said complained : List ℕ) (old new : Outside) : Type 0 where
+pub record DoesWithoutFault (names : List (List ℕ)) (said complained : List ℕ) (old new : Outside) : Type 0 where
   pub does : Does names said complained old new
   pub faults : SameFaults old new
+
+-- It does so wholly, and counts nothing.
+pub record DoesAll (names : List (List ℕ)) (said complained : List ℕ) (old new : Outside) : Type 0 where
+  pub all : DoesWithoutFault names said complained old new
+  pub present : SameAbsences old new
 
 -- It is stopped, and does a prefix of each.
 pub record DoesPart (names : List (List ℕ)) (said complained : List ℕ) (old : Outside) (stop : Stop) (new : Outside) : Type 0 where
@@ -66,6 +76,7 @@ pub record DoesPart (names : List (List ℕ)) (said complained : List ℕ) (old 
   pub complained_prefix : IsPrefix complained_part complained
   pub does : Does names_part said_part complained_part old new
   pub cause : HasCause old stop new
+  pub quiet : IsQuiet stop complained_part
 
 -- an input is read whole, or beyond so many bytes
 pub record IsReadBeyond (most : ℕ) (whole bytes : List ℕ) : Type 0 where
@@ -81,10 +92,11 @@ IsReadOf most (Some whole) (Some bytes) = IsReadBeyond most whole bytes
 
 -- What is found in the input of a name, which is started and read. Where inputs are told, judge says what it is.
 pub record Finds {X : Type 0} (name : List ℕ) (judge : Option (List ℕ) → Found X) (old : Outside) (found : Found X) (new : Outside) : Type 0 where
-  pub does : DoesAll (name ∷ []) [] [] old new
+  pub does : DoesWithoutFault (name ∷ []) [] [] old new
   pub told : (inputs : Files) → old.inputs ≡ Some inputs → found ≡ judge (inputs name)
   pub refusal : (ending : Ending) → found ≡ Refused ending → IsRefusal ending
   pub absent : (absentee : List ℕ) → found ≡ Refused (NoInput absentee) → HasRisen old.absences new.absences
+  pub present : ((absentee : List ℕ) → found ≢ Refused (NoInput absentee)) → SameAbsences old new
 
 -- Of a piece that waits to be said, a prefix is said and the rest waits on.
 pub record HandsOver (old : Outside) (piece : List ℕ) (new : Outside) (rest : List ℕ) : Type 0 where
@@ -96,20 +108,24 @@ pub record HandsOver (old : Outside) (piece : List ℕ) (new : Outside) (rest : 
 pub record Fulfils (wanted : Files → Outcome) (complained : List ℕ) (old : Outside) (ending : Ending) (new : Outside) : Type 0 where
   pub names : List (List ℕ)
   pub said : List ℕ
-  pub does : DoesAll names said complained old new
+  pub does : DoesWithoutFault names said complained old new
   pub whole : IsNotStopped ending
   pub absent : (name : List ℕ) → ending ≡ NoInput name → HasRisen old.absences new.absences
+  pub present : ((name : List ℕ) → ending ≢ NoInput name) → SameAbsences old new
   pub ends : (inputs : Files) → old.inputs ≡ Some inputs → ending ≡ (wanted inputs).ending
   pub names_are : (inputs : Files) → old.inputs ≡ Some inputs → names ≡ (wanted inputs).asked
   pub said_is : (inputs : Files) → old.inputs ≡ Some inputs → said ≡ (wanted inputs).said
 
--- what part of a run does that is stopped, over told inputs a prefix of what is wanted
+-- what part of a run does that is stopped, over told inputs a prefix of what is wanted, the complaint last
 pub record BreaksOff (wanted : Files → Outcome) (old : Outside) (stop : Stop) (new : Outside) : Type 0 where
   pub names : List (List ℕ)
   pub said : List ℕ
   pub complained : List ℕ
   pub does : Does names said complained old new
   pub cause : HasCause old stop new
+  pub quiet : IsQuiet stop complained
   pub names_prefix : (inputs : Files) → old.inputs ≡ Some inputs → IsPrefix names (wanted inputs).asked
   pub said_prefix : (inputs : Files) → old.inputs ≡ Some inputs → IsPrefix said (wanted inputs).said
   pub complained_prefix : (inputs : Files) → old.inputs ≡ Some inputs → IsPrefix complained (wanted inputs).complained
+  pub complaint_last : (inputs : Files) → old.inputs ≡ Some inputs
+      → (complained ≡ []) ⊎ ((names ≡ (wanted inputs).asked) × (said ≡ (wanted inputs).said))

@@ -1,5 +1,5 @@
 -- What a run leaves of the outside, beside what was there before.
-use Rattle.std.specs.Prelude.{◌≡◌, ◌⊎◌, ℕ, List, ◌++◌, Option, Some, None}
+use Rattle.std.specs.Prelude.{◌≡◌, ◌⊎◌, ℕ, List, [], ◌++◌, Option, Some, None}
 use Rattle.std.specs.Option.{option_map}
 use Rattle.zk_base.specs.declared.endings.Ending.{Ending}
 use Rattle.zk_base.specs.declared.endings.Ending.TheVariants.{Done, Usage, ScriptRefused, NoInput, CaptureRefused, CutShort, ReadFault, WriteFault, NoMemory, Flood}
@@ -56,7 +56,13 @@ abbrev pub OutputsBegun : Files → Option Files → Option Files → Type 0
 OutputsBegun written None after = after ≡ None
 OutputsBegun written (Some before) after = (files : Files) × (after ≡ Some files) × AreBegun written before files
 
--- A run has done a prefix of each thing that was wanted, and nothing else.
+-- all of what was wanted is done, but for the complaint
+pub record IsDoneButComplaint (wanted : Outcome) (old new : Outside) : Type 0 where
+  pub files : new.outputs ≡ option_map (files_over wanted.files) old.outputs
+  pub said : new.said ≡ appended old.said wanted.said
+  pub started : new.started ≡ appended old.started wanted.asked
+
+-- A run has done a prefix of each thing that was wanted, and nothing else. The complaint comes last.
 pub record StaysWithin (wanted : Outcome) (old new : Outside) : Type 0 where
   pub files : OutputsBegun wanted.files old.outputs new.outputs
   pub said : List ℕ
@@ -68,8 +74,17 @@ pub record StaysWithin (wanted : Outcome) (old new : Outside) : Type 0 where
   pub started : List (List ℕ)
   pub started_prefix : IsPrefix started wanted.asked
   pub started_is : new.started ≡ appended old.started started
+  pub complaint_last : (complained ≡ []) ⊎ IsDoneButComplaint wanted old new
 
 -- no fault was counted
 pub record SameFaults (old new : Outside) : Type 0 where
   pub read : new.read_faults ≡ old.read_faults
   pub write : new.write_faults ≡ old.write_faults
+
+-- no input was absent
+abbrev pub SameAbsences : Outside → Outside → Type 0
+SameAbsences old new = new.absences ≡ old.absences
+
+-- nothing more was complained
+abbrev pub SameComplaints : Outside → Outside → Type 0
+SameComplaints old new = new.complained ≡ old.complained

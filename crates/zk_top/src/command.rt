@@ -1,5 +1,5 @@
 ghost use Rattle.std.specs.Prelude.{◌≡◌, ◌↔◌, ◌++◌, List, ℕ, [], Some, IsTrue, Ok, Err, MatchResult};
-ghost use Rattle.zk_top.specs.Command.{Command as CommandMeaning, IsCommand, IsFirstNotUnderstood, is_file_name, fits, begins_with, command_of, begins, understood, understand, command_seen};
+ghost use Rattle.zk_top.specs.Command.{Command as CommandMeaning, IsCommand, IsFirstNotUnderstood, is_file_name, fits, begins_with, command_of, begins, first_not_understood, understand, command_seen};
 
 use zk_base::Word;
 
@@ -53,7 +53,7 @@ pub fn read_command(words: &[Word]) -> Result<Command<'_>, usize>
 }
 
 fn first_not_understood(words: &[Word]) -> usize
-    ensures { result ≡ understood [] words.now }
+    ensures { result ≡ first_not_understood [] words.now }
 {
     for n in 0..words.len() {
         if !begin(&words[..n + 1]) {
@@ -115,5 +115,5 @@ pub fn command_line()
         ↔ ((more : List (List ℕ)) × (command : CommandMeaning) × IsCommand (words ++ more) command) }
 
     // The word that is named is the least one with which the words begin no command.
-    ensures first { (words : List (List ℕ)) → IsFirstNotUnderstood words (understood [] words) }
+    ensures first { (words : List (List ℕ)) → IsFirstNotUnderstood words (first_not_understood [] words) }
 {}

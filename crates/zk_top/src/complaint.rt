@@ -94,7 +94,7 @@ fn no_input(alloc: Global, name: &[u8]) -> Result<Vec<u8>, AllocError>
     Ok(text)
 }
 
-/// What befell a file at a byte.
+/// What is said of a file at a byte.
 fn at_byte(alloc: Global, name: &[u8], what: &[u8], place: u64) -> Result<Vec<u8>, AllocError>
     ensures { IfOk result (λ text. text.items ≡ line (name.now ++ what.now ++ decimal place)) }
 {

@@ -1,10 +1,10 @@
-ghost use Rattle.std.specs.Prelude.{◌≡◌, ◌↔◌, [], List, ℕ, Some, Ok, Err, IfOk, IfErr};
-ghost use Rattle.zk_base.specs.Shelf.{Files, HasRisen};
+ghost use Rattle.std.specs.Prelude.{◌≡◌, ◌≢◌, ◌⊎◌, ◌↔◌, [], List, ℕ, Some, Ok, Err, IfOk, IfErr};
+ghost use Rattle.zk_base.specs.Shelf.{Files, HasRisen, appended};
 ghost use Rattle.zk_top.specs.Command.{understand, command_seen};
 ghost use Rattle.zk_top.specs.Complaint.{complaint_of};
 ghost use Rattle.zk_top.specs.Outcome.{outcome, outcome_of};
 ghost use Rattle.zk_top.specs.Parts.{IsOfCommand, Fulfils, BreaksOff};
-ghost use Rattle.zk_top.specs.Run.{IsNotStopped, IsDone, StaysWithin, SameFaults};
+ghost use Rattle.zk_top.specs.Run.{IsNotStopped, IsDone, StaysWithin, SameFaults, SameAbsences, SameComplaints};
 
 use crate::command::{Command, read_command};
 use crate::complaint::complain;
@@ -25,7 +25,7 @@ pub fn run<S: Shelf>(alloc: Global, words: &[Word], shelf: &mut S) -> Ending
     ensures done { (inputs : Files) → (S.outside shelf.old).inputs ≡ Some inputs → IsNotStopped result
         → IsDone (outcome words.now inputs) (S.outside shelf.old) result (S.outside shelf.new) }
 
-    // However it ends, it has done a prefix of that.
+    // However it ends, it has done a prefix of that, the complaint last.
     ensures within { (inputs : Files) → (S.outside shelf.old).inputs ≡ Some inputs
         → StaysWithin (outcome words.now inputs) (S.outside shelf.old) (S.outside shelf.new) }
 
@@ -33,6 +33,12 @@ pub fn run<S: Shelf>(alloc: Global, words: &[Word], shelf: &mut S) -> Ending
     ensures usage { (word : ℕ) → IsNotStopped result → (result ≡ Ending.Usage word) ↔ (understand words.now ≡ Err word) }
     ensures absent { (name : List ℕ) → result ≡ Ending.NoInput name
         → HasRisen (S.outside shelf.old).absences (S.outside shelf.new).absences }
+    ensures present { IsNotStopped result → ((name : List ℕ) → result ≢ Ending.NoInput name)
+        → SameAbsences (S.outside shelf.old) (S.outside shelf.new) }
+    ensures complains { IsNotStopped result
+        → (S.outside shelf.new).complained ≡ appended (S.outside shelf.old).complained (complaint_of result) }
+    ensures silent { (result ≡ Ending.ReadFault) ⊎ (result ≡ Ending.NoMemory)
+        → SameComplaints (S.outside shelf.old) (S.outside shelf.new) }
     ensures faults { IsNotStopped result → SameFaults (S.outside shelf.old) (S.outside shelf.new) }
     ensures read_fault { result ≡ Ending.ReadFault
         → HasRisen (S.outside shelf.old).read_faults (S.outside shelf.new).read_faults

@@ -57,6 +57,3 @@ fn operand_of(alloc: Global, value: &Expression) -> Result<Operand, Mem>
         Expression::NetworkTime => Operand::NetworkTime,
     })
 }
-
-#[cfg(test)]
-mod tests;

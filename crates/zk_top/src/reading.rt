@@ -1,6 +1,7 @@
-ghost use Rattle.std.specs.Prelude.{◌≡◌, ◌<◌, [], ◌∷◌, length, take, drop, IsTrue, IfSome, IsNone, IfOk, IfErr};
-ghost use Rattle.zk_base.specs.Shelf.{is_open, rest_of, Reads, HasRisen};
-ghost use Rattle.zk_top.specs.Parts.{DoesAll, DoesPart, IsReadBeyond, IsReadOf};
+ghost use Rattle.std.specs.Prelude.{◌≡◌, ◌<◌, [], ◌∷◌, length, IsTrue, IfSome, IsSome, IsNone, IfOk, OnOk, IfErr};
+ghost use Rattle.zk_base.specs.Shelf.{is_open, rest_of, HasRisen};
+ghost use Rattle.zk_top.specs.Parts.{DoesWithoutFault, DoesAll, DoesPart, IsReadBeyond, IsReadOf};
+ghost use Rattle.zk_top.specs.Run.{SameAbsences};
 
 use crate::stop::Stop;
 use std::alloc::Global;
@@ -17,9 +18,10 @@ pub fn read_input<S: Shelf>(
     name: &[u8],
     most: usize,
 ) -> Result<Option<Bytes>, Stop>
-    ensures read { IfOk result (λ bytes. DoesAll (name.now ∷ []) [] [] (S.outside shelf.old) (S.outside shelf.new)) }
+    ensures read { OnOk result (DoesWithoutFault (name.now ∷ []) [] [] (S.outside shelf.old) (S.outside shelf.new)) }
     ensures bytes { IfOk result (λ bytes. IfSome (S.outside shelf.old).inputs (λ files. IsReadOf most (files name.now) bytes)) }
     ensures absent { IfOk result (λ bytes. IsNone bytes → HasRisen (S.outside shelf.old).absences (S.outside shelf.new).absences) }
+    ensures present { IfOk result (λ bytes. IsSome bytes → SameAbsences (S.outside shelf.old) (S.outside shelf.new)) }
     ensures stopped { IfErr result (λ stop. DoesPart (name.now ∷ []) [] [] (S.outside shelf.old) stop (S.outside shelf.new)) }
 {
     match shelf.start(name) {
@@ -33,32 +35,34 @@ pub fn read_input<S: Shelf>(
 /// The bytes that the open input has left, or a prefix of them that is longer than `most`.
 fn read_open<S: Shelf>(alloc: Global, shelf: &mut S, most: usize) -> Result<Bytes, Stop>
     requires { IsTrue (is_open (S.outside shelf.old).reading) }
-    ensures read { IfOk result (λ bytes. DoesAll [] [] [] (S.outside shelf.old) (S.outside shelf.new)) }
+    ensures read { OnOk result (DoesAll [] [] [] (S.outside shelf.old) (S.outside shelf.new)) }
     ensures bytes { IfOk result (λ bytes. IfSome (rest_of (S.outside shelf.old)) (λ rest. IsReadBeyond most rest bytes)) }
     ensures stopped { IfErr result (λ stop. DoesPart [] [] [] (S.outside shelf.old) stop (S.outside shelf.new)) }
 {
-    let mut bytes = Vec::new(alloc);
+    let mut chunk = vec![in alloc; 0; CHUNK]?;
+    read_chunks(alloc, shelf, &mut chunk, most)
+}
+
+/// The same, read through a buffer that is not empty.
+fn read_chunks<S: Shelf>(
+    alloc: Global,
+    shelf: &mut S,
+    chunk: &mut [u8],
+    most: usize,
+) -> Result<Bytes, Stop>
+    requires room { 0 < length chunk.old }
+    requires input { IsTrue (is_open (S.outside shelf.old).reading) }
+    ensures read { OnOk result (DoesAll [] [] [] (S.outside shelf.old) (S.outside shelf.new)) }
+    ensures bytes { IfOk result (λ bytes. IfSome (rest_of (S.outside shelf.old)) (λ rest. IsReadBeyond most rest bytes)) }
+    ensures stopped { IfErr result (λ stop. DoesPart [] [] [] (S.outside shelf.old) stop (S.outside shelf.new)) }
+{
+    let mut bytes = Bytes::new(alloc);
     while bytes.len() <= most {
-        let len = bytes.len();
-        bytes.resize(len + CHUNK, 0)?;
-        match read_behind(shelf, &mut bytes, len) {
-            Got::Bytes(n) => bytes.truncate(len + n),
-            Got::End => {
-                bytes.truncate(len);
-                return Ok(Bytes::from(bytes));
-            }
+        match shelf.read(chunk) {
+            Got::Bytes(n) => bytes.append(&chunk[..n])?,
+            Got::End => return Ok(bytes),
             Got::Failed => return Err(Stop::ReadFault),
         }
     }
-    Ok(Bytes::from(bytes))
-}
-
-/// Reads the next bytes of the open input into a buffer, behind so many that are there.
-fn read_behind<S: Shelf>(shelf: &mut S, buf: &mut [u8], len: usize) -> Got
-    requires room { len < length buf.old }
-    requires input { IsTrue (is_open (S.outside shelf.old).reading) }
-    ensures read { Reads (S.outside shelf.old) (drop len buf.old) result (drop len buf.new) (S.outside shelf.new) }
-    ensures kept { take len buf.new ≡ take len buf.old }
-{
-    shelf.read(&mut buf[len..])
+    Ok(bytes)
 }

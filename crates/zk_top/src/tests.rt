@@ -310,32 +310,41 @@ fn a_run_over_a_failing_shelf_stops_with_the_fault_of_the_failed_call(
     rt: HostRuntime,
 ) -> Result<(), Fail> {
     let alloc = rt.alloc();
-    let mut file = Vec::from_slice(alloc, &HEADER)?;
+    let mut many = Vec::from_slice(alloc, &HEADER)?;
     for _ in 0..MANY {
-        file.extend_from_slice(&[0; 16])?;
+        many.extend_from_slice(&[0; 16])?;
     }
-    // start, two reads, and then a piece at a time; a script is started and read twice before
-    let rows: [(&[u8], &[u8]); 2] = [
-        (b"list c.pcap", &[5, 5, 5, 6, 6, 6, 0]),
-        (RUN, &[5, 5, 5, 5, 5, 5, 6, 6, 6, 6, 0]),
+    let rows: [(&[u8], &[u8], &[u8]); 4] = [
+        // start, two reads, and then a piece at a time; a script is started and read twice before
+        (b"list c.pcap", &many, &[5, 5, 5, 6, 6, 6, 0]),
+        (RUN, &many, &[5, 5, 5, 5, 5, 5, 6, 6, 6, 6, 0]),
+        // a piece, and then the complaint
+        (b"list c.pcap", &CUT, &[5, 5, 5, 6, 6, 4]),
+        // nothing is said or complained
+        (b"list c.pcap", &HEADER, &[5, 5, 5, 0]),
     ];
-    for (line, statuses) in rows {
+    for (line, capture, statuses) in rows {
         let line = words(alloc, line)?;
-        let mut sure = SureShelf::new(alloc, inputs(alloc, &file, WIDE)?)?;
-        assert_eq!(rt; run(alloc, &line, &mut sure).status(), 0);
+        let mut sure = SureShelf::new(alloc, inputs(alloc, capture, WIDE)?)?;
+        let whole = run(alloc, &line, &mut sure).status();
+        let all = sure.said().len() + sure.complained().len();
         for (n, status) in statuses.iter().enumerate() {
             let call = n as u64 + 1;
             let mut fails = Vec::new(alloc);
             fails.push(call)?;
-            let mut shelf = MemShelf::new(alloc, inputs(alloc, &file, WIDE)?, fails)?;
+            let mut shelf = MemShelf::new(alloc, inputs(alloc, capture, WIDE)?, fails)?;
             let ending = run(alloc, &line, &mut shelf);
             assert_eq!(rt; ending.status(), *status, "call {call} fails");
             assert!(rt; sure.said().starts_with(shelf.said()), "call {call} fails");
             assert!(rt;
-                *status == 0 || shelf.said().len() < sure.said().len(),
+                shelf.complained().is_empty() || shelf.said() == sure.said(),
                 "call {call} fails"
             );
+            let written = shelf.said().len() + shelf.complained().len();
+            assert!(rt; *status != 5 || written == 0, "call {call} fails");
+            assert!(rt; *status != 6 || written < all, "call {call} fails");
         }
+        assert_eq!(rt; statuses.last(), Some(&whole));
     }
     Ok(())
 }

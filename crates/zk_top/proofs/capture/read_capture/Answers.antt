@@ -1,4 +1,4 @@
-use Rattle.std.proofs.Common.{[], ◌∷◌, Some, IfSome, refl, ap, subst, ◌∙◌, None, IsNone, sym, ◌^◌, rules}
+use Rattle.std.proofs.Common.{[], ◌∷◌, Some, IfSome, IsSome, refl, ap, subst, ◌∙◌, None, IsNone, sym, ◌^◌, rules}
 use Rattle.std.proofs.lemmas.Result.{err_from_is_err_and}
 use Rattle.zk_pcap.specs.Capture.{capture_of}
 use Rattle.zk_base.specs.declared.endings.Ending.TheVariants.{NoInput}
@@ -21,9 +21,10 @@ returns-in_ok-judge_capture-in-Some-clause-found g c =
     let new = g.S.Shelf.outside c.read_input.new.shelf in
     let file = c.args.file.now in
     let bytes = c.in-Some.bytes in
+    let some : IsSome c.in_ok-bytes.field-0 = rw c.in-Some.is (search rules) in
     let holds : IfSome old.inputs (λ files. IsReadOf (2 ^ 40) (files file) (Some bytes)) =
     subst (λ found. IfSome old.inputs (λ files. IsReadOf (2 ^ 40) (files file) found)) c.in-Some.is c.in_ok-bytes.ensures.bytes in
-    found_capture file bytes old c.in_ok-judge_capture-in-Some.field-0 new c.in_ok-bytes.ensures.read holds
+    found_capture file bytes old c.in_ok-judge_capture-in-Some.field-0 new c.in_ok-bytes.ensures.read (c.in_ok-bytes.ensures.present some) holds
     (c.in_ok-judge_capture-in-Some.ensures ∙ ap (λ name. judged name (capture_of bytes)) c.in_ok-name.ensures)
 
 pub returns-in-None-clause-found : goal.returns-in-None-clause-found

@@ -11,8 +11,8 @@ returns-in_err-read_open-in-Open-clause-stopped g c =
     let new = g.S.Shelf.outside c.read_open.new.shelf in
     let stop = c.in_err-read_open-in-Open.field-0.0 in
     let p = err_from_is_err_and c.from_residual.result c.from_residual.ensures.1 in
-    rw (p.1, p.2) (does_both_part (c.args.name.now ∷ []) [] [] [] [] [] old mid stop new
-    (start_all c.args.name.now old mid c.in-Open.ensures.leaves) c.in_err-read_open-in-Open.ensures.stopped)
+    rw (p.1, p.2) (does_both_part (c.args.name.now ∷ []) [] [] [] [] old mid stop new
+    (start_all c.args.name.now old mid c.in-Open.ensures.leaves).all c.in_err-read_open-in-Open.ensures.stopped)
 
 pub returns-in-Failed-clause-stopped : goal.returns-in-Failed-clause-stopped
 returns-in-Failed-clause-stopped g c =

@@ -1,4 +1,4 @@
-use Rattle.std.proofs.Common.{◌≡◌, [], ◌∷◌, Some, None, IfSome, IsNone, refl, ap, subst, ◌∙◌, rules}
+use Rattle.std.proofs.Common.{◌≡◌, [], ◌∷◌, Some, None, IfSome, IsSome, IsNone, refl, ap, subst, ◌∙◌, rules}
 use Rattle.std.proofs.lemmas.Result.{err_from_is_err_and}
 use Rattle.zk_base.specs.declared.endings.Ending.TheVariants.{NoInput}
 use Rattle.zk_base.specs.Shelf.{HasRisen}
@@ -34,10 +34,11 @@ returns-in_ok-compile-in-Some-clause-found g c =
     let new = g.S.Shelf.outside c.read_input.new.shelf in
     let file = c.args.file.now in
     let text = c.in-Some.text in
+    let some : IsSome c.in_ok-text.field-0 = rw c.in-Some.is (search rules) in
     let holds : IfSome old.inputs (λ files. IsReadOf script_max (files file) (Some text)) =
     subst (λ found. IfSome old.inputs (λ files. IsReadOf script_max (files file) found)) c.in-Some.is c.in_ok-text.ensures.bytes in
     let is : c.in_ok-compile-in-Some.field-0 ≡ code_found (accepted file (script_of text)) =
     c.in_ok-compile-in-Some.ensures
     ∙ (ap (λ name. code_found (accepted name (script_of c.as_slice.result.now))) c.in_ok-name.ensures
     ∙ ap (λ t. code_found (accepted file (script_of t))) c.as_slice.ensures) in
-    (accepted file (script_of text), is, found_script file text old new c.in_ok-text.ensures.read holds)
+    (accepted file (script_of text), is, found_script file text old new c.in_ok-text.ensures.read (c.in_ok-text.ensures.present some) holds)

@@ -46,21 +46,3 @@ pub words-append : (xs ys : List ℕ) → length xs % 2 ≡ 0 → words (xs ++ y
 words-append [] ys h = refl
 words-append (x ∷ []) ys h = absurd (omega (arith, h))
 words-append (x ∷ y ∷ xs) ys h = ap (λ ws. (256 * x + y) ∷ ws) (words-append xs ys (omega (arith, h)))
-
--- The example of RFC 1071, section 3: its words, their sum and what the carries leave of it.
-words-example : words (0x00 ∷ 0x01 ∷ 0xf2 ∷ 0x03 ∷ 0xf4 ∷ 0xf5 ∷ 0xf6 ∷ 0xf7 ∷ []) ≡ 0x0001 ∷ 0xf203 ∷ 0xf4f5 ∷ 0xf6f7 ∷ []
-words-example = refl
-
-sum-example : sum (0x0001 ∷ 0xf203 ∷ 0xf4f5 ∷ 0xf6f7 ∷ []) ≡ 0x2ddf0
-sum-example = refl
-
-folded-example : folded 0x2ddf0 ≡ 0xddf2
-unfolding folded
-folded-example = refl
-
-ones_complement_sum-example : ones_complement_sum (0x0001 ∷ 0xf203 ∷ 0xf4f5 ∷ 0xf6f7 ∷ []) ≡ 0xddf2
-ones_complement_sum-example = refl
-
--- A last odd byte is the high half of its word.
-words-odd : words (0x01 ∷ 0x02 ∷ 0x03 ∷ []) ≡ 0x0102 ∷ 0x0300 ∷ []
-words-odd = refl

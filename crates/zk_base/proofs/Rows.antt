@@ -1,6 +1,7 @@
 -- What the definitions give at some values, computed by the checker.
-use Rattle.std.specs.Prelude.{◌≡◌, ℕ, ◌-◌, ◌^◌, List, [], ◌∷◌, true, false, Some, None, codes, refl}
+use Rattle.std.specs.Prelude.{◌≡◌, ℕ, ◌-◌, ◌^◌, List, [], ◌∷◌, sum, true, false, Some, None, codes, refl}
 use Rattle.zk_base.specs.declared.network.TheConstants.{LINKTYPE_ETHERNET, LINKTYPE_RAW, IP4_TOTAL_LENGTH_MAX}
+use Rattle.zk_base.specs.Checksum.{words, folded, ones_complement_sum}
 use Rattle.zk_base.specs.Shelf.{At, rest_of, with_piece}
 use Rattle.zk_base.specs.Files.{files_of}
 use Rattle.zk_base.specs.Contents.{at_first}
@@ -66,3 +67,23 @@ raw_ip_is_link_type_101 = refl
 -- RFC 791, section 3.1: the total length has 16 bits
 pub a_total_length_has_16_bits : IP4_TOTAL_LENGTH_MAX ≡ 2 ^ 16 - 1
 a_total_length_has_16_bits = refl
+
+-- Checksums --------------------------------------------------------------------------------------------------
+
+-- The example of RFC 1071, section 3: its words, their sum and what the carries leave of it.
+the_words_of_the_example : words (0x00 ∷ 0x01 ∷ 0xf2 ∷ 0x03 ∷ 0xf4 ∷ 0xf5 ∷ 0xf6 ∷ 0xf7 ∷ []) ≡ 0x0001 ∷ 0xf203 ∷ 0xf4f5 ∷ 0xf6f7 ∷ []
+the_words_of_the_example = refl
+
+its_sum : sum (0x0001 ∷ 0xf203 ∷ 0xf4f5 ∷ 0xf6f7 ∷ []) ≡ 0x2ddf0
+its_sum = refl
+
+what_the_carries_leave_of_it : folded 0x2ddf0 ≡ 0xddf2
+unfolding folded
+what_the_carries_leave_of_it = refl
+
+its_ones_complement_sum : ones_complement_sum (0x0001 ∷ 0xf203 ∷ 0xf4f5 ∷ 0xf6f7 ∷ []) ≡ 0xddf2
+its_ones_complement_sum = refl
+
+-- A last odd byte is the high half of its word.
+a_last_odd_byte_is_a_high_half : words (0x01 ∷ 0x02 ∷ 0x03 ∷ []) ≡ 0x0102 ∷ 0x0300 ∷ []
+a_last_odd_byte_is_a_high_half = refl

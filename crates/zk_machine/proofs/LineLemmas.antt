@@ -2,14 +2,12 @@
 use Rattle.std.proofs.Common.{◌≡◌, ◌==◌, ℕ, suc, ◌+◌, ◌<◌, false, List, [], ◌∷◌, ◌++◌, map, length, drop, get_or, codes, Result, Ok, Err, if◌then◌else◌, refl, sym, ap, ◌∙◌, append_assoc, add-one, drop-cons, rules}
 use Rattle.std.proofs.lemmas.List.{map-append, length-append}
 use Rattle.zk_tree.specs.Value as plain
-use Rattle.zk_typed.specs.Exec.{Evaluated, Stop, Faults, Spends, and_then, before}
+use Rattle.zk_typed.specs.Exec.{Evaluated, Stop, and_then, before}
 use Rattle.zk_typed.specs.Text.{text_of, with_commas, line_of}
 use Rattle.zk_value.specs.declared.code.Operand.{Operand}
 use Rattle.zk_machine.specs.declared.frame.Frame.{Frame}
-use Rattle.zk_machine.specs.declared.halt.Halt.{Halt}
-use Rattle.zk_machine.specs.declared.halt.Halt.TheVariants.{Fault, Spent, NoMemory}
 use Rattle.zk_machine.specs.Meant.{evaluated, evaluated_all}
-use Rattle.zk_machine.specs.Steps.{with_units, Gives, Stops}
+use Rattle.zk_machine.specs.Steps.{with_units, Gives}
 
 -- what stands before a value of this number
 abbrev pub separator : ℕ → List ℕ
@@ -88,19 +86,3 @@ line_goes_on begun operands index operand line between longer frame later far wi
           ∙ sym (line_more far.values value);
       rest = rest ∙ ap (λ f. with_units f later.units) far.rest;
     }
-
--- Where an operand gives no value, the print's values are not given either.
-stopped_all : (begun : Frame) (operands : List Operand) (index : ℕ) (operand : Operand) (line : List ℕ) (frame : Frame) (stop : Stop)
-    → IsLineSoFar begun operands index line frame → index < length operands → operand ≡ get_or operands index operand
-    → evaluated frame operand ≡ Err stop → evaluated_all begun operands ≡ Err stop
-stopped_all begun operands index operand line frame stop far within is stopped =
-    far.given
-    ∙ ap (λ os. joined far.values (evaluated_all frame os)) (rest_is operands index operand within is)
-    ∙ ap (λ (g : Evaluated). joined far.values (and_then g (λ n. evaluated_all (with_units frame n) (drop (index + 1) operands)))) stopped
-
-pub line_stops : (begun : Frame) (operands : List Operand) (index : ℕ) (operand : Operand) (line : List ℕ) (frame : Frame) (units : ℕ) (halt : Halt)
-    → IsLineSoFar begun operands index line frame → index < length operands → operand ≡ get_or operands index operand
-    → Stops (evaluated frame operand) units halt → Stops (evaluated_all begun operands) units halt
-line_stops begun operands index operand line frame units (Fault kind) far within is stops = stopped_all begun operands index operand line frame (Faults kind units) far within is stops
-line_stops begun operands index operand line frame units Spent far within is stops = stopped_all begun operands index operand line frame Spends far within is stops
-line_stops begun operands index operand line frame units NoMemory far within is stops = tt

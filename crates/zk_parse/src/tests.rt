@@ -175,7 +175,7 @@ fn declarations_are_read_with_their_places(rt: HostRuntime) -> Result<(), Fail> 
     let [first, second] = tree.decls.as_slice() else {
         panic!(rt; "two declarations")
     };
-    assert!(rt; is_first(first));
-    assert!(rt; is_second(second));
+    assert!(rt; is_first(first), "{first:?}");
+    assert!(rt; is_second(second), "{second:?}");
     Ok(())
 }

@@ -1,8 +1,7 @@
 -- Words that are understood, one after another.
-use Rattle.std.proofs.Common.{◌≡◌, ℕ, ◌+◌, ◌<◌, ◌≤◌, true, false, ◌&&◌, cond, refl, List, [], ◌∷◌, ◌++◌, take, drop, length, get_or, sym, ap, ◌∙◌, arith, add-one, drop-cons}
+use Rattle.std.proofs.Common.{◌≡◌, ℕ, ◌+◌, ◌<◌, ◌≤◌, true, false, cond, List, [], ◌∷◌, ◌++◌, take, drop, length, get_or, sym, ap, ◌∙◌, arith, add-one, drop-cons}
 use Rattle.std.proofs.lemmas.List.{take_more, length-take-le, take_all, drop_all}
-use Rattle.zk_top.specs.declared.command.Slot.{Slot}
-use Rattle.zk_top.specs.Command.{fits, begins_with, begins, first_not_understood}
+use Rattle.zk_top.specs.Command.{begins, first_not_understood}
 
 -- one word further, or not
 first_not_understood-step : (words : List (List ℕ)) (n : ℕ) → n < length words
@@ -30,29 +29,3 @@ pub understood_all : (words : List (List ℕ)) (n : ℕ) → length words ≤ n
     → first_not_understood (take n words) (drop n words) ≡ first_not_understood [] words → length words ≡ first_not_understood [] words
 understood_all words n past before =
     ap length (sym (take_all n words past)) ∙ sym (ap (first_not_understood (take n words)) (drop_all n words past)) ∙ before
-
--- Words and their slots -------------------------------------------------------------------------------------------
-
--- one word further
-pub begins_with-step : (slots : List Slot) (words : List (List ℕ)) (n : ℕ) (slot : Slot) (word : List ℕ) → n < length slots → n < length words
-    → slot ≡ get_or slots n slot → word ≡ get_or words n word
-    → begins_with (drop n slots) (drop n words) ≡ (fits slot word && begins_with (drop (n + 1) slots) (drop (n + 1) words))
-begins_with-step slots words n slot word in_slots in_words slot_is word_is =
-    let first : drop n slots ≡ slot ∷ drop (n + 1) slots = rw add-one (drop-cons slots n slot in_slots) ∙ ap (λ s. s ∷ drop (n + 1) slots) (sym slot_is) in
-    let second : drop n words ≡ word ∷ drop (n + 1) words = rw add-one (drop-cons words n word in_words) ∙ ap (λ w. w ∷ drop (n + 1) words) (sym word_is) in
-    ap (λ ss. begins_with ss (drop n words)) first ∙ ap (begins_with (slot ∷ drop (n + 1) slots)) second
-
--- a word behind the last slot
-pub begins_with-past : (slots : List Slot) (words : List (List ℕ)) (n : ℕ) → length slots ≤ n → n < length words → begins_with (drop n slots) (drop n words) ≡ false
-begins_with-past slots words n past within =
-    let word : List ℕ = get_or words n [] in
-    let rest : drop n words ≡ word ∷ drop (n + 1) words = rw add-one (drop-cons words n [] within) in
-    ap (λ ss. begins_with ss (drop n words)) (drop_all n slots past) ∙ ap (begins_with []) rest
-
-begins_with-none : (slots : List Slot) → begins_with slots [] ≡ true
-begins_with-none [] = refl
-begins_with-none (slot ∷ slots) = refl
-
--- no word is left
-pub begins_with-all : (slots : List Slot) (words : List (List ℕ)) (n : ℕ) → length words ≤ n → begins_with (drop n slots) (drop n words) ≡ true
-begins_with-all slots words n past = ap (begins_with (drop n slots)) (drop_all n words past) ∙ begins_with-none (drop n slots)

@@ -1,5 +1,5 @@
 -- What parts of a run do, put together.
-use Rattle.std.proofs.Common.{◌≡◌, ℕ, List, [], ◌∷◌, ◌++◌, take, drop, Option, Some, None, refl, sym, ap, subst, ◌∙◌, arith, append_assoc}
+use Rattle.std.proofs.Common.{◌≡◌, ℕ, List, [], ◌∷◌, ◌++◌, take, drop, Option, Some, None, refl, sym, ap, subst, ◌∙◌, append_assoc}
 use Rattle.std.proofs.lemmas.List.{take-append-drop, append-nil}
 use Rattle.zk_base.specs.Shelf.{Outside, HasRisen, FailsToStart, OpensInput, PutsPrefix, after_say, after_complaint, appended}
 use Rattle.zk_top.specs.declared.stop.Stop.{Stop}
@@ -21,9 +21,6 @@ prefix_take n whole = record { rest = drop n whole; joined = sym (take-append-dr
 -- behind a common prefix
 pub prefix_behind : {X : Type 0} (before part whole : List X) → IsPrefix part whole → IsPrefix (before ++ part) (before ++ whole)
 prefix_behind before part whole prefix = record { rest = prefix.rest; joined = ap (λ xs. before ++ xs) prefix.joined ∙ sym (append_assoc before part prefix.rest) }
-
-pub prefix_more : {X : Type 0} (part whole more : List X) → IsPrefix part whole → IsPrefix part (whole ++ more)
-prefix_more part whole more prefix = record { rest = prefix.rest ++ more; joined = ap (λ xs. xs ++ more) prefix.joined ∙ append_assoc part prefix.rest more }
 
 pub prefix_trans : {X : Type 0} (a b c : List X) → IsPrefix a b → IsPrefix b c → IsPrefix a c
 prefix_trans a b c ab bc = record { rest = ab.rest ++ bc.rest; joined = bc.joined ∙ ap (λ xs. xs ++ bc.rest) ab.joined ∙ append_assoc a ab.rest bc.rest }

@@ -1,5 +1,5 @@
 -- From what the parts of a run do to what a run does.
-use Rattle.std.proofs.Common.{◌≡◌, ◌↔◌, ℕ, List, [], ◌∷◌, ◌++◌, Option, Some, None, Result, Ok, Err, inl, inr, refl, sym, ap, subst, ◌∙◌}
+use Rattle.std.proofs.Common.{◌≡◌, ℕ, List, [], ◌∷◌, ◌++◌, Option, Some, None, Result, Ok, Err, inl, inr, refl, sym, ap, subst, ◌∙◌}
 use Rattle.std.specs.Option.{option_map}
 use Rattle.std.proofs.lemmas.List.{append-nil}
 use Rattle.zk_base.specs.declared.endings.Ending.{Ending}
@@ -13,7 +13,7 @@ use Rattle.zk_top.specs.declared.stop.Stop.{Stop}
 use Rattle.zk_top.specs.Command.{Command, ListItems, RunScript, understand}
 use Rattle.zk_top.specs.Complaint.{complaint_of}
 use Rattle.zk_top.specs.Outcome.{Outcome, Report, no_files, opened, loaded, over_capture, list_report, run_report, running, outcome_of, outcome}
-use Rattle.zk_top.specs.Parts.{IsOfCommand, DoesAll, DoesPart, Fulfils, BreaksOff}
+use Rattle.zk_top.specs.Parts.{DoesAll, DoesPart, Fulfils, BreaksOff}
 use Rattle.zk_top.specs.Run.{IsPrefix, files_over, IsDone, OutputsBegun, StaysWithin}
 use Rattle.zk_top.proofs.Doing.{prefix_of_none, prefix_all, does_nothing_without_fault, does_both, without_fault_both, cause_since}
 
@@ -152,13 +152,3 @@ not_understood words word old is = record {
   names_are = λ inputs told. ap (λ asked. (outcome_of asked inputs).asked) (sym is);
   said_is = λ inputs told. ap (λ asked. (outcome_of asked inputs).said) (sym is);
 }
-
--- a command that was asked for
-pub usage_of_command : (words : List (List ℕ)) (command : Command) (ending : Ending) → understand words ≡ Ok command → IsOfCommand ending
-    → (word : ℕ) → (ending ≡ Usage word) ↔ (understand words ≡ Err word)
-usage_of_command words command ending is ends word =
-    (λ same. absurd (subst IsOfCommand same ends), λ same. absurd (let never : ⊥ = cc in never))
-
-pub usage_of_usage : (words : List (List ℕ)) (found : ℕ) → understand words ≡ Err found → (word : ℕ) → (Usage found ≡ Usage word) ↔ (understand words ≡ Err word)
-usage_of_usage words found is word =
-    (λ same. let equal : found ≡ word = cc in is ∙ ap Err equal, λ same. let equal : found ≡ word = cc in ap Usage equal)

@@ -64,10 +64,6 @@ whole_end : (file : List ℕ) (e : CaptureEnding) → IsNotStopped (end_of_captu
 whole_end file Whole = tt
 whole_end file (Cut place) = tt
 
-pub command_end : (file : List ℕ) (e : CaptureEnding) → IsOfCommand (end_of_capture file e)
-command_end file Whole = tt
-command_end file (Cut place) = tt
-
 not_absent : (file : List ℕ) (e : CaptureEnding) (name : List ℕ) → end_of_capture file e ≡ ending.NoInput name → ⊥
 not_absent file Whole name same = let never : ⊥ = cc in never
 not_absent file (Cut place) name same = let never : ⊥ = cc in never

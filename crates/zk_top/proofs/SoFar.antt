@@ -1,9 +1,9 @@
 -- An input that is read so far.
-use Rattle.std.proofs.Common.{◌≡◌, ℕ, ◌+◌, ◌<◌, ◌≤◌, inl, inr, List, [], ◌++◌, take, drop, length, Option, Some, None, IsTrue, IsSome, IsNone, IfSome, refl, sym, ap, subst, ◌∙◌, arith, rules, append_assoc}
+use Rattle.std.proofs.Common.{◌≡◌, ℕ, ◌+◌, ◌≤◌, List, [], ◌++◌, take, drop, length, Option, Some, None, IsTrue, IsSome, IsNone, IfSome, refl, sym, ap, subst, ◌∙◌, rules, append_assoc}
 use Rattle.std.specs.Option.{option_map}
-use Rattle.std.proofs.lemmas.List.{append-nil, take-append-drop, length-take-le, drop-drop, take_all}
-use Rattle.std.proofs.Math.Seq.{take-append_seam, take-add}
-use Rattle.zk_base.specs.Shelf.{Files, Outside, Reading, Closed, Untold, At, is_open, bytes_from, rest_of, advanced, opened, GivesBytes, FailsToRead, FindsNone, OpensInput, IsReadOut, HasRisen}
+use Rattle.std.proofs.lemmas.List.{take-append-drop, length-take-le, drop-drop}
+use Rattle.std.proofs.Math.Seq.{take-append_seam}
+use Rattle.zk_base.specs.Shelf.{Files, Outside, Reading, Closed, Untold, At, is_open, bytes_from, rest_of, advanced, opened, GivesBytes, FailsToRead, FindsNone, OpensInput, HasRisen}
 use Rattle.zk_top.specs.declared.stop.Stop.TheVariants.{ReadFault, NoMemory}
 use Rattle.zk_top.specs.Parts.{Does, DoesWithoutFault, DoesPart, IsReadBeyond, IsReadOf}
 use Rattle.zk_top.specs.Run.{SameFaults}
@@ -111,30 +111,6 @@ stopped_by_input first now new bytes far fails =
       quiet = refl;
     } in
     does_both_part [] [] [] [] [] first now ReadFault new all part
-
--- How far an input is read ------------------------------------------------------------------------------------------
-
-beyond : (whole rest : Option (List ℕ)) (bytes : List ℕ) (most : ℕ) → whole ≡ option_map (λ xs. bytes ++ xs) rest → most < length bytes → IfSome whole (λ w. IsReadBeyond most w bytes)
-beyond None rest bytes most is long = tt
-beyond (Some whole) None bytes most is long = absurd (let never : ⊥ = cc in never)
-beyond (Some whole) (Some rest) bytes most is long =
-    let same : whole ≡ bytes ++ rest = cc in
-    record { prefix = record { rest = rest; joined = same }; enough = inr long }
-
--- beyond so many bytes
-pub read_beyond : (first now : Outside) (bytes : List ℕ) (most : ℕ) → IsReadSoFar first bytes now → most < length bytes → IfSome (rest_of first) (λ rest. IsReadBeyond most rest bytes)
-read_beyond first now bytes most far long = beyond (rest_of first) (rest_of now) bytes most far.rest long
-
--- to its end
-all_of : (whole rest : Option (List ℕ)) (bytes : List ℕ) (most : ℕ) → whole ≡ option_map (λ xs. bytes ++ xs) rest → IfSome rest (λ r. r ≡ []) → IfSome whole (λ w. IsReadBeyond most w bytes)
-all_of None rest bytes most is out = tt
-all_of (Some whole) None bytes most is out = absurd (let never : ⊥ = cc in never)
-all_of (Some whole) (Some rest) bytes most is out =
-    let same : whole ≡ bytes ++ rest = cc in
-    record { prefix = record { rest = rest; joined = same }; enough = inl (sym (same ∙ (ap (λ r. bytes ++ r) out ∙ append-nil bytes))) }
-
-pub read_all : (first now new : Outside) (bytes : List ℕ) (most : ℕ) → IsReadSoFar first bytes now → IsReadOut now new → IfSome (rest_of first) (λ rest. IsReadBeyond most rest bytes)
-read_all first now new bytes most far end = all_of (rest_of first) (rest_of now) bytes most far.rest end.out
 
 -- what an input has that is opened at its first byte
 opened_rest : (found : Option (List ℕ)) (bytes : List ℕ) (most : ℕ) → IsSome found → IfSome (option_map (drop 0) found) (λ rest. IsReadBeyond most rest bytes) → IsReadOf most found (Some bytes)

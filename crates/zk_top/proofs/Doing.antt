@@ -1,11 +1,14 @@
 -- What parts of a run do, put together.
-use Rattle.std.proofs.Common.{◌≡◌, ℕ, List, [], ◌∷◌, ◌++◌, take, drop, Option, Some, None, refl, sym, ap, subst, ◌∙◌, append_assoc}
+use Rattle.std.proofs.Common.{◌≡◌, ℕ, List, [], ◌∷◌, ◌++◌, take, drop, Option, Some, None, OnOk, IfErr, refl, sym, ap, subst, ◌∙◌, append_assoc}
 use Rattle.std.proofs.lemmas.List.{take-append-drop, append-nil}
-use Rattle.zk_base.specs.Shelf.{Outside, HasRisen, FailsToStart, OpensInput, PutsPrefix, after_say, after_complaint, appended}
+use Rattle.zk_base.specs.declared.shelf.Wrote.{Wrote}
+use Rattle.zk_base.specs.declared.shelf.Wrote.TheVariants as wrote
+use Rattle.zk_base.specs.Shelf.{Outside, HasRisen, FailsToStart, OpensInput, Puts, PutsPrefix, after_say, after_complaint, appended}
 use Rattle.zk_top.specs.declared.stop.Stop.{Stop}
 use Rattle.zk_top.specs.declared.stop.Stop.TheVariants.{ReadFault, WriteFault, NoMemory}
 use Rattle.zk_top.specs.Parts.{HasCause, IsQuiet, Does, DoesWithoutFault, DoesAll, DoesPart}
 use Rattle.zk_top.specs.Run.{IsPrefix, SameFaults}
+use Rattle.zk_top.specs.Stop.{written_by}
 
 -- Prefixes -------------------------------------------------------------------------------------------------
 
@@ -152,7 +155,7 @@ out_of_memory names said complained old new same =
 
 -- a write that failed --------------------------------------------------------------------------------------
 
-pub said_part : (piece : List ℕ) (old new : Outside) → PutsPrefix (after_say old) old piece new → DoesPart [] piece [] old WriteFault new
+said_part : (piece : List ℕ) (old new : Outside) → PutsPrefix (after_say old) old piece new → DoesPart [] piece [] old WriteFault new
 said_part piece old new puts = record {
   names_part = [];
   names_prefix = prefix_none [];
@@ -171,7 +174,7 @@ said_part piece old new puts = record {
   quiet = tt;
 }
 
-pub complained_part : (piece : List ℕ) (old new : Outside) → PutsPrefix (after_complaint old) old piece new → DoesPart [] [] piece old WriteFault new
+complained_part : (piece : List ℕ) (old new : Outside) → PutsPrefix (after_complaint old) old piece new → DoesPart [] [] piece old WriteFault new
 complained_part piece old new puts = record {
   names_part = [];
   names_prefix = prefix_none [];
@@ -189,6 +192,54 @@ complained_part piece old new puts = record {
   cause = (subst (λ n. HasRisen old.write_faults n) (sym (ap (λ (o : Outside). o.write_faults) puts.left)) puts.risen, ap (λ (o : Outside). o.read_faults) puts.left);
   quiet = tt;
 }
+
+-- what a write comes to
+pub said_all : (wrote : Wrote) (piece : List ℕ) (old new : Outside) → Puts (after_say old) old piece wrote new → OnOk (written_by wrote) (DoesAll [] piece [] old new)
+said_all wrote.Done piece old new after = record {
+  all = record {
+    does = record {
+      inputs_stay = ap (λ (o : Outside). o.inputs) after;
+      outputs_stay = ap (λ (o : Outside). o.outputs) after;
+      says = ap (λ (o : Outside). o.said) after;
+      complains = ap (λ (o : Outside). o.complained) after ∙ none_appended old.complained;
+      starts = ap (λ (o : Outside). o.started) after ∙ none_named old.started;
+    };
+    faults = record { read = ap (λ (o : Outside). o.read_faults) after; write = ap (λ (o : Outside). o.write_faults) after };
+  };
+  present = ap (λ (o : Outside). o.absences) after;
+}
+said_all wrote.Failed piece old new puts = tt
+said_all wrote.NoMemory piece old new same = tt
+
+pub said_stopped : (wrote : Wrote) (piece : List ℕ) (old new : Outside) → Puts (after_say old) old piece wrote new
+    → IfErr (written_by wrote) (λ stop. DoesPart [] piece [] old stop new)
+said_stopped wrote.Done piece old new after = tt
+said_stopped wrote.Failed piece old new puts = said_part piece old new puts
+said_stopped wrote.NoMemory piece old new same = out_of_memory [] piece [] old new same
+
+pub complained_all : (wrote : Wrote) (piece : List ℕ) (old new : Outside) → Puts (after_complaint old) old piece wrote new
+    → OnOk (written_by wrote) (DoesAll [] [] piece old new)
+complained_all wrote.Done piece old new after = record {
+  all = record {
+    does = record {
+      inputs_stay = ap (λ (o : Outside). o.inputs) after;
+      outputs_stay = ap (λ (o : Outside). o.outputs) after;
+      says = ap (λ (o : Outside). o.said) after ∙ none_appended old.said;
+      complains = ap (λ (o : Outside). o.complained) after;
+      starts = ap (λ (o : Outside). o.started) after ∙ none_named old.started;
+    };
+    faults = record { read = ap (λ (o : Outside). o.read_faults) after; write = ap (λ (o : Outside). o.write_faults) after };
+  };
+  present = ap (λ (o : Outside). o.absences) after;
+}
+complained_all wrote.Failed piece old new puts = tt
+complained_all wrote.NoMemory piece old new same = tt
+
+pub complained_stopped : (wrote : Wrote) (piece : List ℕ) (old new : Outside) → Puts (after_complaint old) old piece wrote new
+    → IfErr (written_by wrote) (λ stop. DoesPart [] [] piece old stop new)
+complained_stopped wrote.Done piece old new after = tt
+complained_stopped wrote.Failed piece old new puts = complained_part piece old new puts
+complained_stopped wrote.NoMemory piece old new same = out_of_memory [] [] piece old new same
 
 -- a start ----------------------------------------------------------------------------------------------------
 

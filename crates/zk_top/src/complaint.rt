@@ -4,9 +4,9 @@ ghost use Rattle.zk_base.specs.Ending.{kind_name};
 ghost use Rattle.zk_top.specs.Complaint.{complaint_of, line};
 ghost use Rattle.zk_top.specs.Parts.{DoesAll, DoesPart};
 
-use crate::stop::Stop;
+use crate::stop::{Stop, written};
 use std::alloc::{AllocError, Global};
-use zk_base::{Ending, ScriptKind, Shelf, Wrote};
+use zk_base::{Ending, ScriptKind, Shelf};
 use zk_value::{push_count, push_span};
 
 /// Complains of an ending on standard error, where there is something to complain of.
@@ -18,11 +18,7 @@ pub fn complain<S: Shelf>(alloc: Global, shelf: &mut S, ending: &Ending) -> Resu
     if complaint.is_empty() {
         return Ok(());
     }
-    match shelf.complain(&complaint) {
-        Wrote::Done => Ok(()),
-        Wrote::Failed => Err(Stop::WriteFault),
-        Wrote::NoMemory => Err(Stop::NoMemory),
-    }
+    written(shelf.complain(&complaint))
 }
 
 /// The complaint of an ending: a line, or nothing.

@@ -2,9 +2,9 @@ ghost use Rattle.std.specs.Prelude.{◌≡◌, ◌≤◌, ◌+◌, [], ◌++◌,
 ghost use Rattle.zk_top.specs.Line.{line_end};
 ghost use Rattle.zk_top.specs.Parts.{DoesAll, DoesPart, HandsOver};
 
-use crate::stop::Stop;
+use crate::stop::{Stop, written};
 use std::alloc::AllocError;
-use zk_base::{Shelf, Wrote};
+use zk_base::Shelf;
 
 /// Output is handed over in pieces of about this many bytes.
 pub const PIECE: usize = 1 << 16;
@@ -52,9 +52,5 @@ pub fn say<S: Shelf>(shelf: &mut S, piece: &[u8]) -> Result<(), Stop>
     if piece.is_empty() {
         return Ok(());
     }
-    match shelf.say(piece) {
-        Wrote::Done => Ok(()),
-        Wrote::Failed => Err(Stop::WriteFault),
-        Wrote::NoMemory => Err(Stop::NoMemory),
-    }
+    written(shelf.say(piece))
 }

@@ -1,8 +1,9 @@
 ghost use Rattle.std.specs.Prelude.{◌≡◌};
 ghost use Rattle.zk_top.specs.declared.stop.Stop.TheVariants.{NoMemory};
+ghost use Rattle.zk_top.specs.Stop.{written_by};
 
 use std::alloc::{AllocError, AllocFailed};
-use zk_base::{Ending, Mem};
+use zk_base::{Ending, Mem, Wrote};
 
 /// What stops a run before its end.
 #[derive(Clone, Copy, Debug, PartialEq, Eq)]
@@ -13,6 +14,17 @@ pub enum Stop {
     WriteFault,
     /// Memory ran out.
     NoMemory,
+}
+
+/// What a write comes to: it is done, or it stops the run.
+pub fn written(wrote: Wrote) -> Result<(), Stop>
+    ensures { result ≡ written_by wrote }
+{
+    match wrote {
+        Wrote::Done => Ok(()),
+        Wrote::Failed => Err(Stop::WriteFault),
+        Wrote::NoMemory => Err(Stop::NoMemory),
+    }
 }
 
 impl From<Mem> for Stop {

@@ -16,7 +16,7 @@ use zk_base::{Counts, Got, Shelf, Started, Wrote};
 ///
 /// A file that doesn't exist is absent. Every other error is a fault, and so is a name that isn't
 /// UTF-8. It tells nothing of what files hold.
-#[derive(Drop)]
+#[derive(Debug, Drop)]
 pub struct DirShelf<F: Files, O, E> {
     files: F,
     out: O,

@@ -136,8 +136,8 @@ fn udp_fields_are_those_that_tshark_prints(rt: HostRuntime) -> Result<(), L4Faul
     Ok(())
 }
 
-/// Made by hand, as those below are, and given to tshark in a capture of its own: ports 49320 and 80,
-/// and a payload of 3 bytes over IPv4.
+/// Made by hand, as those below are; tcpdump prints their fields and judges their checksums so. Ports
+/// 49320 and 80, and a payload of 3 bytes over IPv4.
 const ODD: &[u8] = &[
     0xc0, 0xa8, 0x00, 0x50, 0x01, 0x02, 0x03, 0x04, 0x0a, 0x0b, 0x0c, 0x0d, 0x50, 0x18, 0x20, 0x00,
     0x05, 0x38, 0x00, 0x00, 0x47, 0x45, 0x54,

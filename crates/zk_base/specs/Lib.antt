@@ -1,3 +1,4 @@
+pub mod ByteQueue
 pub mod Checksum
 pub mod Contents
 pub mod Counts
@@ -5,6 +6,7 @@ pub mod Ending
 pub mod Faults
 pub mod Files
 pub mod MemShelf
+pub mod Places
 pub mod Shelf
 pub mod Slices
 pub mod SureShelf

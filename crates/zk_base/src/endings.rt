@@ -47,8 +47,8 @@ pub enum Ending {
     },
 }
 
-/// Why a script was refused. So far only `TooLarge` and `NoTree` occur; the others come with the
-/// rules that they name.
+/// Why a script was refused. So far `TooLarge`, the kinds of tokens (`BadByte`, `OpenString`,
+/// `BigNumber`) and `NoTree` occur; the others come with the rules that they name.
 #[derive(Clone, Copy, Debug, PartialEq, Eq)]
 pub enum ScriptKind {
     /// The file has more than 1,048,576 bytes.

@@ -1,6 +1,7 @@
 //! The types that every crate of zeekoff speaks of, and the outside as the program sees it.
 #![tactic(auto)]
 
+mod byte_queue;
 mod bytes;
 mod checksum;
 mod contents;
@@ -15,6 +16,7 @@ mod shelf;
 mod sure_shelf;
 mod time;
 
+pub use byte_queue::ByteQueue;
 pub use bytes::{Bytes, Word};
 pub use checksum::{is_right_checksum, word_sum};
 pub use counts::Counts;

@@ -4,3 +4,5 @@ pub mod Record
 pub mod View
 pub mod Capture
 pub mod NetworkTime
+pub mod Feed
+pub mod Standing

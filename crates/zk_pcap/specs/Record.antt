@@ -1,6 +1,6 @@
 -- A record (draft-ietf-opsawg-pcap, section 5): in its header of 16 bytes stand the second, the fraction
 -- of it, the captured and the original length. The captured bytes follow.
-use Rattle.std.specs.Prelude.{◌≡◌, ℕ, ◌<◌, ◌≤◌, ◌^◌, ◌+◌, ◌*◌, ◌/◌, Bool, ◌&&◌, nat_le, if◌then◌else◌, List, length, take, drop, pos, Option, Some, None}
+use Rattle.std.specs.Prelude.{◌≡◌, ℕ, ◌<◌, ◌≤◌, ◌^◌, ◌+◌, ◌*◌, ◌/◌, Bool, ◌&&◌, nat_le, nat_lt, if◌then◌else◌, List, length, take, drop, pos, Option, Some, None}
 use Rattle.zk_base.specs.declared.time.Moment.{Moment}
 use Rattle.zk_pcap.specs.declared.headers.Header.{Header}
 use Rattle.zk_pcap.specs.declared.records.Packet.{Packet}
@@ -27,6 +27,13 @@ record_by number nano bytes place =
 
 abbrev pub record_at : Header → List ℕ → ℕ → Option Packet
 record_at header = record_by (number_of header.big) header.nano
+
+-- the record that begins at a place says that more than 262,144 bytes were captured
+abbrev pub is_too_long_by : (ℕ → List ℕ → ℕ) → List ℕ → ℕ → Bool
+is_too_long_by number bytes place = nat_le (place + 12) (length bytes) && nat_lt 262144 (number 4 (drop (place + 8) bytes))
+
+abbrev pub is_too_long : Header → List ℕ → ℕ → Bool
+is_too_long header = is_too_long_by (number_of header.big)
 
 -- the place behind a packet's record
 abbrev pub end_of : Packet → ℕ

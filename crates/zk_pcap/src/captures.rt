@@ -6,7 +6,7 @@ ghost use Rattle.zk_pcap.specs.NetworkTime.{HasNetworkTime};
 ghost use Rattle.zk_pcap.specs.declared.captures.Capture.{Capture as CaptureData};
 
 use crate::headers::HEADER_LEN;
-use crate::records::RecordView;
+use crate::records::PacketView;
 use crate::{CaptureFault, Header, Packet};
 use byteorder::{BigEndian, ByteOrder, LittleEndian};
 use std::alloc::Global;
@@ -93,7 +93,7 @@ fn records<T: ByteOrder>(
 {
     let mut packets = Vec::new(alloc);
     let mut place = HEADER_LEN;
-    while let Some(record) = RecordView::read::<T>(file, place, nano) {
+    while let Some(record) = PacketView::read::<T>(file, place, nano) {
         packets.push(record.to_packet(alloc)?)?;
         place = record.end();
     }

@@ -3,13 +3,15 @@
 
 mod captures;
 mod faults;
+mod feed;
 mod headers;
 mod records;
 
 pub use captures::{CAPTURE_MAX, Capture, CaptureEnding, packets};
 pub use faults::CaptureFault;
+pub use feed::{Feed, Next, feeds_read_captures};
 pub use headers::Header;
-pub use records::Packet;
+pub use records::{Packet, PacketView};
 
 #[cfg(test)]
 mod tests;

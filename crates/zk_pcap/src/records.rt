@@ -1,6 +1,6 @@
 ghost use Rattle.std.specs.Prelude.{◌≡◌, ◌+◌, ◌<◌, ◌≤◌, ◌^◌, length, drop, IfOk, IfSome};
 ghost use Rattle.std.specs.Option.{option_map};
-ghost use Rattle.zk_pcap.specs.Record.{end_of, moment_of, record_by};
+ghost use Rattle.zk_pcap.specs.Record.{end_of, is_too_long_by, moment_of, record_by};
 ghost use Rattle.zk_pcap.specs.View.{packet_of};
 
 use byteorder::ByteOrder;
@@ -20,13 +20,31 @@ pub struct Packet {
     pub place: u64,
 }
 
-/// A packet whose bytes are borrowed from the file.
+/// A packet whose bytes are borrowed.
 #[derive(Clone, Copy, Debug)]
-pub struct RecordView<'a> {
-    moment: Moment,
-    orig_len: u32,
-    bytes: &'a [u8],
-    place: u64,
+pub struct PacketView<'a> {
+    /// When it was captured.
+    pub moment: Moment,
+    /// How many bytes it had on the wire.
+    pub orig_len: u32,
+    /// Its captured bytes, the very slice of what holds them.
+    pub bytes: &'a [u8],
+    /// Where its record begins in the file.
+    pub place: u64,
+}
+
+impl Packet {
+    /// The packet with its bytes lent. No memory is taken.
+    pub fn view(&self) -> PacketView<'_>
+        ensures { packet_of result ≡ self.now }
+    {
+        PacketView {
+            moment: self.moment,
+            orig_len: self.orig_len,
+            bytes: self.bytes.as_slice(),
+            place: self.place,
+        }
+    }
 }
 
 /// The length of a record's header.
@@ -42,9 +60,9 @@ const ORIGINAL: usize = 12;
 /// The most bytes that a record may say were captured: the snaplen that tcpdump sets at most.
 const RECORD_BYTES_MAX: usize = 262_144;
 
-impl<'a> RecordView<'a> {
+impl<'a> PacketView<'a> {
     /// The record that begins at a place of a file, if it is whole.
-    pub fn read<T: ByteOrder>(file: &'a [u8], place: usize, nano: bool) -> Option<RecordView<'a>>
+    pub fn read<T: ByteOrder>(file: &'a [u8], place: usize, nano: bool) -> Option<PacketView<'a>>
         requires { place ≤ length file.now }
         ensures record { option_map packet_of result ≡ record_by T.number_of nano file.now place }
         ensures place { IfSome result (λ view. (packet_of view).place ≡ place) }
@@ -63,7 +81,7 @@ impl<'a> RecordView<'a> {
         }
         let seconds = number_at::<T>(file, place);
         let fraction = number_at::<T>(file, place + FRACTION);
-        Some(RecordView {
+        Some(PacketView {
             moment: moment_of(nano, seconds, fraction),
             orig_len: number_at::<T>(file, place + ORIGINAL),
             bytes: &file[data..data + captured],
@@ -106,4 +124,11 @@ fn number_at<T: ByteOrder>(file: &[u8], place: usize) -> u32
     ensures { result ≡ T.number_of 4 (drop place file.now) }
 {
     T::read_u32(&file[place..])
+}
+
+/// Whether some bytes begin with a record that says that more bytes were captured than one may have.
+pub fn is_too_long<T: ByteOrder>(bytes: &[u8]) -> bool
+    ensures { result ≡ is_too_long_by T.number_of bytes.now 0 }
+{
+    bytes.len() >= ORIGINAL && number_at::<T>(bytes, CAPTURED) as usize > RECORD_BYTES_MAX
 }

@@ -1,3 +1,5 @@
+ghost use Rattle.std.specs.Prelude.{◌<◌, ◌≤◌, length};
+
 use super::*;
 use std::alloc::{AllocError, Global};
 use std::test::Fail;
@@ -164,4 +166,71 @@ fn headers_are_judged_from_the_left(rt: HostRuntime) {
     assert_eq!(rt; Header::read(&bytes[..8]), Err(CaptureFault::Version));
     assert_eq!(rt; CaptureFault::Version.place(), 4);
     assert_eq!(rt; CaptureFault::Link.place(), 20);
+}
+
+/// The packets of a file that comes in pieces of so many bytes, and where an unfinished record begins.
+fn in_pieces(alloc: Global, file: &[u8], size: usize) -> Result<(Vec<Packet>, Option<u64>), Fail>
+    requires size { 0 < size }
+    requires header { 24 ≤ length file.now }
+{
+    let mut feed = Feed::new(alloc, &Header::read(file)?)?;
+    let mut found = Vec::new(alloc);
+    for piece in file[24..].chunks(size) {
+        feed.push(piece)?;
+        for _ in 0..piece.len() {
+            let Next::Packet(view) = feed.next() else {
+                break;
+            };
+            found.push(view.to_packet(alloc)?)?;
+            feed.advance();
+        }
+    }
+    Ok((found, feed.rest()))
+}
+
+/// Whether these are the same packets.
+fn are_same(some: &[Packet], others: &[Packet]) -> bool {
+    some.len() == others.len()
+        && some.iter().zip(others).all(|(packet, other)| {
+            packet.moment == other.moment
+                && packet.orig_len == other.orig_len
+                && packet.bytes.as_slice() == other.bytes.as_slice()
+                && packet.place == other.place
+        })
+}
+
+#[test]
+fn pieces_give_the_packets_of_the_whole(rt: HostRuntime) -> Result<(), Fail> {
+    let whole = packets(rt.alloc(), &QUERY_AND_ANSWER)?;
+    let wanted = whole.packets.as_slice();
+    let (bytes, none) = in_pieces(rt.alloc(), &QUERY_AND_ANSWER, 1)?;
+    assert!(rt; are_same(bytes.as_slice(), wanted));
+    assert_eq!(rt; none, None);
+    let (sevens, none) = in_pieces(rt.alloc(), &QUERY_AND_ANSWER, 7)?;
+    assert!(rt; are_same(sevens.as_slice(), wanted));
+    assert_eq!(rt; none, None);
+    let (one, none) = in_pieces(rt.alloc(), &QUERY_AND_ANSWER, 65_536)?;
+    assert!(rt; are_same(one.as_slice(), wanted));
+    assert_eq!(rt; none, None);
+    let (cut, place) = in_pieces(rt.alloc(), &QUERY_AND_ANSWER[..193], 7)?;
+    assert_eq!(rt; cut.len(), 1);
+    assert_eq!(rt; place, Some(109));
+    Ok(())
+}
+
+#[test]
+fn a_feed_says_what_stands_next(rt: HostRuntime) -> Result<(), Fail> {
+    let mut file = BIG_MICROSECONDS;
+    file[33] = 4;
+    file[35] = 1;
+    let mut feed = Feed::new(rt.alloc(), &Header::read(&file)?)?;
+    feed.push(&file[24..35])?;
+    let Next::NeedMore = feed.next() else {
+        panic!(rt; "the captured length is not whole")
+    };
+    feed.push(&file[35..36])?;
+    let Next::Bad { place: 24 } = feed.next() else {
+        panic!(rt; "262,145 bytes are too many")
+    };
+    Ok(())
 }

@@ -1,0 +1,17 @@
+pub mod AckLemmas
+pub mod AdvanceLemmas
+pub mod ApartLemmas
+pub mod ContentLemmas
+pub mod FrontLemmas
+pub mod HeldLemmas
+pub mod HistoryLemmas
+pub mod LawLemmas
+pub mod NewLemmas
+pub mod PageLemmas
+pub mod PieceLemmas
+pub mod PlaceLemmas
+pub mod PutLemmas
+pub mod RangeLemmas
+pub mod StandingLemmas
+pub mod ToldLemmas
+pub mod Rows

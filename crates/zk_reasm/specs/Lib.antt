@@ -1,0 +1,15 @@
+pub mod Apart
+pub mod Between
+pub mod Direction
+pub mod Gaps
+pub mod Held
+pub mod Histories
+pub mod Judging
+pub mod Page
+pub mod Pages
+pub mod Parts
+pub mod Piece
+pub mod Place
+pub mod Standing
+pub mod Told
+pub mod Views

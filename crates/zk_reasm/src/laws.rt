@@ -1,0 +1,25 @@
+ghost use Rattle.std.specs.Prelude.{◌≡◌, ℕ, ◌+◌, ◌%◌, ◌^◌, ◌<◌, ◌≤◌, min, true, false, List, [], ◌∷◌, ◌++◌, length, Some};
+ghost use Rattle.zk_reasm.specs.Direction.{reach};
+ghost use Rattle.zk_reasm.specs.Histories.{over_of, front_of, byte_of_stream};
+ghost use Rattle.zk_reasm.specs.Told.{Told, Segment, acked, top};
+ghost use Rattle.zk_reasm.specs.Views.{SameView};
+
+/// What a direction put together is, in the subject's own words. There is nothing to run.
+pub fn stream_laws()
+    // The front never falls.
+    ensures front { (base limit : ℕ) (told more : List Told) → front_of base limit told ≤ front_of base limit (told ++ more) }
+
+    // Of two copies of a byte the first stands: what has a place is never changed by anything that is told later.
+    ensures first { (base limit at byte : ℕ) (told more : List Told) → byte_of_stream base limit told at ≡ Some byte
+        → byte_of_stream base limit (told ++ more) at ≡ Some byte }
+
+    // What is over stays so.
+    ensures over { (base limit : ℕ) (told more : List Told) → over_of base limit told ≡ true → over_of base limit (told ++ more) ≡ true }
+
+    // How a run of bytes is cut into segments changes nothing, where it isn't over in between, and no FIN waits for its own segment.
+    ensures cut { (base limit seq : ℕ) (first rest : List ℕ) (told : List Told) → base < 2 ^ 32 → seq < 2 ^ 32 → length first + length rest ≤ 65535
+        → over_of base limit told ≡ false → over_of base limit (told ++ Segment seq first ∷ []) ≡ false
+        → reach base told ≡ min (acked base told) (top base told)
+        → SameView base limit (told ++ Segment seq (first ++ rest) ∷ [])
+        (told ++ Segment seq first ∷ [] ++ Segment ((seq + length first) % 2 ^ 32) rest ∷ []) }
+{}

@@ -1,0 +1,86 @@
+-- The order of keys, and the test whether they are the same.
+use Rattle.std.proofs.Common.{◌≡◌, Bool, true, ◌&&◌, eqb, refl, sym, ap, ◌∙◌}
+use Rattle.std.specs.declared.cmp.Ordering.{Ordering}
+use Rattle.std.specs.declared.cmp.Ordering.TheVariants.{Less, Equal, Greater}
+use Rattle.std.specs.Cmp.{unsigned_ties}
+use Rattle.std.specs.Ordering.{is_eq, ordering_then}
+use Rattle.std.proofs.lemmas.Bool.{and_parts, eq-eqb, eqb-true, false≢true}
+use Rattle.zk_base.specs.declared.network.Addr.{Addr}
+use Rattle.zk_base.specs.declared.network.Addr.TheVariants.{V4, V6}
+use Rattle.zk_base.specs.declared.network.Proto.{Proto}
+use Rattle.zk_base.specs.declared.network.Proto.TheVariants.{Tcp, Udp}
+use Rattle.zk_base.specs.contracts.network.AddrOrd.TheImpl as address_ord
+use Rattle.zk_base.specs.contracts.network.ProtoOrd.TheImpl as proto_ord
+use Rattle.zk_conn.specs.declared.key.Endpoint.{Endpoint}
+use Rattle.zk_conn.specs.declared.key.Key.{Key}
+use Rattle.zk_conn.specs.contracts.key.EndpointOrd.TheImpl as endpoint_ord
+use Rattle.zk_conn.specs.Segment.{same_address, same_endpoint, same_proto, same_key}
+use Rattle.zk_conn.specs.Table.{key_cmp}
+
+address_ties : (a b : Addr) → is_eq ((address_ord.ghosts).cmp a b) ≡ same_address a b
+address_ties (V4 a) (V4 b) = sym (unsigned_ties a b)
+address_ties (V6 a) (V6 b) = sym (unsigned_ties a b)
+address_ties (V4 a) (V6 b) = refl
+address_ties (V6 a) (V4 b) = refl
+
+proto_ties : (a b : Proto) → is_eq ((proto_ord.ghosts).cmp a b) ≡ same_proto a b
+proto_ties Tcp Tcp = refl
+proto_ties Udp Udp = refl
+proto_ties Tcp Udp = refl
+proto_ties Udp Tcp = refl
+
+both : (o p : Ordering) (x y : Bool) → is_eq o ≡ x → is_eq p ≡ y → is_eq (ordering_then o p) ≡ (x && y)
+both Less p x y first second = ap (λ b. b && y) first
+both Equal p x y first second = second ∙ ap (λ b. b && y) first
+both Greater p x y first second = ap (λ b. b && y) first
+
+endpoint_ties : (a b : Endpoint) → is_eq ((endpoint_ord.ghosts).cmp a b) ≡ same_endpoint a b
+endpoint_ties a b = both _ _ _ _ (address_ties a.addr b.addr) (sym (unsigned_ties a.port b.port))
+
+-- two keys are equal in the order of keys exactly where they are the same
+pub is_eq-key_cmp : (a b : Key) → is_eq (key_cmp a b) ≡ same_key a b
+unfolding key_cmp
+is_eq-key_cmp a b = both _ _ _ _ (proto_ties a.proto b.proto) (both _ _ _ _ (endpoint_ties a.low b.low) (endpoint_ties a.high b.high))
+
+same_address_is : (a b : Addr) → same_address a b ≡ true → a ≡ b
+same_address_is (V4 a) (V4 b) same = ap V4 (eqb-true a b same)
+same_address_is (V6 a) (V6 b) same = ap V6 (eqb-true a b same)
+same_address_is (V4 a) (V6 b) same = absurd (false≢true same)
+same_address_is (V6 a) (V4 b) same = absurd (false≢true same)
+
+same_proto_is : (a b : Proto) → same_proto a b ≡ true → a ≡ b
+same_proto_is Tcp Tcp same = refl
+same_proto_is Udp Udp same = refl
+same_proto_is Tcp Udp same = absurd (false≢true same)
+same_proto_is Udp Tcp same = absurd (false≢true same)
+
+same_endpoint_is : (a b : Endpoint) → same_endpoint a b ≡ true → a ≡ b
+same_endpoint_is a b same =
+    let parts = and_parts (same_address a.addr b.addr) (eqb a.port b.port) same in
+    ap (λ x. record a { addr = x }) (same_address_is a.addr b.addr parts.0) ∙ ap (λ x. record b { port = x }) (eqb-true a.port b.port parts.1)
+
+-- keys that are the same are one key
+pub same_key_is : (a b : Key) → same_key a b ≡ true → a ≡ b
+same_key_is a b same =
+    let proto = and_parts (same_proto a.proto b.proto) _ same in
+    let ends = and_parts (same_endpoint a.low b.low) (same_endpoint a.high b.high) proto.1 in
+    ap (λ x. record a { proto = x }) (same_proto_is a.proto b.proto proto.0)
+    ∙ ap (λ x. record a { proto = b.proto; low = x }) (same_endpoint_is a.low b.low ends.0)
+    ∙ ap (λ x. record b { high = x }) (same_endpoint_is a.high b.high ends.1)
+
+same_address-refl : (a : Addr) → same_address a a ≡ true
+same_address-refl (V4 a) = eq-eqb a a refl
+same_address-refl (V6 a) = eq-eqb a a refl
+
+same_proto-refl : (a : Proto) → same_proto a a ≡ true
+same_proto-refl Tcp = refl
+same_proto-refl Udp = refl
+
+same_endpoint-refl : (a : Endpoint) → same_endpoint a a ≡ true
+same_endpoint-refl a = ap (λ b. b && eqb a.port a.port) (same_address-refl a.addr) ∙ eq-eqb a.port a.port refl
+
+-- each key is the same as itself
+pub same_key-refl : (a : Key) → same_key a a ≡ true
+same_key-refl a =
+    ap (λ b. b && (same_endpoint a.low a.low && same_endpoint a.high a.high)) (same_proto-refl a.proto)
+    ∙ ap (λ b. b && same_endpoint a.high a.high) (same_endpoint-refl a.low) ∙ same_endpoint-refl a.high

@@ -1,0 +1,17 @@
+pub mod BeginLemmas
+pub mod DueLemmas
+pub mod HalfLemmas
+pub mod HistoryLemmas
+pub mod HoldsLemmas
+pub mod KeyLemmas
+pub mod MatchLemmas
+pub mod MomentLemmas
+pub mod PacketLemmas
+pub mod RemovalLemmas
+pub mod InstanceLaws
+pub mod InstanceLemmas
+pub mod StandingLemmas
+pub mod TableLemmas
+pub mod ToldLemmas
+pub mod RemoveLemmas
+pub mod Rows

@@ -1,0 +1,245 @@
+-- A value behind one more event of what it stands for.
+use Rattle.std.proofs.Common.{◌≡◌, ℕ, ◌^◌, pos, ◌≤ℤ◌, true, false, cond, List, [], ◌∷◌, ◌++◌, length, length-append, get_or, Option, None, Some, is_some, refl, sym, ap, subst, ◌∙◌, arith, ⊎_elim}
+use Rattle.std.specs.BTreeMap as tree
+use Rattle.std.specs.Option.{option_map, option_and_then}
+use Rattle.std.specs.Ordering.{nat_cmp}
+use Rattle.std.specs.Map.{lookup}
+use Rattle.std.specs.Prelude.{int_le, All}
+use Rattle.std.proofs.lemmas.Bool.{cases_Bool, cases_eq, true≢false}
+use Rattle.std.proofs.lemmas.Grind.{common_steps}
+use Rattle.std.proofs.lemmas.List.{append-nil}
+use Rattle.slab.specs.Slab.{get}
+use Rattle.zk_base.specs.declared.numbers.ConnNo.{ConnNo}
+use Rattle.zk_base.specs.declared.time.Moment.{Moment}
+use Rattle.zk_conn.specs.declared.conns.Conns.{Conns}
+use Rattle.zk_conn.specs.declared.facts.Facts.{Facts}
+use Rattle.zk_conn.specs.declared.instance.Instance.{Instance}
+use Rattle.zk_conn.specs.declared.key.Key.{Key}
+use Rattle.zk_conn.specs.Histories.{latest, begun, begun_by, joined_by, is_live, is_removal, comes_late, Precedes, IsLive}
+use Rattle.zk_conn.specs.Holds.{Holds, Follows, facts_in, removal_of}
+use Rattle.zk_conn.specs.Instance.{moment_after, facts_of}
+use Rattle.zk_conn.specs.Removals.{filing_of}
+use Rattle.zk_conn.specs.Segment.{same_key}
+use Rattle.zk_conn.specs.Standing.{StandsFor, IsLatest, Keeps}
+use Rattle.zk_conn.specs.Table.{key_cmp, kept, slot_numbered, instance_at, key_at, number_at, Matches, IsTable, Changes, Tells}
+use Rattle.zk_conn.specs.Told.{Told, key_told}
+use Rattle.zk_conn.proofs.HoldsLemmas.{holds-append, facts_in-is}
+use Rattle.zk_conn.proofs.KeyLemmas.{same_key_is, same_key-refl}
+use Rattle.zk_conn.proofs.ToldLemmas.{latest-append, begun-append, number_of-quiet, number_of-other, is_live-append}
+
+-- slots that are found as before
+pub matches_same : {K : Type 0} (find find' : K → Option ℕ) (at at' : ℕ → Option K) → ((key : K) → find' key ≡ find key) → ((slot : ℕ) → at' slot ≡ at slot)
+    → Matches find at → Matches find' at'
+matches_same find find' at at' finds ats matches = record {
+  there = λ key slot is. ats slot ∙ matches.there key slot (sym (finds key) ∙ is);
+  found = λ slot key is. finds key ∙ matches.found slot key (sym (ats slot) ∙ is);
+}
+
+-- the table is in order after the instance of a slot changed
+pub table_changed : (old new : Conns) (slot : ℕ) (was is : Instance) → get old.slots slot ≡ Some was → Changes old new slot was is → IsTable old → IsTable new
+table_changed old new slot was is there changes table = record {
+  keys = matches_same (tree.get key_cmp old.keys) (tree.get key_cmp new.keys) (key_at old.slots) (key_at new.slots) changes.keys_are
+      (at_slot (λ (i : Instance). i.key) changes.key_is) table.keys;
+  numbers = matches_same (tree.get nat_cmp old.numbers) (tree.get nat_cmp new.numbers) (number_at old.slots) (number_at new.slots) changes.numbers_are
+      (at_slot (λ (i : Instance). i.number) changes.number_is) table.numbers;
+  tree = changes.tree table.tree;
+}
+  where
+    at_slot : {K : Type 0} (f : Instance → K) → f is ≡ f was → (other : ℕ) → option_map f (get new.slots other) ≡ option_map f (get old.slots other)
+    at_slot f same other = ⊎_elim
+        (λ here. subst (λ s. option_map f (get new.slots s) ≡ option_map f (get old.slots s)) (sym here)
+        (ap (option_map f) changes.is_there ∙ ap Some same ∙ sym (ap (option_map f) there)))
+        (λ apart. ap (option_map f) (changes.others other apart))
+        (cases_eq other slot)
+
+-- the instance of a slot is found by its key
+pub instance_at-slot : (conns : Conns) (slot : ℕ) (instance : Instance) → IsTable conns → get conns.slots slot ≡ Some instance → instance_at conns instance.key ≡ Some instance
+unfolding instance_at
+instance_at-slot conns slot instance table there =
+    ap (option_and_then (get conns.slots)) (table.keys.found slot instance.key (ap (option_map (λ (i : Instance). i.key)) there)) ∙ there
+
+-- a live instance in its slot
+pub record Found (conns : Conns) (told : List Told) (key : Key) : Type 0 where
+  pub slot : ℕ
+  pub instance : Instance
+  pub there : get conns.slots slot ≡ Some instance
+  pub key_is : instance.key ≡ key
+  pub latest : IsLatest told key instance
+
+-- a live instance is found
+pub found_live : (conns : Conns) (told : List Told) (key : Key) → StandsFor conns told → is_live (latest key told) ≡ true → Found conns told key
+unfolding instance_at
+found_live conns told key stands live = by_slot (tree.get key_cmp conns.keys key) refl
+  where
+    by_slot : (o : Option ℕ) → tree.get key_cmp conns.keys key ≡ o → Found conns told key
+    by_slot None none =
+        let gone = subst (Keeps told key) (ap (option_and_then (get conns.slots)) none) (stands.keeps key) in
+        absurd (true≢false (sym live ∙ gone.gone))
+    by_slot (Some slot) some = by_instance (get conns.slots slot) refl
+      where
+        one_key : (k : Key) (i : Instance) → option_map (λ (j : Instance). j.key) (Some i) ≡ Some k → i.key ≡ k
+        one_key k i same = cc
+
+        by_instance : (o : Option Instance) → get conns.slots slot ≡ o → Found conns told key
+        by_instance None none =
+            let gone = subst (Keeps told key) (ap (option_and_then (get conns.slots)) some ∙ none) (stands.keeps key) in
+            absurd (true≢false (sym live ∙ gone.gone))
+        by_instance (Some instance) there = record {
+          slot = slot;
+          instance = instance;
+          there = there;
+          key_is = one_key key instance (sym (ap (option_map (λ (j : Instance). j.key)) there) ∙ stands.table.keys.there key slot some);
+          latest = subst (Keeps told key) (ap (option_and_then (get conns.slots)) some ∙ there) (stands.keeps key);
+        }
+
+-- the slot that a live instance's number finds
+pub numbered_found : (conns : Conns) (told : List Told) (key : Key) (conn : ConnNo) → (stands : StandsFor conns told) → (found : Found conns told key) → IsLive told key conn.0
+    → slot_numbered conns conn ≡ Some found.slot
+unfolding slot_numbered
+numbered_found conns told key conn stands found live =
+    ap (λ n. kept conns.slots (tree.get nat_cmp conns.numbers n)) (sym live.number_is ∙ found.latest.number_is)
+    ∙ ap (kept conns.slots) (stands.table.numbers.found found.slot found.instance.number (ap (option_map (λ (i : Instance). i.number)) found.there))
+    ∙ ap (λ o. cond (is_some o) (Some found.slot) None) found.there
+
+-- another key's instance is as before
+pub instance_changed : (old new : Conns) (slot : ℕ) (was is : Instance) (key : Key) → IsTable old → get old.slots slot ≡ Some was → Changes old new slot was is
+    → same_key was.key key ≡ false → same_key key key ≡ true → instance_at new key ≡ instance_at old key
+unfolding instance_at
+instance_changed old new slot was is key table there changes other itself =
+    ap (option_and_then (get new.slots)) (changes.keys_are key) ∙ by_slot (tree.get key_cmp old.keys key) refl
+  where
+    one_key : {k : Key} {i : Instance} {o : Option Instance} → o ≡ Some i → option_map (λ (j : Instance). j.key) o ≡ Some k → i.key ≡ k
+    one_key {k} {i} {o} some same = let parts : option_map (λ (j : Instance). j.key) (Some i) ≡ Some k = subst (λ x. option_map (λ (j : Instance). j.key) x ≡ Some k) some same in cc
+
+    by_slot : (o : Option ℕ) → tree.get key_cmp old.keys key ≡ o → option_and_then (get new.slots) o ≡ option_and_then (get old.slots) o
+    by_slot None none = refl
+    by_slot (Some s) some = changes.others s
+        (λ here. true≢false (sym itself ∙ ap (λ k. same_key k key) (sym (one_key there (ap (λ x. key_at old.slots x) (sym here) ∙ table.keys.there key s some))) ∙ other))
+
+-- what stands before an event, and the event
+pub all_before : (told : List Told) (event : Told) (t : Moment) → All (Precedes t) (told ++ event ∷ []) → All (Precedes t) told
+all_before told event t order = λ k d within.
+    subst (Precedes t) (let same : get_or (told ++ event ∷ []) k d ≡ get_or told k d = grind (arith, common_steps, within) in same)
+    (order k d (omega (arith, within, length-append told (event ∷ []))))
+
+pub at_last : (told : List Told) (event : Told) (t : Moment) → All (Precedes t) (told ++ event ∷ []) → Precedes t event
+at_last told event t order =
+    subst (Precedes t) (let same : get_or (told ++ event ∷ []) (length told) event ≡ event = grind (arith, common_steps) in same)
+    (order (length told) event (omega (arith, length-append told (event ∷ []))))
+
+-- what a key's instance is, behind an event of another key
+pub keeps_other : (told : List Told) (event : Told) (key : Key) (kept : Option Instance) → same_key (key_told event) key ≡ false → Keeps told key kept
+    → Keeps (told ++ event ∷ []) key kept
+keeps_other told event key None other gone = record {
+  gone = ap is_live (latest-append key told event false other) ∙ gone.gone;
+  late = λ t order. ap (λ l. comes_late l t) (latest-append key told event false other) ∙ gone.late t (all_before told event t order);
+}
+keeps_other told event key (Some instance) other is = record {
+  holds = subst (Holds instance) (sym (latest-append key told event false other)) is.holds;
+  live = ap is_live (latest-append key told event false other) ∙ is.live;
+  number_is = number_of-other key told event other ∙ is.number_is;
+  early = is.early;
+  in_time = is.in_time;
+  filed = is.filed;
+}
+
+-- a live instance behind one more event that neither begins nor removes it
+latest_told : (told : List Told) (event : Told) (key : Key) (was is : Instance) → key_told event ≡ key
+    → joined_by (latest key told) event ≡ latest key told ++ event ∷ [] → begun_by told event ≡ [] → is_removal event ≡ false
+    → pos 0 ≤ℤ (moment_after was.last event).0 → (moment_after was.last event).0 ≤ℤ pos (2 ^ 62) → Follows was is event
+    → int_le is.filed.0 (removal_of is).0 ≡ true → IsLatest told key was → IsLatest (told ++ event ∷ []) key is
+latest_told told event key was is of_key joined quiet kept early late follows filed latest_is =
+    let events = latest-append key told event true (ap (λ k. same_key k key) of_key ∙ same_key-refl key) ∙ joined in
+    record {
+      holds = subst (Holds is) (sym events) (holds-append was is (latest key told) event latest_is.holds follows);
+      live = ap is_live events ∙ is_live-append (latest key told) event latest_is.holds.first latest_is.holds.begun latest_is.live kept;
+      number_is = number_of-quiet key told event quiet ∙ latest_is.number_is ∙ sym follows.number_is;
+      early = subst (λ (m : Moment). pos 0 ≤ℤ m.0) (sym follows.last_is) early;
+      in_time = subst (λ (m : Moment). m.0 ≤ℤ pos (2 ^ 62)) (sym follows.last_is) late;
+      filed = filed;
+    }
+
+-- the value that told a live instance one more event
+pub stands_told : (old new : Conns) (told : List Told) (event : Told) (key : Key) → StandsFor old told → (found : Found old told key)
+    → Tells old new found.slot found.instance event → key_told event ≡ key → joined_by (latest key told) event ≡ latest key told ++ event ∷ []
+    → begun_by told event ≡ [] → is_removal event ≡ false → pos 0 ≤ℤ (moment_after found.instance.last event).0
+    → (moment_after found.instance.last event).0 ≤ℤ pos (2 ^ 62) → StandsFor new (told ++ event ∷ [])
+stands_told old new told event key stands found tells of_key joined quiet kept early late = record {
+  table = table;
+  begun_is = tells.changes.begun_is ∙ stands.begun_is ∙ sym (ap length (begun-append told event ∙ ap (λ l. begun told ++ l) quiet ∙ append-nil (begun told)));
+  keeps = λ other. ⊎_elim
+      (λ same. subst (λ k. Keeps (told ++ event ∷ []) k (instance_at new k)) (same_key_is key other same) here)
+      (λ apart. subst (Keeps (told ++ event ∷ []) other)
+      (sym (instance_changed old new found.slot found.instance tells.is other stands.table found.there tells.changes
+      (ap (λ k. same_key k other) found.key_is ∙ apart) (same_key-refl other)))
+      (keeps_other told event other (instance_at old other) (ap (λ k. same_key k other) of_key ∙ apart) (stands.keeps other)))
+      (cases_Bool (same_key key other));
+}
+  where
+    table : IsTable new
+    table = table_changed old new found.slot found.instance tells.is found.there tells.changes stands.table
+
+    here : Keeps (told ++ event ∷ []) key (instance_at new key)
+    here = subst (Keeps (told ++ event ∷ []) key)
+        (sym (ap (instance_at new) (sym (tells.changes.key_is ∙ found.key_is)) ∙ instance_at-slot new found.slot tells.is table tells.changes.is_there))
+        (latest_told told event key found.instance tells.is of_key joined quiet kept early late tells.follows (tells.filed found.latest.filed) found.latest)
+
+one : {A : Type 0} {o : Option A} (a b : A) → o ≡ Some a → o ≡ Some b → b ≡ a
+one a b first second = cc
+
+-- a live instance that is found by its number was told something of its streams
+pub told_live : (old new : Conns) (told : List Told) (key : Key) (conn : ConnNo) (slot : ℕ) (event : Key → Told) → slot_numbered old conn ≡ Some slot
+    → ((was : Instance) → get old.slots slot ≡ Some was → Tells old new slot was (event was.key)) → StandsFor old told → IsLive told key conn.0
+    → key_told (event key) ≡ key → joined_by (latest key told) (event key) ≡ latest key told ++ event key ∷ [] → begun_by told (event key) ≡ []
+    → is_removal (event key) ≡ false → ((m : Moment) → moment_after m (event key) ≡ m) → StandsFor new (told ++ event key ∷ [])
+told_live old new told key conn slot event numbered tells stands live of_key joined quiet kept same =
+    let found = found_live old told key stands live.live in
+    let at = one slot found.slot numbered (numbered_found old told key conn stands found live) in
+    stands_told old new told (event key) key stands found
+    (subst (λ k. Tells old new found.slot found.instance (event k)) found.key_is
+    (subst (λ s. Tells old new s found.instance (event found.instance.key)) (sym at) (tells found.instance (subst (λ s. get old.slots s ≡ Some found.instance) at found.there))))
+    of_key joined quiet kept
+    (subst (λ (m : Moment). pos 0 ≤ℤ m.0) (sym (same found.instance.last)) found.latest.early)
+    (subst (λ (m : Moment). m.0 ≤ℤ pos (2 ^ 62)) (sym (same found.instance.last)) found.latest.in_time)
+
+-- the facts of a live instance that is found by its number
+pub facts_live : (conns : Conns) (told : List Told) (key : Key) (conn : ConnNo) (slot : ℕ) (now : Instance) (facts : Facts) → slot_numbered conns conn ≡ Some slot
+    → get conns.slots slot ≡ Some now → facts ≡ facts_in now → StandsFor conns told → IsLive told key conn.0 → Some facts ≡ facts_of (latest key told)
+facts_live conns told key conn slot now facts numbered seen is stands live =
+    let found = found_live conns told key stands live.live in
+    let at = one slot found.slot numbered (numbered_found conns told key conn stands found live) in
+    ap Some (is ∙ ap facts_in (one found.instance now found.there (subst (λ s. get conns.slots s ≡ Some now) (sym at) seen)))
+    ∙ facts_in-is found.instance (latest key told) found.latest.holds
+
+-- a value with nothing was told nothing
+pub stands_empty : (conns : Conns) → conns.slots.slots ≡ [] → conns.keys.entries ≡ [] → conns.numbers.entries ≡ [] → conns.firsts.items ≡ [] → conns.begun ≡ 0
+    → StandsFor conns []
+unfolding instance_at
+stands_empty conns slots keys numbers firsts none_begun = record {
+  table = record {
+    keys = empty (tree.get key_cmp conns.keys) (key_at conns.slots) (λ key. ap (lookup (tree.is_at (key_cmp key))) keys) (λ slot. ap (option_map (λ (i : Instance). i.key)) (nothing slot));
+    numbers = empty (tree.get nat_cmp conns.numbers) (number_at conns.slots) (λ number. ap (lookup (tree.is_at (nat_cmp number))) numbers) (λ slot. ap (option_map (λ (i : Instance). i.number)) (nothing slot));
+    tree = record {
+      nodes = λ slot within. absurd (omega (arith, within, ap length firsts));
+      beyond = λ slot past. ap (option_map (filing_of slot)) (nothing slot);
+    };
+  };
+  begun_is = none_begun;
+  keeps = λ key. subst (Keeps [] key) (sym (ap (λ o. option_and_then (get conns.slots) o) (ap (lookup (tree.is_at (key_cmp key))) keys)))
+      (record { gone = refl; late = λ t order. refl });
+}
+  where
+    none : (k : ℕ) (d : Option Instance) → get_or [] k d ≡ d
+    none k d = grind (arith, common_steps)
+
+    nothing : (slot : ℕ) → get conns.slots slot ≡ None
+    nothing slot = ap (λ l. get_or l slot None) slots ∙ none slot None
+
+    not_both : {A : Type 0} {o : Option A} (a : A) → o ≡ None → o ≡ Some a → ⊥
+    not_both a none some = cc
+
+    empty : {K : Type 0} (find : K → Option ℕ) (at : ℕ → Option K) → ((key : K) → find key ≡ None) → ((slot : ℕ) → at slot ≡ None) → Matches find at
+    empty find at finds ats = record {
+      there = λ key slot is. absurd (not_both slot (finds key) is);
+      found = λ slot key is. absurd (not_both key (ats slot) is);
+    }

@@ -1,0 +1,286 @@
+-- The table after the instance of one slot changed.
+use Rattle.std.proofs.Common.{pos, ◌+ℤ◌, ◌≡◌, ◌≢◌, ℕ, ◌+◌, ◌*◌, ◌<◌, ◌≤◌, ◌-◌, ◌++◌, take, replicate, Bool, true, false, cond, List, length, get_or, Option, Some, None, refl, sym, ap, subst, ◌∙◌, arith, ⊎_elim}
+use Rattle.std.specs.BTreeMap as btree
+use Rattle.std.specs.Int.{saturate_signed, w64}
+use Rattle.std.specs.Prelude.{int_le, Result, Ok, Err, OnOk, is_err}
+use Rattle.std.specs.Option.{option_map}
+use Rattle.std.specs.Vec.{with_items}
+use Rattle.std.specs.Global.{Vec}
+use Rattle.std.specs.Ordering.{nat_cmp}
+use Rattle.std.proofs.lemmas.Bool.{cases_eq, cases_lt, true≢false}
+use Rattle.std.proofs.lemmas.Grind.{common_steps}
+use Rattle.std.proofs.lemmas.List.{get_or-set_same, get_or-set_other, with_items_is}
+use Rattle.slab.specs.Slab.{Slab, get, with_value}
+use Rattle.zk_base.specs.declared.network.Side.{Side}
+use Rattle.zk_base.specs.declared.network.Side.TheVariants.{Orig, Resp}
+use Rattle.zk_base.specs.declared.time.Moment.{Moment}
+use Rattle.zk_conn.specs.declared.conns.Conns.{Conns}
+use Rattle.zk_conn.specs.declared.conns.Touched.{Touched}
+use Rattle.zk_conn.specs.declared.half.Half.{Half}
+use Rattle.zk_conn.specs.declared.instance.Instance.{Instance}
+use Rattle.zk_conn.specs.declared.half.StreamEnd.{StreamEnd}
+use Rattle.zk_conn.specs.declared.key.Endpoint.{Endpoint}
+use Rattle.zk_conn.specs.declared.key.Key.{Key}
+use Rattle.zk_conn.specs.declared.removals.Filing.{Filing}
+use Rattle.zk_conn.specs.declared.view.L4View.{L4View}
+use Rattle.zk_conn.specs.Holds.{Follows, half_after, removal_of, touched_between}
+use Rattle.zk_conn.specs.Instance.{same_side, wait}
+use Rattle.zk_conn.specs.Segment.{is_tcp}
+use Rattle.zk_conn.specs.Removals.{earlier, filing_at, filing_of, AllBut, IsTree}
+use Rattle.zk_conn.specs.Table.{key_cmp, Changes, SameFacts, Files, Hastens, Tells}
+use Rattle.zk_conn.specs.Told.{Told, Front}
+use Rattle.zk_conn.proofs.MomentLemmas.{int_le-refl}
+
+-- a slot that has a value is one of the list
+pub slot_within : (slots : Slab Instance) (slot : ℕ) (was : Instance) → get slots slot ≡ Some was → slot < length slots.slots
+slot_within slots slot was there = ⊎_elim (λ lt. lt) (λ ge. absurd (none_some (get_or slots.slots slot None) (grind (arith, common_steps, ge)) there)) (cases_lt slot (length slots.slots))
+  where
+    none_some : (o : Option Instance) → o ≡ None → o ≡ Some was → ⊥
+    none_some o none some = cc
+
+pub with_value-here : (slots : Slab Instance) (slot : ℕ) (was is : Instance) → get slots slot ≡ Some was → get (with_value slots slot is) slot ≡ Some is
+with_value-here slots slot was is there = get_or-set_same slots.slots slot (Some is) None (slot_within slots slot was there)
+
+pub with_value-other : (slots : Slab Instance) (slot other : ℕ) (is : Instance) → other ≢ slot → get (with_value slots slot is) other ≡ get slots other
+with_value-other slots slot other is apart = get_or-set_other slots.slots slot other (Some is) None apart
+
+-- the index is right but at a slot whose filing alone changed
+pub all_but : (old new : Slab Instance) (firsts : List (Option Filing)) (slot : ℕ) (was : Instance) → get old slot ≡ Some was
+    → ((other : ℕ) → other ≢ slot → get new other ≡ get old other) → IsTree old firsts → AllBut new firsts slot
+all_but old new firsts slot was there others tree = record {
+  nodes = λ other in_index apart.
+      tree.nodes other in_index
+      ∙ ap (λ f. earlier (earlier f (get_or firsts (2 * other + 1) None)) (get_or firsts (2 * other + 2) None)) (ap (option_map (filing_of other)) (sym (others other apart)));
+  beyond = λ other past. ⊎_elim
+      (λ here. absurd (no_filing (ap (λ s. option_map (filing_of s) (get old s)) here ∙ ap (option_map (filing_of slot)) there) (tree.beyond other past)))
+      (λ apart. ap (option_map (filing_of other)) (others other apart) ∙ tree.beyond other past)
+      (cases_eq other slot);
+}
+  where
+    no_filing : {o : Option Filing} {f : Filing} → o ≡ Some f → o ≡ None → ⊥
+    no_filing some none = cc
+
+-- the index in its vector, once it is put right
+pub tree_after : (slots : Slab Instance) (firsts : Vec (Option Filing)) (shown refiled : List (Option Filing)) (slot : ℕ)
+    → shown ≡ firsts.items → length refiled ≡ firsts.len → (AllBut slots shown slot → IsTree slots refiled) → AllBut slots firsts.items slot
+    → IsTree slots (with_items firsts refiled).items
+tree_after slots firsts shown refiled slot lent long refile all =
+    subst (IsTree slots) (sym (with_items_is firsts refiled long)) (refile (subst (λ f. AllBut slots f slot) (sym lent) all))
+
+-- a slot has one instance
+pub one_value : {o : Option Instance} {was now : Instance} → o ≡ Some was → o ≡ Some now → now ≡ was
+one_value first second = cc
+
+-- the table in which the instance of a slot was written
+pub changes_written : (old new : Conns) (slot : ℕ) (was is : Instance) → get old.slots slot ≡ Some was → new.slots ≡ with_value old.slots slot is
+    → is.key ≡ was.key → is.number ≡ was.number → new.keys ≡ old.keys → new.numbers ≡ old.numbers → new.begun ≡ old.begun
+    → (IsTree old.slots old.firsts.items → IsTree new.slots new.firsts.items) → Changes old new slot was is
+changes_written old new slot was is there written key_is number_is same_keys same_numbers same_begun tree = record {
+  is_there = ap (λ s. get s slot) written ∙ with_value-here old.slots slot was is there;
+  others = λ other apart. ap (λ s. get s other) written ∙ with_value-other old.slots slot other is apart;
+  key_is = key_is;
+  number_is = number_is;
+  keys_are = λ key. ap (λ m. btree.get key_cmp m key) same_keys;
+  numbers_are = λ number. ap (λ m. btree.get nat_cmp m number) same_numbers;
+  begun_is = same_begun;
+  tree = tree;
+}
+
+-- the instance of a slot that was filed at its removal moment
+pub files_written : (old new : Conns) (slot : ℕ) (was now is : Instance) → get old.slots slot ≡ Some was → get old.slots slot ≡ Some now → SameFacts now is
+    → is.filed ≡ removal_of now → new.slots ≡ with_value old.slots slot is → new.keys ≡ old.keys → new.numbers ≡ old.numbers → new.begun ≡ old.begun
+    → (AllBut new.slots old.firsts.items slot → IsTree new.slots new.firsts.items) → Files old new slot was
+files_written old new slot was now is there seen same filed written same_keys same_numbers same_begun refiled =
+    subst (Files old new slot) (one_value there seen)
+    (record {
+      is = is;
+      written = written;
+      changes = changes_written old new slot now is seen written same.key_is same.number_is same_keys same_numbers same_begun
+          (λ tree. refiled (all_but old.slots new.slots old.firsts.items slot now seen
+          (λ other apart. ap (λ s. get s other) written ∙ with_value-other old.slots slot other is apart) tree));
+      same = same;
+      filed = filed;
+    })
+
+-- instances that know the same are removed at the same moment
+pub removal_of-same : (was is : Instance) → SameFacts was is → removal_of is ≡ removal_of was
+unfolding removal_of
+removal_of-same was is same =
+    ap (λ m. removal_in m is.key is.orig is.resp) same.last_is
+    ∙ ap (λ k. removal_in was.last k is.orig is.resp) same.key_is
+    ∙ ap (λ h. removal_in was.last was.key h is.resp) same.orig_is
+    ∙ ap (λ h. removal_in was.last was.key was.orig h) same.resp_is
+  where
+    removal_in : Moment → Key → Half → Half → Moment
+    removal_in last key orig resp = record { 0 = saturate_signed w64 (last.0 +ℤ pos (wait (is_tcp key.proto) orig.end resp.end)) }
+
+-- an instance that was filed at its removal moment
+pub hastens_filed : (old new : Conns) (slot : ℕ) (was : Instance) → Files old new slot was → Hastens old new slot was
+hastens_filed old new slot was files = record {
+  is = files.is;
+  changes = files.changes;
+  same = files.same;
+  filed = subst (λ (m : Moment). int_le m.0 (removal_of files.is).0 ≡ true) (removal_of-same was files.is files.same ∙ sym files.filed) (int_le-refl (removal_of files.is).0);
+}
+
+-- the index is right where each slot is filed as before
+pub tree_same : (old new : Slab Instance) (firsts : List (Option Filing)) → ((slot : ℕ) → filing_at new slot ≡ filing_at old slot) → IsTree old firsts → IsTree new firsts
+tree_same old new firsts same tree = record {
+  nodes = λ slot in_index. tree.nodes slot in_index
+      ∙ ap (λ f. earlier (earlier f (get_or firsts (2 * slot + 1) None)) (get_or firsts (2 * slot + 2) None)) (sym (same slot));
+  beyond = λ slot past. same slot ∙ tree.beyond slot past;
+}
+
+-- where the instance of a slot was written, each slot is filed as before if the instance is
+filings_written : (old : Slab Instance) (slot : ℕ) (was is : Instance) → get old slot ≡ Some was → is.filed ≡ was.filed → is.number ≡ was.number
+    → (other : ℕ) → filing_at (with_value old slot is) other ≡ filing_at old other
+filings_written old slot was is there filed number other = ⊎_elim
+    (λ here. subst (λ s. filing_at (with_value old slot is) s ≡ filing_at old s) (sym here)
+    (ap (option_map (filing_of slot)) (with_value-here old slot was is there)
+    ∙ ap Some (ap (λ m. record { at = m; number = is.number; slot = slot }) filed ∙ ap (λ n. record { at = was.filed; number = n; slot = slot }) number)
+    ∙ sym (ap (option_map (filing_of slot)) there)))
+    (λ apart. ap (option_map (filing_of other)) (with_value-other old slot other is apart))
+    (cases_eq other slot)
+
+-- the tables before and after an instance had an event and was filed anew
+follows_same : (was mid is : Instance) (event : Told) → Follows was mid event → SameFacts mid is → Follows was is event
+follows_same was mid is event follows same = record {
+  key_is = same.key_is ∙ follows.key_is;
+  number_is = same.number_is ∙ follows.number_is;
+  originator_is = same.originator_is ∙ follows.originator_is;
+  responder_is = same.responder_is ∙ follows.responder_is;
+  start_is = same.start_is ∙ follows.start_is;
+  last_is = same.last_is ∙ follows.last_is;
+  orig_is = same.orig_is ∙ follows.orig_is;
+  resp_is = same.resp_is ∙ follows.resp_is;
+  history_is = same.history_is ∙ follows.history_is;
+}
+
+changes_then : (old mid new : Conns) (slot : ℕ) (was between is : Instance) → Changes old mid slot was between → Changes mid new slot between is → Changes old new slot was is
+changes_then old mid new slot was between is first second = record {
+  is_there = second.is_there;
+  others = λ other apart. second.others other apart ∙ first.others other apart;
+  key_is = second.key_is ∙ first.key_is;
+  number_is = second.number_is ∙ first.number_is;
+  keys_are = λ key. second.keys_are key ∙ first.keys_are key;
+  numbers_are = λ number. second.numbers_are number ∙ first.numbers_are number;
+  begun_is = second.begun_is ∙ first.begun_is;
+  tree = λ tree. second.tree (first.tree tree);
+}
+
+-- the table in which the instance of a slot had an event
+written_changes : (old mid : Conns) (slot : ℕ) (now between : Instance) (event : Told) → get old.slots slot ≡ Some now → Follows now between event
+    → between.filed ≡ now.filed → mid.slots ≡ with_value old.slots slot between → mid.keys ≡ old.keys → mid.numbers ≡ old.numbers → mid.firsts ≡ old.firsts
+    → mid.begun ≡ old.begun → Changes old mid slot now between
+written_changes old mid slot now between event seen follows filed written same_keys same_numbers same_firsts same_begun =
+    changes_written old mid slot now between seen written follows.key_is follows.number_is same_keys same_numbers same_begun
+    (λ tree. subst (λ f. IsTree mid.slots f) (sym (ap (λ v. v.items) same_firsts))
+    (tree_same old.slots mid.slots old.firsts.items
+    (λ other. ap (λ s. filing_at s other) written ∙ filings_written old.slots slot now between seen filed follows.number_is other) tree))
+
+-- an event of an instance, which is then filed anew
+pub tells_hastened : (old mid new : Conns) (slot : ℕ) (was now between : Instance) (event : Told) → get old.slots slot ≡ Some was → get old.slots slot ≡ Some now
+    → Follows now between event → between.filed ≡ now.filed → mid.slots ≡ with_value old.slots slot between → mid.keys ≡ old.keys → mid.numbers ≡ old.numbers
+    → mid.firsts ≡ old.firsts → mid.begun ≡ old.begun → ((w : Instance) → get mid.slots slot ≡ Some w → Hastens mid new slot w) → Tells old new slot was event
+tells_hastened old mid new slot was now between event there seen follows filed written same_keys same_numbers same_firsts same_begun hastens =
+    let first = written_changes old mid slot now between event seen follows filed written same_keys same_numbers same_firsts same_begun in
+    let second = hastens between first.is_there in
+    subst (λ w. Tells old new slot w event) (one_value there seen)
+    (record {
+      is = second.is;
+      changes = changes_then old mid new slot now between second.is first second.changes;
+      follows = follows_same now between second.is event follows second.same;
+      filed = λ _. second.filed;
+    })
+
+end_of_front : (o : Endpoint) (side : Side) (half : Half) (key : Key) (of : Side) (front : ℕ) → (half_after o side half (Front key of front)).end ≡ half.end
+end_of_front o side half key of front = by_cases (same_side of side)
+  where
+    by_cases : (b : Bool) → (let after : Half = cond b (record half { front = front }) half in after.end) ≡ half.end
+    by_cases true = refl
+    by_cases false = refl
+
+removal_of-front : (was is : Instance) (key : Key) (of : Side) (front : ℕ) → Follows was is (Front key of front) → removal_of is ≡ removal_of was
+unfolding removal_of
+removal_of-front was is key of front follows =
+    ap (λ m. removal_in m is.key is.orig.end is.resp.end) follows.last_is
+    ∙ ap (λ k. removal_in was.last k is.orig.end is.resp.end) follows.key_is
+    ∙ ap (λ e. removal_in was.last was.key e is.resp.end) (ap (λ (h : Half). h.end) follows.orig_is ∙ end_of_front was.originator Orig was.orig key of front)
+    ∙ ap (λ e. removal_in was.last was.key was.orig.end e) (ap (λ (h : Half). h.end) follows.resp_is ∙ end_of_front was.originator Resp was.resp key of front)
+  where
+    removal_in : Moment → Key → StreamEnd → StreamEnd → Moment
+    removal_in last key orig resp = record { 0 = saturate_signed w64 (last.0 +ℤ pos (wait (is_tcp key.proto) orig resp)) }
+
+-- a front of an instance
+pub tells_front : (old new : Conns) (slot : ℕ) (was now is : Instance) (of : Side) (front : ℕ) → get old.slots slot ≡ Some was → get old.slots slot ≡ Some now
+    → Follows now is (Front now.key of front) → is.filed ≡ now.filed → new.slots ≡ with_value old.slots slot is → new.keys ≡ old.keys → new.numbers ≡ old.numbers
+    → new.firsts ≡ old.firsts → new.begun ≡ old.begun → Tells old new slot was (Front was.key of front)
+tells_front old new slot was now is of front there seen follows filed written same_keys same_numbers same_firsts same_begun =
+    subst (λ (w : Instance). Tells old new slot w (Front w.key of front)) (one_value there seen)
+    (record {
+      is = is;
+      changes = written_changes old new slot now is (Front now.key of front) seen follows filed written same_keys same_numbers same_firsts same_begun;
+      follows = follows;
+      filed = λ early. subst (λ (m : Moment). int_le m.0 (removal_of is).0 ≡ true) (sym filed)
+          (subst (λ (m : Moment). int_le now.filed.0 m.0 ≡ true) (sym (removal_of-front now is now.key of front follows)) early);
+    })
+
+-- what a packet did is the same by an instance that knows the same
+touched-same : (was mid is : Instance) (opened : Bool) (p : L4View) → SameFacts mid is → touched_between was mid opened p ≡ touched_between was is opened p
+touched-same was mid is opened p same =
+    ap (λ n. touched_by_parts n mid.orig mid.resp) (sym same.number_is)
+    ∙ ap (λ h. touched_by_parts is.number h mid.resp) (sym same.orig_is)
+    ∙ ap (λ h. touched_by_parts is.number is.orig h) (sym same.resp_is)
+  where
+    touched_by_parts : ℕ → Half → Half → Touched
+    touched_by_parts number orig resp = touched_between was (record mid { number = number; orig = orig; resp = resp }) opened p
+
+-- what a packet did, by the instance that was then filed anew
+pub touched_hastened : (old mid new : Conns) (slot : ℕ) (was now between is : Instance) (opened : Bool) (p : L4View) → get old.slots slot ≡ Some was
+    → get old.slots slot ≡ Some now → mid.slots ≡ with_value old.slots slot between → ((w : Instance) → get mid.slots slot ≡ Some w → Hastens mid new slot w)
+    → get new.slots slot ≡ Some is → touched_between now between opened p ≡ touched_between was is opened p
+touched_hastened old mid new slot was now between is opened p there seen written hastens is_there =
+    let second = hastens between (ap (λ s. get s slot) written ∙ with_value-here old.slots slot now between seen) in
+    touched-same now between second.is opened p second.same
+    ∙ ap (λ i. touched_between now i opened p) (sym (one_value second.changes.is_there is_there))
+    ∙ ap (λ i. touched_between i is opened p) (one_value there seen)
+
+-- the index is right but at a slot of its own whose filing alone changed
+pub all_but_within : (old new : Slab Instance) (firsts : List (Option Filing)) (slot : ℕ) → slot < length firsts
+    → ((other : ℕ) → other ≢ slot → get new other ≡ get old other) → IsTree old firsts → AllBut new firsts slot
+all_but_within old new firsts slot within others tree = record {
+  nodes = λ other in_index apart.
+      tree.nodes other in_index
+      ∙ ap (λ f. earlier (earlier f (get_or firsts (2 * other + 1) None)) (get_or firsts (2 * other + 2) None)) (ap (option_map (filing_of other)) (sym (others other apart)));
+  beyond = λ other past. ap (option_map (filing_of other)) (others other (λ here. omega (arith, here, within, past))) ∙ tree.beyond other past;
+}
+
+past_end : (firsts : List (Option Filing)) (slot : ℕ) → length firsts ≤ slot → get_or firsts slot None ≡ None
+past_end firsts slot past = grind (arith, common_steps, past)
+
+-- the index is right where it is longer by slots that have nothing
+pub tree_longer : (slots : Slab Instance) (firsts longer : List (Option Filing)) → ((slot : ℕ) → get_or longer slot None ≡ get_or firsts slot None)
+    → length firsts ≤ length longer → IsTree slots firsts → IsTree slots longer
+tree_longer slots firsts longer same long tree = record {
+  nodes = λ slot in_index. same slot ∙ ⊎_elim (λ within. tree.nodes slot within) (λ past. at_end slot past) (cases_lt slot (length firsts))
+      ∙ ap (λ f. earlier (earlier (filing_at slots slot) f) (get_or firsts (2 * slot + 2) None)) (sym (same (2 * slot + 1)))
+      ∙ ap (earlier (earlier (filing_at slots slot) (get_or longer (2 * slot + 1) None))) (sym (same (2 * slot + 2)));
+  beyond = λ slot past. tree.beyond slot (omega (arith, long, past));
+}
+  where
+    at_end : (slot : ℕ) → length firsts ≤ slot → get_or firsts slot None ≡ earlier (earlier (filing_at slots slot) (get_or firsts (2 * slot + 1) None)) (get_or firsts (2 * slot + 2) None)
+    at_end slot past =
+        past_end firsts slot past
+        ∙ sym (ap (λ f. earlier (earlier f (get_or firsts (2 * slot + 1) None)) (get_or firsts (2 * slot + 2) None)) (tree.beyond slot past)
+        ∙ ap (λ f. earlier (earlier None f) (get_or firsts (2 * slot + 2) None)) (past_end firsts (2 * slot + 1) (omega (arith, past)))
+        ∙ ap (λ f. earlier (earlier None None) f) (past_end firsts (2 * slot + 2) (omega (arith, past))))
+
+-- a vector of the index that was made longer
+pub grown : (firsts : List (Option Filing)) (room n slot : ℕ) → length firsts ≡ n → n < room
+    → get_or (take room firsts ++ replicate (room - n) None) slot None ≡ get_or firsts slot None
+grown firsts room n slot long short = grind (arith, common_steps, short, long)
+
+-- what a result says where it is no error
+pub on_ok-not_err : {A E : Type 0} (r : Result A E) {P : Type 0} → is_err r ≡ false → OnOk r P → P
+on_ok-not_err (Ok x) is fact = fact
+on_ok-not_err (Err e) is fact = absurd (true≢false is)

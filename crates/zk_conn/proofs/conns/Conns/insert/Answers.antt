@@ -1,0 +1,28 @@
+use Rattle.std.proofs.Common.{sym, ap, ◌∙◌, arith}
+use Rattle.slab.specs.Slab.{get}
+use Rattle.zk_conn.specs.Table.{key_cmp}
+use Rattle.zk_conn.proofs.TableLemmas.{tree_after, all_but_within, on_ok-not_err}
+use Rattle.zk_conn.proofs.conns.Conns.insert.Goals as goal
+
+pub returns-clause-ok : goal.returns-clause-ok
+unfolding key_cmp
+returns-clause-ok c =
+    let mid = c.make_room.new.self in
+    let slot = c.vacant_key-slot.result in
+    let at_slot = c.insert_reserved.ensures.key ∙ sym c.vacant_key-slot.ensures.value in
+    let keys = on_ok-not_err c.insert-2.result (sym c.is_err.ensures.value ∙ c.if-is_err.false) c.insert-2.ensures.updates in
+    record {
+      slot = slot;
+      vacant = sym (c.make_room.ensures.same.slots_are slot) ∙ c.vacant_key-slot.ensures.vacant;
+      there = ap (get c.insert_reserved.new.self) (sym at_slot) ∙ c.insert_reserved.ensures.updates.changed;
+      others = λ other apart. c.insert_reserved.ensures.updates.others other (λ here. apart (here ∙ at_slot)) ∙ c.make_room.ensures.same.slots_are other;
+      key_found = keys.1;
+      other_keys = λ other apart. keys.2 other apart ∙ c.make_room.ensures.same.keys_are other;
+      number_found = c.in_ok-insert.ensures.updates.1;
+      other_numbers = λ other apart. c.in_ok-insert.ensures.updates.2 other apart ∙ c.make_room.ensures.same.numbers_are other;
+      begun_is = c.make_room.ensures.same.begun_is;
+      tree = λ tree. tree_after c.insert_reserved.new.self mid.firsts c.deref_mut.result.now c.refile.new.firsts slot c.deref_mut.ensures.value (omega arith) c.refile.ensures
+          (all_but_within mid.slots c.insert_reserved.new.self mid.firsts.items slot
+          (omega (arith, at_slot, c.insert_reserved.ensures.key_in_range, c.insert_reserved.ensures.capacity, c.in_ok-make_room.ensures.index))
+          (λ other apart. c.insert_reserved.ensures.updates.others other (λ here. apart (here ∙ at_slot))) (c.make_room.ensures.same.tree tree));
+    }

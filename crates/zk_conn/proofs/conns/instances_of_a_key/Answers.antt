@@ -1,0 +1,8 @@
+use Rattle.zk_conn.proofs.InstanceLaws.{instance_last, instance_timely}
+use Rattle.zk_conn.proofs.conns.instances_of_a_key.Goals as goal
+
+pub returns-clause-last : goal.returns-clause-last
+returns-clause-last c = instance_last
+
+pub returns-clause-timely : goal.returns-clause-timely
+returns-clause-timely c = instance_timely

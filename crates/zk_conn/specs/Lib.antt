@@ -1,0 +1,12 @@
+pub mod Half
+pub mod Histories
+pub mod History
+pub mod Holds
+pub mod Instance
+pub mod Instances
+pub mod Removals
+pub mod Segment
+pub mod Standing
+pub mod State
+pub mod Table
+pub mod Told

@@ -1,0 +1,83 @@
+ghost use Rattle.std.specs.Prelude.{◌≡◌};
+ghost use Rattle.zk_conn.specs.Segment.{sender, receiver, is_before, address_is_before, key_of};
+
+use crate::view::L4View;
+use zk_base::{Addr, Proto};
+
+/// One end of a connection.
+#[derive(Clone, Copy, Debug, PartialEq, Eq, PartialOrd, Ord)]
+pub struct Endpoint {
+    pub addr: Addr,
+    pub port: u16,
+}
+
+/// Whether an address comes before another: IPv4 before IPv6, and by their numbers.
+fn address_is_before(a: Addr, b: Addr) -> bool
+    ensures { result ≡ address_is_before a b }
+{
+    match (a, b) {
+        (Addr::V4(a), Addr::V4(b)) => a < b,
+        (Addr::V6(a), Addr::V6(b)) => a < b,
+        (Addr::V4(_), Addr::V6(_)) => true,
+        (Addr::V6(_), Addr::V4(_)) => false,
+    }
+}
+
+impl Endpoint {
+    /// Where a packet comes from.
+    pub fn sender(p: &L4View) -> Endpoint
+        ensures { result ≡ sender p.now }
+    {
+        Endpoint {
+            addr: p.src,
+            port: p.sport,
+        }
+    }
+
+    /// Where a packet goes.
+    pub fn receiver(p: &L4View) -> Endpoint
+        ensures { result ≡ receiver p.now }
+    {
+        Endpoint {
+            addr: p.dst,
+            port: p.dport,
+        }
+    }
+
+    /// Whether the end comes before another, by address and then by port.
+    fn is_before(&self, other: &Endpoint) -> bool
+        ensures { result ≡ is_before self.now other.now }
+    {
+        address_is_before(self.addr, other.addr)
+            || self.addr == other.addr && self.port < other.port
+    }
+}
+
+/// What the packets of a connection have in common: the protocol and the two ends, whichever of
+/// them sends.
+#[derive(Clone, Copy, Debug, PartialEq, Eq, PartialOrd, Ord)]
+pub struct Key {
+    pub proto: Proto,
+    pub low: Endpoint,
+    pub high: Endpoint,
+}
+
+impl Key {
+    /// The key of a packet.
+    pub fn of(p: &L4View) -> Key
+        ensures { result ≡ key_of p.now }
+    {
+        let from = Endpoint::sender(p);
+        let to = Endpoint::receiver(p);
+        let (low, high) = if to.is_before(&from) {
+            (to, from)
+        } else {
+            (from, to)
+        };
+        Key {
+            proto: p.proto,
+            low,
+            high,
+        }
+    }
+}

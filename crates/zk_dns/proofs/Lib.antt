@@ -1,0 +1,12 @@
+pub mod ContentLemmas
+pub mod DataLaws
+pub mod DataLemmas
+pub mod FrontLaws
+pub mod MessageLaws
+pub mod NameLaws
+pub mod NameLemmas
+pub mod PartLemmas
+pub mod ReadLemmas
+pub mod Rows
+pub mod StreamLaws
+pub mod TextLemmas

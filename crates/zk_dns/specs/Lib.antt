@@ -1,0 +1,10 @@
+pub mod Name
+pub mod Data
+pub mod Sections
+pub mod Ends
+pub mod Record
+pub mod Stream
+pub mod Text
+pub mod Parts
+pub mod Iterators
+pub mod Views

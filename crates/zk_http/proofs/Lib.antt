@@ -1,0 +1,12 @@
+pub mod CaseLaws
+pub mod ChunkLaws
+pub mod ElementLaws
+pub mod GrowthLaws
+pub mod HeadLaws
+pub mod LengthLaws
+pub mod LineLaws
+pub mod OrderLaws
+pub mod ReadLaws
+pub mod Rows
+pub mod SearchLaws
+pub mod UnitLaws

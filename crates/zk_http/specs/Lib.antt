@@ -1,0 +1,11 @@
+pub mod Places
+pub mod Reads
+pub mod Search
+pub mod Lines
+pub mod Heads
+pub mod Bodies
+pub mod Chunks
+pub mod Cases
+pub mod Units
+pub mod Growth
+pub mod Grammar

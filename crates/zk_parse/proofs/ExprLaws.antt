@@ -55,8 +55,12 @@ from_taken : (kind : TokenKind) (t : Token) (rest : List Token) (x : Expr × Lis
 from_taken (token.Name name) t rest x k e = named_taken t name rest x k e
 from_taken (token.Number number) t rest x k e = alone_taken t (expr.Number t.place number) rest x (k, refl, refl) e
 from_taken (token.String bytes) t rest x k e = alone_taken t (expr.String t.place bytes) rest x (k, refl, refl) e
+from_taken (token.Port port proto) t rest x k e = absurd cc
+from_taken (token.Address address) t rest x k e = absurd cc
+from_taken (token.Subnet cleared width) t rest x k e = absurd cc
+from_taken (token.Attribute name) t rest x k e = absurd cc
+from_taken (token.Load file) t rest x k e = absurd cc
 from_taken (token.Sign found) t rest x k e = absurd cc
-from_taken token.Unread t rest x k e = absurd cc
 
 pub expr_taken : IsTaken spelled_expr expr_at
 unfolding expr_at

@@ -103,14 +103,14 @@ a_comma_is_no_parameter_list : tree_of (at_places 0 (
 unfolding sign_at name_at word_at repeated behind_comma listed call_at named_at expr_at stmt_at stmts_at block_at type_at param_at listed_params_at params_at handler_at decl_at decls_from tree_of
 a_comma_is_no_parameter_list = refl
 
--- a byte that begins no token, behind a whole declaration and within one
-what_is_unread_begins_no_declaration : tree_of (at_places 0 (one_handler ++ token.Unread ∷ [])) ≡ Err 9
+-- a load, behind a whole declaration and within one
+a_load_begins_no_declaration : tree_of (at_places 0 (one_handler ++ token.Load (codes "f") ∷ [])) ≡ Err 9
 unfolding sign_at name_at word_at repeated behind_comma listed call_at named_at expr_at stmt_at stmts_at block_at type_at param_at listed_params_at params_at handler_at decl_at decls_from tree_of
-what_is_unread_begins_no_declaration = refl
+a_load_begins_no_declaration = refl
 
-nothing_reads_over_what_is_unread : tree_of (at_places 0 (printing (token.Unread ∷ []))) ≡ Err 0
+a_load_is_no_value : tree_of (at_places 0 (printing (token.Load (codes "f") ∷ []))) ≡ Err 0
 unfolding sign_at name_at word_at repeated behind_comma listed call_at named_at expr_at stmt_at stmts_at block_at type_at param_at listed_params_at params_at handler_at decl_at decls_from tree_of
-nothing_reads_over_what_is_unread = refl
+a_load_is_no_value = refl
 
 -- the printer spells the tree that is read, token by token
 a_handler_is_spelled : AreSpelled (spelled_tree (record {

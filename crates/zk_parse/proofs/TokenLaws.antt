@@ -1,5 +1,5 @@
 -- Tokens that begin with what is spelled: signs and names.
-use Rattle.std.proofs.Common.{◌≡◌, ℕ, zero, suc, ◌+◌, ◌==◌, true, false, List, [], ◌∷◌, ◌++◌, length, take, drop, Option, Some, None, refl, sym, ap, subst, ◌∙◌, arith, eq-eqb}
+use Rattle.std.proofs.Common.{◌≡◌, ℕ, suc, ◌+◌, ◌==◌, true, false, List, [], ◌∷◌, ◌++◌, length, take, drop, slice_index_or, Option, Some, None, refl, sym, ap, subst, ◌∙◌, arith, eq-eqb}
 use Rattle.std.specs.Str.{bytes_eq}
 use Rattle.std.proofs.lemmas.Bool.{eqb-true}
 use Rattle.std.proofs.lemmas.Option.{cond_some}
@@ -57,32 +57,60 @@ some_same x y e = cc
 
 -- ---- signs
 
+every_sign : List Sign
+every_sign =
+    sign.OpenParenthesis ∷ sign.CloseParenthesis ∷ sign.OpenBracket ∷ sign.CloseBracket ∷ sign.OpenBrace ∷ sign.CloseBrace ∷ sign.Comma ∷ sign.Semicolon ∷ sign.Colon ∷ sign.Question ∷ sign.Dollar ∷ sign.QuestionDollar ∷ sign.Equal ∷ sign.EqualEqual ∷ sign.NotEqual ∷ sign.Less ∷ sign.LessEqual ∷ sign.Greater ∷ sign.GreaterEqual ∷ sign.Plus ∷ sign.Minus ∷ sign.Star ∷ sign.Slash ∷ sign.Percent ∷ sign.Not ∷ sign.NotIn ∷ sign.And ∷ sign.Or ∷ sign.PlusEqual ∷ sign.MinusEqual ∷ sign.PlusPlus ∷ sign.MinusMinus ∷ sign.Bar ∷ []
+
 of_number : ℕ → Sign
-of_number zero = sign.OpenParenthesis
-of_number (suc zero) = sign.CloseParenthesis
-of_number (suc (suc zero)) = sign.OpenBrace
-of_number (suc (suc (suc zero))) = sign.CloseBrace
-of_number (suc (suc (suc (suc zero)))) = sign.Comma
-of_number (suc (suc (suc (suc (suc zero))))) = sign.Colon
-of_number (suc (suc (suc (suc (suc (suc n)))))) = sign.Semicolon
+of_number number = slice_index_or every_sign number sign.OpenParenthesis
 
 of_number_of : (s : Sign) → of_number (number_of s) ≡ s
-unfolding of_number
+unfolding of_number every_sign
 of_number_of sign.OpenParenthesis = refl
 of_number_of sign.CloseParenthesis = refl
+of_number_of sign.OpenBracket = refl
+of_number_of sign.CloseBracket = refl
 of_number_of sign.OpenBrace = refl
 of_number_of sign.CloseBrace = refl
 of_number_of sign.Comma = refl
-of_number_of sign.Colon = refl
 of_number_of sign.Semicolon = refl
+of_number_of sign.Colon = refl
+of_number_of sign.Question = refl
+of_number_of sign.Dollar = refl
+of_number_of sign.QuestionDollar = refl
+of_number_of sign.Equal = refl
+of_number_of sign.EqualEqual = refl
+of_number_of sign.NotEqual = refl
+of_number_of sign.Less = refl
+of_number_of sign.LessEqual = refl
+of_number_of sign.Greater = refl
+of_number_of sign.GreaterEqual = refl
+of_number_of sign.Plus = refl
+of_number_of sign.Minus = refl
+of_number_of sign.Star = refl
+of_number_of sign.Slash = refl
+of_number_of sign.Percent = refl
+of_number_of sign.Not = refl
+of_number_of sign.NotIn = refl
+of_number_of sign.And = refl
+of_number_of sign.Or = refl
+of_number_of sign.PlusEqual = refl
+of_number_of sign.MinusEqual = refl
+of_number_of sign.PlusPlus = refl
+of_number_of sign.MinusMinus = refl
+of_number_of sign.Bar = refl
 
 is_sign-true : (s : Sign) (kind : TokenKind) → is_sign s kind ≡ true → kind ≡ token.Sign s
 is_sign-true s (token.Name bytes) e = absurd cc
 is_sign-true s (token.Number number) e = absurd cc
+is_sign-true s (token.Port port proto) e = absurd cc
+is_sign-true s (token.Address address) e = absurd cc
+is_sign-true s (token.Subnet cleared width) e = absurd cc
 is_sign-true s (token.String bytes) e = absurd cc
+is_sign-true s (token.Attribute name) e = absurd cc
+is_sign-true s (token.Load file) e = absurd cc
 is_sign-true s (token.Sign found) e =
     ap (λ (f : Sign). token.Sign f) (sym (of_number_of found) ∙ ap of_number (eqb-true (number_of found) (number_of s) e) ∙ of_number_of s)
-is_sign-true s token.Unread e = absurd cc
 
 pub sign_taken : (s : Sign) (others : List Spelled) (tokens mid rest : List Token) → sign_at s tokens ≡ Some mid → Starts others mid rest
     → Starts (grammar.follows (token.Sign s) ∷ others) tokens rest
@@ -117,9 +145,13 @@ name_other place name other others (t ∷ tokens) rest p = ap (is_sign other) p.
 name_of-some : (kind : TokenKind) (name : List ℕ) → name_of kind ≡ Some name → kind ≡ word name
 name_of-some (token.Name bytes) name e = cc
 name_of-some (token.Number number) name e = absurd cc
+name_of-some (token.Port port proto) name e = absurd cc
+name_of-some (token.Address address) name e = absurd cc
+name_of-some (token.Subnet cleared width) name e = absurd cc
 name_of-some (token.String bytes) name e = absurd cc
+name_of-some (token.Attribute other) name e = absurd cc
+name_of-some (token.Load file) name e = absurd cc
 name_of-some (token.Sign found) name e = absurd cc
-name_of-some token.Unread name e = absurd cc
 
 -- the first token is this name
 name_at-parts : (t : Token) (tokens : List Token) (x : (ℕ × List ℕ) × List Token) → name_at (t ∷ tokens) ≡ Some x

@@ -45,18 +45,41 @@ Gives view (Err fault) read = Fails fault read
 abbrev pub number_of : Sign → ℕ
 number_of sign.OpenParenthesis = 0
 number_of sign.CloseParenthesis = 1
-number_of sign.OpenBrace = 2
-number_of sign.CloseBrace = 3
-number_of sign.Comma = 4
-number_of sign.Colon = 5
-number_of sign.Semicolon = 6
+number_of sign.OpenBracket = 2
+number_of sign.CloseBracket = 3
+number_of sign.OpenBrace = 4
+number_of sign.CloseBrace = 5
+number_of sign.Comma = 6
+number_of sign.Semicolon = 7
+number_of sign.Colon = 8
+number_of sign.Question = 9
+number_of sign.Dollar = 10
+number_of sign.QuestionDollar = 11
+number_of sign.Equal = 12
+number_of sign.EqualEqual = 13
+number_of sign.NotEqual = 14
+number_of sign.Less = 15
+number_of sign.LessEqual = 16
+number_of sign.Greater = 17
+number_of sign.GreaterEqual = 18
+number_of sign.Plus = 19
+number_of sign.Minus = 20
+number_of sign.Star = 21
+number_of sign.Slash = 22
+number_of sign.Percent = 23
+number_of sign.Not = 24
+number_of sign.NotIn = 25
+number_of sign.And = 26
+number_of sign.Or = 27
+number_of sign.PlusEqual = 28
+number_of sign.MinusEqual = 29
+number_of sign.PlusPlus = 30
+number_of sign.MinusMinus = 31
+number_of sign.Bar = 32
 
 abbrev pub is_sign : Sign → TokenKind → Bool
-is_sign wanted (token.Name bytes) = false
-is_sign wanted (token.Number number) = false
-is_sign wanted (token.String bytes) = false
 is_sign wanted (token.Sign found) = number_of found == number_of wanted
-is_sign wanted token.Unread = false
+is_sign wanted kind = false
 
 -- a sign begins the tokens
 abbrev pub begins : Sign → List Token → Bool
@@ -71,10 +94,7 @@ sign_at wanted (token ∷ rest) = if is_sign wanted token.kind then Some rest el
 -- the bytes of a name
 abbrev pub name_of : TokenKind → Option (List ℕ)
 name_of (token.Name bytes) = Some bytes
-name_of (token.Number number) = None
-name_of (token.String bytes) = None
-name_of (token.Sign found) = None
-name_of token.Unread = None
+name_of kind = None
 
 -- a name with its place
 unfoldable pub name_at : List Token → Option ((ℕ × List ℕ) × List Token)
@@ -133,8 +153,7 @@ abbrev pub expr_from : ℕ → TokenKind → List Token → Option (Expr × List
 expr_from place (token.Name name) rest = named_at place name rest
 expr_from place (token.Number number) rest = Some (expr.Number place number, rest)
 expr_from place (token.String bytes) rest = Some (expr.String place bytes, rest)
-expr_from place (token.Sign found) rest = None
-expr_from place token.Unread rest = None
+expr_from place kind rest = None
 
 unfoldable pub expr_at : List Token → Option (Expr × List Token)
 expr_at [] = None

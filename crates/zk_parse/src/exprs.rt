@@ -49,7 +49,7 @@ fn expr_from<'a>(
             let bytes = Bytes::copy_of(alloc, bytes.as_slice())?;
             Ok((Expr::String { place, bytes }, rest))
         }
-        TokenKind::Sign(_) | TokenKind::Unread => Err(FormFault::NoForm),
+        _ => Err(FormFault::NoForm),
     }
 }
 

@@ -14,7 +14,7 @@ fn kind(alloc: Global, word: &[u8]) -> Result<TokenKind, Mem> {
         [b','] => TokenKind::Sign(Sign::Comma),
         [b':'] => TokenKind::Sign(Sign::Colon),
         [b';'] => TokenKind::Sign(Sign::Semicolon),
-        [b'$'] => TokenKind::Unread,
+        [b'$'] => TokenKind::Sign(Sign::Dollar),
         [digit @ b'0'..=b'9'] => TokenKind::Number(u64::from(*digit - b'0')),
         [b'"', text @ .., b'"'] => TokenKind::String(Bytes::copy_of(alloc, text)?),
         _ => TokenKind::Name(Bytes::copy_of(alloc, word)?),

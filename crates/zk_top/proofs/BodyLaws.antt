@@ -1,5 +1,5 @@
 -- What the bodies of a script come to.
-use Rattle.std.proofs.Common.{◌≡◌, ℕ, zero, suc, ◌+◌, ◌*◌, ◌<◌, ◌≤◌, Bool, true, false, ◌&&◌, ◌||◌, ◌⊎◌, inl, inr, ◌==◌, not, nat_lt, cond, List, [], ◌∷◌, length, length-append, map, Option, Some, None, Result, Ok, Err, slice_get, refl, sym, ap, subst, ◌∙◌, arith}
+use Rattle.std.proofs.Common.{◌≡◌, ℕ, zero, suc, ◌+◌, ◌*◌, ◌<◌, ◌≤◌, Bool, true, false, ◌&&◌, ◌||◌, ◌⊎◌, inl, inr, ◌==◌, not, nat_lt, cond, List, [], ◌∷◌, length, length-append, map, Option, Some, None, Result, Ok, Err, slice_get, refl, sym, ap, subst, ◌∙◌, arith, drop}
 use Rattle.std.specs.List.{All, flat_map, sum_by, list_all, list_any, AllByRecursion}
 use Rattle.std.specs.Option.{option_map_or}
 use Rattle.std.specs.Str.{bytes_eq}
@@ -35,8 +35,10 @@ use Rattle.zk_parse.proofs.TreeLaws.{tree_of-tree}
 use Rattle.zk_top.specs.Bodies.{parameter_count, HasItsArguments, EndsNormally}
 use Rattle.zk_top.specs.Item.{What, Seen}
 use Rattle.zk_top.specs.Printed.{budget, event_of}
-use Rattle.zk_top.specs.Script.{script_max, program_by, script_of}
-use Rattle.zk_top.specs.Tokens.{in_front, items_from, next_token, unread_at, behind_separators, tokens_of}
+use Rattle.zk_token.specs.Fault.{Fault}
+use Rattle.zk_token.specs.Items.{in_front, items_from}
+use Rattle.zk_token.specs.Tokens.{next_token, behind_separators, fault_of, tokens_of}
+use Rattle.zk_top.specs.Script.{script_max, program_by, program_read, script_of}
 
 -- Units, and the tokens that spell what takes them ----------------------------------------------------------------
 
@@ -225,7 +227,7 @@ ends file (decl.Event place name params body) is enough = λ args world same.
     runs_all file (names_of params) args body.stmts world budget names parts.1 enough
 
 -- declarations of a script of the permitted length
-all_end : (decls : List Decl) → list_all is_decl decls ≡ true → length (flat_map spelled_decl decls) ≤ script_max + 1 → All EndsNormally (map (handler_of 0) decls)
+all_end : (decls : List Decl) → list_all is_decl decls ≡ true → length (flat_map spelled_decl decls) ≤ script_max → All EndsNormally (map (handler_of 0) decls)
 all_end [] are short = All-nil EndsNormally
 all_end (d ∷ others) are short =
     let parts = and_parts (is_decl d) (list_all is_decl others) are in
@@ -243,17 +245,15 @@ items_from-length (suc n) read place =
       | Some item ↦ let behind = items_from-length n read item.1 in omega arith
     ]
 
-unread_at-length : (text : List ℕ) (place : ℕ) → length (unread_at text place) ≤ 1
-unread_at-length text place =
-    let unread : Token = record { kind = token.Unread; place = place } in
-    elim (nat_lt place (length text)) as (λ b. length (cond b (unread ∷ []) []) ≤ 1) [ true ↦ omega arith | false ↦ omega arith ]
-
--- at most a token for each byte, and one where the text goes on
-tokens_of-length : (text : List ℕ) → length (tokens_of text) ≤ length text + 1
-tokens_of-length text =
-    let found = items_from (length text) (next_token text) 0 in
-    let end = unread_at text (behind_separators text found.1) in
-    omega (arith, length-append found.0 end, items_from-length (length text) (next_token text) 0, unread_at-length text (behind_separators text found.1))
+-- at most a token for each byte
+tokens-few : (text : List ℕ) (tokens : List Token) → tokens_of text ≡ Ok tokens → length tokens ≤ length text
+tokens-few text tokens is =
+    let found : List Token × ℕ = items_from (length text) (next_token text) 0 in
+    let place : ℕ = behind_separators text found.1 in
+    elim (nat_lt place (length text)) as (λ b. cond b (Err (fault_of place (drop place text))) (Ok found.0) ≡ Ok tokens → length tokens ≤ length text) [
+      | true ↦ λ refused. absurd cc
+      | false ↦ λ all. let same : found.0 ≡ tokens = cc in omega (arith, ap length same, items_from-length (length text) (next_token text) 0)
+    ] is
 
 AreSpelled-length : (spelled : List Spelled) (tokens : List Token) → AreSpelled spelled tokens → length spelled ≡ length tokens
 AreSpelled-length [] [] are = refl
@@ -267,21 +267,28 @@ program_by-ok : (tokens : List Token) (read : Result Tree ℕ) (program : Progra
 program_by-ok tokens (Ok tree) program is = (tree, refl, cc)
 program_by-ok tokens (Err number) program is = absurd cc
 
-tree_ends : (text : List ℕ) (tree : Tree) → length text ≤ script_max → tree_of (tokens_of text) ≡ Ok tree → All EndsNormally (program_of tree).handlers
-tree_ends text tree short is =
-    let reads = (tree_of-tree (tokens_of text) tree).0 is in
-    let long = AreSpelled-length (spelled_tree tree) (tokens_of text) reads.spelled in
-    all_end tree.decls reads.forms (omega (arith, tokens_of-length text))
+tree_ends : (tokens : List Token) (tree : Tree) → length tokens ≤ script_max → tree_of tokens ≡ Ok tree → All EndsNormally (program_of tree).handlers
+tree_ends tokens tree short is =
+    let reads = (tree_of-tree tokens tree).0 is in
+    let long = AreSpelled-length (spelled_tree tree) tokens reads.spelled in
+    all_end tree.decls reads.forms (omega (arith, long, short))
+
+read_ends : (text : List ℕ) (program : Program) → length text ≤ script_max → program_read (tokens_of text) ≡ Ok program → All EndsNormally program.handlers
+read_ends text program short =
+    elim (tokens_of text) as (λ (r : Result (List Token) Fault). tokens_of text ≡ r → program_read r ≡ Ok program → All EndsNormally program.handlers) [
+      | Ok tokens ↦ λ are accepted.
+          let found = program_by-ok tokens (tree_of tokens) program accepted in
+          subst (λ (p : Program). All EndsNormally p.handlers) found.2 (tree_ends tokens found.0 (omega (arith, tokens-few text tokens are, short)) found.1)
+      | Err fault ↦ λ is refused. absurd cc
+    ] refl
 
 -- each body comes to its end
 pub ended : (text : List ℕ) (program : Program) → script_of text ≡ Ok program → All EndsNormally program.handlers
 ended text program =
     elim (nat_lt script_max (length text)) as (λ b. nat_lt script_max (length text) ≡ b
-    → cond b (Err (record { place = script_max; kind = TooLarge })) (program_by (tokens_of text) (tree_of (tokens_of text))) ≡ Ok program → All EndsNormally program.handlers) [
+    → cond b (Err (record { place = script_max; kind = TooLarge })) (program_read (tokens_of text)) ≡ Ok program → All EndsNormally program.handlers) [
       | true ↦ λ is never. absurd cc
-      | false ↦ λ is accepted.
-          let found = program_by-ok (tokens_of text) (tree_of (tokens_of text)) program accepted in
-          subst (λ (p : Program). All EndsNormally p.handlers) found.2 (tree_ends text found.0 (ltb-false script_max (length text) is) found.1)
+      | false ↦ λ is accepted. read_ends text program (ltb-false script_max (length text) is) accepted
     ] refl
 
 -- the events of a run have their arguments

@@ -11,11 +11,5 @@ mod Packets
 mod ReplayLemmas
 mod Rows
 mod Said
-mod SeparatorLaws
 mod SoFar
-mod StringLaws
-mod TokenFormLaws
-mod TokenLaws
-mod TokenRows
-mod TokensLemmas
 mod WholeRun

@@ -19,8 +19,8 @@ use Rattle.zk_top.specs.declared.found.Found.{Found}
 use Rattle.zk_top.specs.declared.found.Found.TheVariants.{Accepted, Refused}
 use Rattle.zk_top.specs.declared.stop.Stop.{Stop}
 use Rattle.zk_parse.specs.Reading.{tree_of}
-use Rattle.zk_top.specs.Script.{Refusal, script_max, program_by, script_of}
-use Rattle.zk_top.specs.Tokens.{tokens_of}
+use Rattle.zk_top.specs.Script.{Refusal, script_max, program_read, script_of}
+use Rattle.zk_token.specs.Tokens.{tokens_of}
 use Rattle.zk_top.specs.Outcome.{Report, over_capture, judged, opened, accepted, loaded, end_of_capture}
 use Rattle.zk_top.specs.Parts.{IsRefusal, IsOfCommand, IsReadBeyond, IsReadOf, DoesWithoutFault, DoesAll, DoesPart, Finds, Fulfils, BreaksOff}
 use Rattle.zk_top.specs.Run.{IsNotStopped, IsPrefix, SameAbsences}
@@ -206,7 +206,7 @@ accepted_there file (Err refusal) name same = let never : ⊥ = cc in never
 
 -- a text that is too large
 too_large : (text : List ℕ) → script_max < length text → script_of text ≡ Err (record { place = script_max; kind = TooLarge })
-too_large text long = ap (λ b. cond b (Err (record { place = script_max; kind = TooLarge })) (program_by (tokens_of text) (tree_of (tokens_of text)))) (lt-ltb script_max (length text) long)
+too_large text long = ap (λ b. cond b (Err (record { place = script_max; kind = TooLarge })) (program_read (tokens_of text))) (lt-ltb script_max (length text) long)
 
 script_read : (whole text : List ℕ) → IsReadBeyond script_max whole text → script_of text ≡ script_of whole
 script_read whole text read = elim read.enough [

@@ -3,7 +3,7 @@ use Rattle.std.proofs.Common.{◌≡◌, ℕ, List, [], ◌∷◌, ◌++◌, cod
 use Rattle.std.specs.Str.{bytes_eq}
 use Rattle.std.specs.Fmt.{digits}
 use Rattle.zk_base.specs.declared.endings.Ending.TheVariants.{Done, Usage, ScriptRefused, NoInput, CaptureRefused, CutShort}
-use Rattle.zk_base.specs.declared.endings.ScriptKind.TheVariants.{NoTree}
+use Rattle.zk_base.specs.declared.endings.ScriptKind.TheVariants.{BadByte, OpenString, NoTree}
 use Rattle.zk_base.specs.Shelf.{Files}
 use Rattle.zk_text.specs.Span.{span_decimal}
 use Rattle.zk_typed.specs.Run.{dispatches_max}
@@ -126,6 +126,19 @@ a_refused_script_is_complained_of = refl
 a_refused_script_asks_for_no_capture : (outcome run (two header (codes "print 1;"))).asked ≡ codes "s.zeek" ∷ []
 unfolding sign_at name_at word_at repeated behind_comma listed call_at named_at expr_at stmt_at stmts_at block_at type_at param_at listed_params_at params_at handler_at decl_at decls_from tree_of one two run header dispatches_max
 a_refused_script_asks_for_no_capture = refl
+
+-- Tokens are judged before the tree.
+a_bad_byte_is_refused_at_its_place : (outcome run (two header (codes "print 1; ~"))).ending ≡ ScriptRefused (codes "s.zeek") 9 BadByte
+unfolding one two run header
+a_bad_byte_is_refused_at_its_place = refl
+
+a_string_that_is_not_closed_is_refused_at_its_quote : (outcome run (two header (codes "global x = \"a"))).ending ≡ ScriptRefused (codes "s.zeek") 11 OpenString
+unfolding one two run header
+a_string_that_is_not_closed_is_refused_at_its_quote = refl
+
+a_great_number_is_complained_of : (outcome run (two header (codes "print 18446744073709551616;"))).complained ≡ codes "zeekoff: s.zeek, byte 6: BigNumber\n"
+unfolding one two run header digits
+a_great_number_is_complained_of = refl
 
 a_script_is_asked_for_before_its_capture : (outcome run (two header [])).asked ≡ codes "s.zeek" ∷ codes "c.pcap" ∷ []
 unfolding sign_at name_at word_at repeated behind_comma listed call_at named_at expr_at stmt_at stmts_at block_at type_at param_at listed_params_at params_at handler_at decl_at decls_from tree_of one two run header dispatches_max

@@ -1,8 +1,6 @@
 pub mod Command
 pub mod Item
 pub mod Line
-pub mod Tokens
-pub mod TokenForms
 pub mod Script
 pub mod Lowering
 pub mod Printed

@@ -16,14 +16,12 @@ mod reading;
 mod replay;
 mod running;
 mod script;
-mod splitter;
 mod stop;
 mod typing;
 
 pub use bodies::script_bodies;
 pub use command::command_line;
 pub use entry::run;
-pub use splitter::script_tokens;
 
 #[cfg(test)]
 mod tests;

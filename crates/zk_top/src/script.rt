@@ -2,17 +2,18 @@ ghost use Rattle.std.specs.Prelude.{◌≡◌, ◌<◌, [], ◌∷◌, length, I
 ghost use Rattle.zk_top.specs.Lowering.{FindsCode, code_found};
 ghost use Rattle.zk_top.specs.Outcome.{accepted};
 ghost use Rattle.zk_top.specs.Parts.{DoesPart};
-ghost use Rattle.zk_top.specs.Script.{script_of, place_of_token};
+ghost use Rattle.zk_parse.specs.Reading.{tree_of};
+ghost use Rattle.zk_top.specs.Script.{script_of, program_by, place_of_token};
 
 use crate::found::Found;
 use crate::lowering::code_of;
 use crate::reading::read_input;
-use crate::splitter::tokens;
 use crate::stop::Stop;
 use crate::typing::program_of;
 use std::alloc::Global;
 use zk_base::{Bytes, Ending, Mem, ScriptKind, Shelf};
 use zk_parse::{ParseFault, parse};
+use zk_token::{LexFault, tokens};
 use zk_tree::Token;
 use zk_value::Code;
 
@@ -36,25 +37,38 @@ fn compile(alloc: Global, name: Bytes, text: &[u8]) -> Result<Found<Code>, Mem>
     ensures { IfOk result (λ code. code ≡ code_found (accepted name (script_of text.now))) }
 {
     if text.len() > SCRIPT_MAX {
-        return Ok(Found::Refused(Ending::ScriptRefused {
-            file: name,
-            place: SCRIPT_MAX as u64,
-            kind: ScriptKind::TooLarge,
-        }));
+        return Ok(refused(name, SCRIPT_MAX as u64, ScriptKind::TooLarge));
     }
-    let tokens = tokens(alloc, text)?;
-    match parse(alloc, &tokens) {
+    match tokens(alloc, text) {
+        Ok(tokens) => compile_tokens(alloc, name, tokens.as_slice()),
+        Err(LexFault::BadByte { place }) => Ok(refused(name, place, ScriptKind::BadByte)),
+        Err(LexFault::OpenString { place }) => Ok(refused(name, place, ScriptKind::OpenString)),
+        Err(LexFault::BigNumber { place }) => Ok(refused(name, place, ScriptKind::BigNumber)),
+        Err(LexFault::NoMemory) => Err(Mem),
+    }
+}
+
+/// The code of the tokens of a text, or how a run ends where they are refused.
+fn compile_tokens(alloc: Global, name: Bytes, tokens: &[Token]) -> Result<Found<Code>, Mem>
+    ensures { IfOk result (λ code. code ≡ code_found (accepted name (program_by tokens.now (tree_of tokens.now)))) }
+{
+    match parse(alloc, tokens) {
         Ok(tree) => {
             let program = program_of(alloc, &tree)?;
             Ok(Found::Accepted(code_of(alloc, &program)?))
         }
-        Err(ParseFault::NoTree { at }) => Ok(Found::Refused(Ending::ScriptRefused {
-            file: name,
-            place: place_of(&tokens, at),
-            kind: ScriptKind::NoTree,
-        })),
+        Err(ParseFault::NoTree { at }) => {
+            Ok(refused(name, place_of(tokens, at), ScriptKind::NoTree))
+        }
         Err(ParseFault::NoMemory) => Err(Mem),
     }
+}
+
+/// A script is refused at a byte of its file.
+fn refused(file: Bytes, place: u64, kind: ScriptKind) -> Found<Code>
+    ensures { result ≡ Found.Refused (Ending.ScriptRefused file place kind) }
+{
+    Found::Refused(Ending::ScriptRefused { file, place, kind })
 }
 
 /// The place of a token, by its number.

@@ -54,7 +54,7 @@ const RUN: &[u8] = b"run -b -r c.pcap s.zeek";
 
 /// A command line, the bytes of `c.pcap`, the text of `s.zeek`, the status, and what is said and
 /// complained.
-const ROWS: [(&[u8], &[u8], &[u8], u8, &[u8], &[u8]); 27] = [
+const ROWS: [(&[u8], &[u8], &[u8], u8, &[u8], &[u8]); 30] = [
     (b"list c.pcap", &HEADER, b"", 0, b"", b""),
     (
         b"list c.pcap",
@@ -202,18 +202,43 @@ const ROWS: [(&[u8], &[u8], &[u8], u8, &[u8], &[u8]); 27] = [
     (
         RUN,
         &HEADER,
-        b"event zeek_init() { print 1; }@",
+        b"&log event zeek_init() { print 1; }",
         2,
         b"",
-        b"zeekoff: s.zeek, byte 30: NoTree\n",
+        b"zeekoff: s.zeek, byte 0: NoTree\n",
+    ),
+    // Tokens are judged before the tree, at the first fault.
+    (
+        RUN,
+        &HEADER,
+        b"print 1; event zeek_init() { print 1; }@",
+        2,
+        b"",
+        b"zeekoff: s.zeek, byte 39: BadByte\n",
     ),
     (
         RUN,
         &HEADER,
-        b"event zeek_init() { } event zeek_done() { print \"a; }",
+        b"event zeek_init() { print \"fine\\n\", \"a\\q\"; }",
         2,
         b"",
-        b"zeekoff: s.zeek, byte 22: NoTree\n",
+        b"zeekoff: s.zeek, byte 38: BadByte\n",
+    ),
+    (
+        RUN,
+        &HEADER,
+        b"global x: count = \"a",
+        2,
+        b"",
+        b"zeekoff: s.zeek, byte 18: OpenString\n",
+    ),
+    (
+        RUN,
+        &HEADER,
+        b"event zeek_init() { print 18446744073709551616; }",
+        2,
+        b"",
+        b"zeekoff: s.zeek, byte 26: BigNumber\n",
     ),
     // The script is judged before the capture is asked for.
     (

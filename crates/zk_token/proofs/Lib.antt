@@ -1,0 +1,14 @@
+mod ByteTests
+mod ClosingLaws
+mod DigitLaws
+mod FaultLaws
+mod FormLaws
+mod FrontLaws
+mod ItemLaws
+mod NumeralLaws
+mod Rows
+mod SeparatorLaws
+mod SignLaws
+mod StringLaws
+mod TokenLaws
+mod WordLaws

@@ -1,6 +1,0 @@
-use Rattle.std.proofs.Common.{◌≡◌, ◌+◌, drop}
-use Rattle.zk_top.specs.Tokens.{separators, separators_after}
-use Rattle.zk_top.proofs.splitter.separators.Given as goal
-
-abbrev pub invariant-loop-index : goal.invariant-loop-index
-invariant-loop-index l = separators l.text ≡ l.index + separators_after l.comment (drop l.index l.text)

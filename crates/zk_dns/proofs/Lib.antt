@@ -8,5 +8,6 @@ pub mod NameLemmas
 pub mod PartLemmas
 pub mod ReadLemmas
 pub mod Rows
+pub mod SkipLemmas
 pub mod StreamLaws
 pub mod TextLemmas

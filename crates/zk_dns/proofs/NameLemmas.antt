@@ -206,7 +206,7 @@ name_end-begins bytes bound place end found =
     ∙ ap (λ (e : RunEnd). told (behind_ending bytes e.place) (left_of bytes place e)) (sym end_is)
 
 -- what is left behind a run that ends in a pointer back is what is read there
-left-pointer : (next : ℕ) (bytes : List ℕ) (start : ℕ) (end : RunEnd) (target : ℕ)
+pub left-pointer : (next : ℕ) (bytes : List ℕ) (start : ℕ) (end : RunEnd) (target : ℕ)
     → byte_at bytes end.place ≢ 0 → target ≡ target_at bytes end.place → 12 ≤ target → target < start
     → told next (left_of bytes start end) ≡ told next (rest_at bytes (whole bytes) end.size target)
 unfolding ended
@@ -228,30 +228,22 @@ pub left-astray : (next : ℕ) (bytes : List ℕ) (start : ℕ) (end : RunEnd) �
 unfolding ended
 left-astray next bytes start end pointer astray = grind (arith, nat_tests)
 
--- a pointer to a run that can't be read
-pub left-fault : (next : ℕ) (bytes : List ℕ) (start : ℕ) (end : RunEnd) (target : ℕ) (why : DnsFault)
-    → byte_at bytes end.place ≢ 0 → target ≡ target_at bytes end.place → 12 ≤ target → target < start
-    → run_end_at bytes (whole bytes) end.size target ≡ Err why
-    → told next (left_of bytes start end) ≡ Err why
+-- what is read where a name goes on is left behind the run there
+pub rest-goes_on : (next : ℕ) (bytes : List ℕ) (size place : ℕ) (other : RunEnd) → run_end_at bytes (whole bytes) size place ≡ Ok other
+    → told next (rest_at bytes (whole bytes) size place) ≡ told next (left_of bytes place other)
 unfolding run_end_at
-left-fault next bytes start end target why pointer target_is behind before found =
+rest-goes_on next bytes size place other found =
+    let (run, read, other_is) = run-found (run_at bytes (whole bytes) size place) size other found in
     let follow : ℕ → ℕ → Result Name DnsFault = rest_at bytes (whole bytes) in
-    left-pointer next bytes start end target pointer target_is behind before
-    ∙ ap (told next) (rest_is bytes (whole bytes) end.size target)
-    ∙ run-refused (run_at bytes (whole bytes) end.size target) end.size why (ended follow bytes end.size target) next found
+    ap (told next) (rest_is bytes (whole bytes) size place ∙ ap (λ (r : Result Run DnsFault). r >>= ended follow bytes size place) read)
+    ∙ told-bare next follow bytes size place run
+    ∙ ap (λ (e : RunEnd). told next (left_of bytes place e)) (sym other_is)
 
--- behind a pointer what is left of the name is left behind the run there
-pub left-goes_on : (next : ℕ) (bytes : List ℕ) (start : ℕ) (end : RunEnd) (target : ℕ) (other : RunEnd)
-    → byte_at bytes end.place ≢ 0 → target ≡ target_at bytes end.place → 12 ≤ target → target < start
-    → run_end_at bytes (whole bytes) end.size target ≡ Ok other
-    → told next (left_of bytes start end) ≡ told next (left_of bytes target other)
+-- a name that goes on at a run that can't be read
+pub rest-fault : (next : ℕ) (bytes : List ℕ) (size place : ℕ) (why : DnsFault) → run_end_at bytes (whole bytes) size place ≡ Err why
+    → told next (rest_at bytes (whole bytes) size place) ≡ Err why
 unfolding run_end_at
-left-goes_on next bytes start end target other pointer target_is behind before found =
-    let (run, read, other_is) = run-found (run_at bytes (whole bytes) end.size target) end.size other found in
+rest-fault next bytes size place why found =
     let follow : ℕ → ℕ → Result Name DnsFault = rest_at bytes (whole bytes) in
-    let rest : follow end.size target ≡ ended follow bytes end.size target run
-    = rest_is bytes (whole bytes) end.size target ∙ ap (λ (r : Result Run DnsFault). r >>= ended follow bytes end.size target) read in
-    left-pointer next bytes start end target pointer target_is behind before
-    ∙ ap (told next) rest
-    ∙ told-bare next follow bytes end.size target run
-    ∙ ap (λ (e : RunEnd). told next (left_of bytes target e)) (sym other_is)
+    ap (told next) (rest_is bytes (whole bytes) size place)
+    ∙ run-refused (run_at bytes (whole bytes) size place) size why (ended follow bytes size place) next found

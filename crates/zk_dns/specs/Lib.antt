@@ -4,6 +4,7 @@ pub mod Sections
 pub mod Ends
 pub mod Record
 pub mod Stream
+pub mod Skips
 pub mod Text
 pub mod Parts
 pub mod Iterators

@@ -1,5 +1,6 @@
 ghost use Rattle.std.specs.Prelude.{◌≡◌, ◌+◌, ◌≤◌, ℕ, List, true, length, map, Ok, Some, IfOk, IsOk, is_ok};
 ghost use Rattle.zk_dns.specs.Data.{data_at, data_of, number_at, soa_at, strings_of};
+ghost use Rattle.zk_dns.specs.Skips.{AreSkips};
 ghost use Rattle.zk_dns.specs.Text.{HasName, text_at};
 ghost use Rattle.zk_dns.specs.Sections.{Asked, Resource, question_at, resource_at, several};
 ghost use Rattle.zk_dns.specs.Record.{answer_of, question_of};
@@ -28,16 +29,18 @@ const MINIMUM: usize = 16;
 pub fn questions(
     alloc: Global,
     bytes: &[u8],
+    skips: &[u16],
     count: u16,
     start: usize,
 ) -> Result<Sequence<Question>, Mem>
-    requires { is_ok (several (question_at bytes.now) count start) ≡ true }
+    requires skips { AreSkips bytes.now skips.now }
+    requires read { is_ok (several (question_at bytes.now) count start) ≡ true }
     ensures { IfOk result (λ questions. questions ≡ map question_of (parts_of (several (question_at bytes.now) count start))) }
 {
     let mut questions = Vec::new(alloc);
     let mut place = start;
     for _ in 0..count {
-        let (question, behind) = question(alloc, bytes, place)?;
+        let (question, behind) = question(alloc, bytes, skips, place)?;
         questions.push(question)?;
         place = behind;
     }
@@ -48,16 +51,18 @@ pub fn questions(
 pub fn answers(
     alloc: Global,
     bytes: &[u8],
+    skips: &[u16],
     count: u16,
     start: usize,
 ) -> Result<Sequence<Answer>, Mem>
-    requires { is_ok (several (resource_at bytes.now) count start) ≡ true }
+    requires skips { AreSkips bytes.now skips.now }
+    requires read { is_ok (several (resource_at bytes.now) count start) ≡ true }
     ensures { IfOk result (λ answers. answers ≡ map answer_of (parts_of (several (resource_at bytes.now) count start))) }
 {
     let mut answers = Vec::new(alloc);
     let mut place = start;
     for _ in 0..count {
-        let (answer, behind) = answer(alloc, bytes, place)?;
+        let (answer, behind) = answer(alloc, bytes, skips, place)?;
         answers.push(answer)?;
         place = behind;
     }
@@ -65,14 +70,20 @@ pub fn answers(
 }
 
 /// The question at a place, and the place behind it.
-fn question(alloc: Global, bytes: &[u8], place: usize) -> Result<(Question, usize), Mem>
-    requires { IsOk (question_at bytes.now place) }
+fn question(
+    alloc: Global,
+    bytes: &[u8],
+    skips: &[u16],
+    place: usize,
+) -> Result<(Question, usize), Mem>
+    requires skips { AreSkips bytes.now skips.now }
+    requires read { IsOk (question_at bytes.now place) }
     ensures { IfOk result (λ found. (asked : Asked) (next : ℕ) → question_at bytes.now place ≡ Ok (asked, next)
         → (found.0 ≡ question_of asked) × (found.1 ≡ next)) }
 {
     let (part, behind) = QuestionPart::read(bytes, place);
     let question = Question {
-        name: name_text(alloc, bytes, place)?,
+        name: name_text(alloc, bytes, skips, place)?,
         qtype: part.qtype,
         qclass: part.qclass,
     };
@@ -80,20 +91,22 @@ fn question(alloc: Global, bytes: &[u8], place: usize) -> Result<(Question, usiz
 }
 
 /// The record at a place, and the place behind it.
-fn answer(alloc: Global, bytes: &[u8], place: usize) -> Result<(Answer, usize), Mem>
-    requires { IsOk (resource_at bytes.now place) }
+fn answer(alloc: Global, bytes: &[u8], skips: &[u16], place: usize) -> Result<(Answer, usize), Mem>
+    requires skips { AreSkips bytes.now skips.now }
+    requires read { IsOk (resource_at bytes.now place) }
     ensures { IfOk result (λ found. (resource : Resource) (next : ℕ) → resource_at bytes.now place ≡ Ok (resource, next)
         → (found.0 ≡ answer_of resource) × (found.1 ≡ next)) }
 {
     let (part, behind) = AnswerPart::read(bytes, place);
     let answer = Answer {
-        name: name_text(alloc, bytes, place)?,
+        name: name_text(alloc, bytes, skips, place)?,
         rtype: part.rtype,
         rclass: part.rclass,
         ttl: part.ttl,
         what: what(
             alloc,
             bytes,
+            skips,
             part.rtype,
             part.rclass,
             part.at,
@@ -107,17 +120,19 @@ fn answer(alloc: Global, bytes: &[u8], place: usize) -> Result<(Answer, usize), 
 fn what(
     alloc: Global,
     bytes: &[u8],
+    skips: &[u16],
     rtype: u16,
     rclass: u16,
     at: usize,
     len: usize,
 ) -> Result<AnswerKind, Mem>
     requires whole { at + len ≤ length bytes.now }
+    requires skips { AreSkips bytes.now skips.now }
     requires read { IsOk (data_at bytes.now rtype rclass at len) }
     ensures { IfOk result (λ what. data_at bytes.now rtype rclass at len ≡ Ok what) }
 {
     if rclass == types::INTERNET {
-        what_by_type(alloc, bytes, rtype, at, len)
+        what_by_type(alloc, bytes, skips, rtype, at, len)
     } else {
         Ok(AnswerKind::Other)
     }
@@ -127,11 +142,13 @@ fn what(
 fn what_by_type(
     alloc: Global,
     bytes: &[u8],
+    skips: &[u16],
     rtype: u16,
     at: usize,
     len: usize,
 ) -> Result<AnswerKind, Mem>
     requires whole { at + len ≤ length bytes.now }
+    requires skips { AreSkips bytes.now skips.now }
     requires read { IsOk (data_of bytes.now rtype at len) }
     ensures { IfOk result (λ what. data_of bytes.now rtype at len ≡ Ok what) }
 {
@@ -139,28 +156,29 @@ fn what_by_type(
         types::A => Ok(AnswerKind::A(u32_at(bytes, at))),
         types::AAAA => Ok(AnswerKind::Aaaa(BigEndian::read_u128(&bytes[at..]))),
         types::NS | types::CNAME | types::PTR => {
-            Ok(AnswerKind::Name(name_text(alloc, bytes, at)?))
+            Ok(AnswerKind::Name(name_text(alloc, bytes, skips, at)?))
         }
         types::MX => Ok(AnswerKind::Mx {
             preference: u16_at(bytes, at),
-            name: name_text(alloc, bytes, at + PREFERENCE_LEN)?,
+            name: name_text(alloc, bytes, skips, at + PREFERENCE_LEN)?,
         }),
         types::TXT => Ok(AnswerKind::Txt(strings(alloc, &bytes[at..at + len])?)),
-        types::SOA => soa(alloc, bytes, at, len),
+        types::SOA => soa(alloc, bytes, skips, at, len),
         _ => Ok(AnswerKind::Other),
     }
 }
 
 /// What the data of a zone of authority says, where it can be read.
-fn soa(alloc: Global, bytes: &[u8], at: usize, len: usize) -> Result<AnswerKind, Mem>
+fn soa(alloc: Global, bytes: &[u8], skips: &[u16], at: usize, len: usize) -> Result<AnswerKind, Mem>
     requires whole { at + len ≤ length bytes.now }
+    requires skips { AreSkips bytes.now skips.now }
     requires read { IsOk (soa_at bytes.now at (at + len)) }
     ensures { IfOk result (λ what. soa_at bytes.now at (at + len) ≡ Ok what) }
 {
     let (between, numbers) = soa_places(bytes, at, len);
     Ok(AnswerKind::Soa {
-        mname: name_text(alloc, bytes, at)?,
-        rname: name_text(alloc, bytes, between)?,
+        mname: name_text(alloc, bytes, skips, at)?,
+        rname: name_text(alloc, bytes, skips, between)?,
         serial: u32_at(bytes, numbers),
         refresh: u32_at(bytes, numbers + REFRESH),
         retry: u32_at(bytes, numbers + RETRY),

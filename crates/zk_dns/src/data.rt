@@ -1,5 +1,6 @@
 ghost use Rattle.std.specs.Prelude.{◌≡◌, ◌-◌, ◌≤◌, length};
 ghost use Rattle.zk_dns.specs.Data.{data_at, data_of};
+ghost use Rattle.zk_dns.specs.Skips.{AreSkips};
 ghost use Rattle.zk_dns.specs.Ends.{are_strings, judged, name_judged, only_if, soa_judged};
 
 use crate::bound::Bound;
@@ -19,51 +20,77 @@ pub const PREFERENCE_LEN: usize = 2;
 const SOA_NUMBERS_LEN: usize = 20;
 
 /// Judges the data of a record, which stands between two places. Only that of class 1 is judged.
-pub fn judge(bytes: &[u8], rtype: u16, rclass: u16, at: usize, end: usize) -> Result<(), DnsFault>
+pub fn judge(
+    bytes: &[u8],
+    skips: &[u16],
+    rtype: u16,
+    rclass: u16,
+    at: usize,
+    end: usize,
+) -> Result<(), DnsFault>
     requires order { at ≤ end }
     requires whole { end ≤ length bytes.now }
+    requires skips { AreSkips bytes.now skips.now }
     ensures { result ≡ judged (data_at bytes.now rtype rclass at (end - at)) }
 {
     if rclass == types::INTERNET {
-        judge_by_type(bytes, rtype, at, end)
+        judge_by_type(bytes, skips, rtype, at, end)
     } else {
         Ok(())
     }
 }
 
 /// Judges the data of a record of class 1.
-fn judge_by_type(bytes: &[u8], rtype: u16, at: usize, end: usize) -> Result<(), DnsFault>
+fn judge_by_type(
+    bytes: &[u8],
+    skips: &[u16],
+    rtype: u16,
+    at: usize,
+    end: usize,
+) -> Result<(), DnsFault>
     requires order { at ≤ end }
     requires whole { end ≤ length bytes.now }
+    requires skips { AreSkips bytes.now skips.now }
     ensures { result ≡ judged (data_of bytes.now rtype at (end - at)) }
 {
     match rtype {
         types::A => only_if(end - at == IP4_LEN, at),
         types::AAAA => only_if(end - at == IP6_LEN, at),
-        types::NS | types::CNAME | types::PTR => judge_name(bytes, at, at, end),
-        types::MX => judge_name(bytes, at, at + PREFERENCE_LEN, end),
+        types::NS | types::CNAME | types::PTR => judge_name(bytes, skips, at, at, end),
+        types::MX => judge_name(bytes, skips, at, at + PREFERENCE_LEN, end),
         types::TXT => only_if(are_strings(&bytes[at..end]), at),
-        types::SOA => judge_soa(bytes, at, end),
+        types::SOA => judge_soa(bytes, skips, at, end),
         _ => Ok(()),
     }
 }
 
 /// Judges data that begins at `at` and is a name from a place on.
-fn judge_name(bytes: &[u8], at: usize, place: usize, end: usize) -> Result<(), DnsFault>
-    requires { end ≤ length bytes.now }
+fn judge_name(
+    bytes: &[u8],
+    skips: &[u16],
+    at: usize,
+    place: usize,
+    end: usize,
+) -> Result<(), DnsFault>
+    requires whole { end ≤ length bytes.now }
+    requires skips { AreSkips bytes.now skips.now }
     ensures { result ≡ name_judged bytes.now at place end }
 {
-    only_if(name_end(bytes, Bound::data(at, end), place)? == end, at)
+    only_if(
+        name_end(bytes, skips, Bound::data(at, end), place)? == end,
+        at,
+    )
 }
 
 /// Judges data that is two names and five numbers.
-fn judge_soa(bytes: &[u8], at: usize, end: usize) -> Result<(), DnsFault>
-    requires { end ≤ length bytes.now }
+fn judge_soa(bytes: &[u8], skips: &[u16], at: usize, end: usize) -> Result<(), DnsFault>
+    requires whole { end ≤ length bytes.now }
+    requires skips { AreSkips bytes.now skips.now }
     ensures { result ≡ soa_judged bytes.now at end }
 {
     let data = Bound::data(at, end);
-    let between = name_end(bytes, data, at)?;
-    let numbers = name_end(bytes, data, between)?;
+    let between = name_end(bytes, skips, data, at)?;
+    let numbers = name_end(bytes, skips, data, between)?;
     only_if(end - numbers == SOA_NUMBERS_LEN, at)
 }
 

@@ -12,6 +12,7 @@ mod name;
 mod numbers;
 mod parts;
 mod record;
+mod skips;
 mod tcp;
 mod text;
 mod types;

@@ -1,12 +1,14 @@
 ghost use Rattle.std.proofs.Props.{props};
 ghost use Rattle.std.specs.Prelude.{◌≡◌, ◌+◌, ◌≤◌, ◌↔◌, length, Ok, Err, All, IfOk, IsOk, MatchResult};
 ghost use Rattle.zk_dns.specs.Ends.{sections_end};
+ghost use Rattle.zk_dns.specs.Skips.{AreSkips};
 ghost use Rattle.zk_dns.specs.Record.{record_with};
 
 use crate::bound::Bound;
 use crate::content::{answers, questions};
 use crate::numbers::u16_at;
 use crate::parts::{AnswerPart, QuestionPart, section_end};
+use crate::skips::{TARGETS_END, fill};
 use crate::text::name_text;
 use crate::{Answer, Answers, DnsFault, DnsRecord, Question, Questions};
 use std::alloc::Global;
@@ -27,6 +29,10 @@ const ANSWER_COUNT: usize = 6;
 const AUTHORITY_COUNT: usize = 8;
 
 const ADDITIONAL_COUNT: usize = 10;
+
+/// The longest message over UDP (RFC 1035, section 2.3.4). In a longer one chains of pointers are cut
+/// short.
+const UDP_MAX: usize = 512;
 
 // Flags in the first byte of their field.
 const QR: u8 = 0x80;
@@ -92,7 +98,7 @@ impl<'a> Message<'a> {
         requires { HasName (message_bytes self.now).now place }
         ensures { IfOk result (λ text. text_at (message_bytes self.now).now place ≡ Ok text) }
     {
-        name_text(alloc, self.bytes, place)
+        name_text(alloc, self.bytes, &[], place)
     }
 
     /// What the message says: its record.
@@ -100,8 +106,22 @@ impl<'a> Message<'a> {
         ensures record { IfOk result (λ told. record_of (message_bytes self.now).now ≡ Ok told) }
         ensures meaning { IfOk result (λ told. IsMessage (message_bytes self.now).now told) }
     {
-        let questions = questions(alloc, self.bytes, self.question_count(), HEADER_LEN)?;
-        let answers = answers(alloc, self.bytes, self.answer_count(), self.answers)?;
+        if self.bytes.len() <= UDP_MAX {
+            return self.record_by(alloc, &[]);
+        }
+        let mut skips = [0; TARGETS_END];
+        fill(self.bytes, &mut skips);
+        self.record_by(alloc, &skips)
+    }
+
+    /// The same, where chains of pointers are cut short.
+    fn record_by(&self, alloc: Global, skips: &[u16]) -> Result<DnsRecord, Mem>
+        requires { AreSkips (message_bytes self.now).now skips.now }
+        ensures record { IfOk result (λ told. record_of (message_bytes self.now).now ≡ Ok told) }
+        ensures meaning { IfOk result (λ told. IsMessage (message_bytes self.now).now told) }
+    {
+        let questions = questions(alloc, self.bytes, skips, self.question_count(), HEADER_LEN)?;
+        let answers = answers(alloc, self.bytes, skips, self.answer_count(), self.answers)?;
         Ok(record_with(self.bytes, questions, answers))
     }
 
@@ -149,18 +169,30 @@ fn record_with(bytes: &[u8], questions: Sequence<Question>, answers: Sequence<An
 fn answers_place(bytes: &[u8]) -> Result<usize, DnsFault>
     ensures { result ≡ sections_end bytes.now }
 {
+    if bytes.len() <= UDP_MAX {
+        return answers_place_by(bytes, &[]);
+    }
+    let mut skips = [0; TARGETS_END];
+    fill(bytes, &mut skips);
+    answers_place_by(bytes, &skips)
+}
+
+/// The same, where chains of pointers are cut short.
+fn answers_place_by(bytes: &[u8], skips: &[u16]) -> Result<usize, DnsFault>
+    requires { AreSkips bytes.now skips.now }
+    ensures { result ≡ sections_end bytes.now }
+{
     if bytes.len() < HEADER_LEN {
         return Err(Bound::whole(bytes).fault);
     }
-    let questions = u16_at(bytes, QUESTION_COUNT);
-    let answers = section_end::<QuestionPart>(bytes, questions, HEADER_LEN)?;
-    let authority = section_end::<AnswerPart<'_>>(bytes, u16_at(bytes, ANSWER_COUNT), answers)?;
-    let additional = section_end::<AnswerPart<'_>>(
-        bytes,
-        u16_at(bytes, AUTHORITY_COUNT),
-        authority,
-    )?;
-    let end = section_end::<AnswerPart<'_>>(bytes, u16_at(bytes, ADDITIONAL_COUNT), additional)?;
+    let count = u16_at(bytes, QUESTION_COUNT);
+    let answers = section_end::<QuestionPart>(bytes, skips, count, HEADER_LEN)?;
+    let count = u16_at(bytes, ANSWER_COUNT);
+    let authority = section_end::<AnswerPart<'_>>(bytes, skips, count, answers)?;
+    let count = u16_at(bytes, AUTHORITY_COUNT);
+    let additional = section_end::<AnswerPart<'_>>(bytes, skips, count, authority)?;
+    let count = u16_at(bytes, ADDITIONAL_COUNT);
+    let end = section_end::<AnswerPart<'_>>(bytes, skips, count, additional)?;
     if end != bytes.len() {
         return Err(DnsFault::Trailing { place: end });
     }

@@ -1,16 +1,18 @@
 ghost use Rattle.std.specs.Prelude.{◌≡◌, ◌≢◌, ◌+◌, ◌<◌, ◌≤◌, length, slice_index, IfOk};
 ghost use Rattle.zk_dns.specs.Name.{byte_at, target_at};
+ghost use Rattle.zk_dns.specs.Skips.{AreSkips};
 ghost use Rattle.zk_dns.specs.Ends.{name_end_at, run_end_at, behind_ending};
 
 use crate::DnsFault;
 use crate::bound::Bound;
+use crate::skips::skip;
 use byteorder::{BigEndian, ByteOrder};
 
 /// The most bytes of a name, with its length bytes and the root (RFC 1035, section 2.3.4).
 const NAME_MAX: usize = 255;
 
 /// The least place that a pointer may lead to: behind the header.
-const TARGET_MIN: usize = 12;
+pub const TARGET_MIN: usize = 12;
 
 /// The length of a pointer.
 const POINTER_LEN: usize = 2;
@@ -82,8 +84,10 @@ pub fn target_at(bytes: &[u8], place: usize) -> usize
 
 /// The place behind the own bytes of the name at a place, or its first fault. Pointers are followed: each
 /// leads to before the run of labels that holds it.
-pub fn name_end(bytes: &[u8], bound: Bound, place: usize) -> Result<usize, DnsFault>
-    requires { bound.end ≤ length bytes.now }
+/// `skips` cuts chains of pointers short.
+pub fn name_end(bytes: &[u8], skips: &[u16], bound: Bound, place: usize) -> Result<usize, DnsFault>
+    requires bound { bound.end ≤ length bytes.now }
+    requires skips { AreSkips bytes.now skips.now }
     ensures exact { result ≡ name_end_at bytes.now bound place }
     ensures within { IfOk result (λ next. next ≤ bound.end) }
 {
@@ -95,8 +99,8 @@ pub fn name_end(bytes: &[u8], bound: Bound, place: usize) -> Result<usize, DnsFa
         if target < TARGET_MIN || start <= target {
             return Err(DnsFault::Pointer { place: run.place });
         }
-        start = target;
-        run = run_end(bytes, Bound::whole(bytes), run.size, target)?;
+        start = skip(skips, target);
+        run = run_end(bytes, Bound::whole(bytes), run.size, start)?;
     }
     Ok(next)
 }

@@ -1,6 +1,7 @@
 ghost use Rattle.std.specs.Prelude.{◌≡◌, ◌+◌, ◌≤◌, length, Ok, IfOk, IsOk};
 ghost use Rattle.zk_dns.specs.Name.{name_at, whole};
 ghost use Rattle.zk_dns.specs.Ends.{all_end, name_end_at};
+ghost use Rattle.zk_dns.specs.Skips.{AreSkips};
 ghost use Rattle.zk_dns.specs.Sections.{data_len, question_at, resource_at};
 
 use crate::DnsFault;
@@ -59,7 +60,8 @@ pub trait Part {
     /// The place behind the part at a place, or its first fault.
     ghost ends: { List ℕ → ℕ → Result ℕ DnsFault };
 
-    fn end(bytes: &[u8], place: usize) -> Result<usize, DnsFault>
+    fn end(bytes: &[u8], skips: &[u16], place: usize) -> Result<usize, DnsFault>
+        requires { AreSkips bytes.now skips.now }
         ensures exact { result ≡ ends bytes.now place }
         ensures within { IfOk result (λ next. next ≤ length bytes.now) };
 }
@@ -69,12 +71,13 @@ impl Part for QuestionPart {
 
     ghost ends = { question_end };
 
-    fn end(bytes: &[u8], place: usize) -> Result<usize, DnsFault>
+    fn end(bytes: &[u8], skips: &[u16], place: usize) -> Result<usize, DnsFault>
+        requires { AreSkips bytes.now skips.now }
         ensures exact { result ≡ question_end bytes.now place }
         ensures within { IfOk result (λ next. next ≤ length bytes.now) }
     {
         let bound = Bound::whole(bytes);
-        let fields = name_end(bytes, bound, place)?;
+        let fields = name_end(bytes, skips, bound, place)?;
         if bytes.len() - fields < QUESTION_FIELDS_LEN {
             return Err(bound.fault);
         }
@@ -87,12 +90,13 @@ impl<'a> Part for AnswerPart<'a> {
 
     ghost ends = { resource_end };
 
-    fn end(bytes: &[u8], place: usize) -> Result<usize, DnsFault>
+    fn end(bytes: &[u8], skips: &[u16], place: usize) -> Result<usize, DnsFault>
+        requires { AreSkips bytes.now skips.now }
         ensures exact { result ≡ resource_end bytes.now place }
         ensures within { IfOk result (λ next. next ≤ length bytes.now) }
     {
         let bound = Bound::whole(bytes);
-        let fields = name_end(bytes, bound, place)?;
+        let fields = name_end(bytes, skips, bound, place)?;
         if bytes.len() - fields < RECORD_FIELDS_LEN {
             return Err(bound.fault);
         }
@@ -104,6 +108,7 @@ impl<'a> Part for AnswerPart<'a> {
         let end = at + len;
         judge(
             bytes,
+            skips,
             u16_at(bytes, fields),
             u16_at(bytes, fields + CLASS),
             at,
@@ -115,14 +120,20 @@ impl<'a> Part for AnswerPart<'a> {
 
 /// The place behind a number of parts, which stand one behind another from a place on, or the first fault
 /// of them.
-pub fn section_end<P: Part>(bytes: &[u8], count: u16, start: usize) -> Result<usize, DnsFault>
-    requires { start ≤ length bytes.now }
+pub fn section_end<P: Part>(
+    bytes: &[u8],
+    skips: &[u16],
+    count: u16,
+    start: usize,
+) -> Result<usize, DnsFault>
+    requires start { start ≤ length bytes.now }
+    requires skips { AreSkips bytes.now skips.now }
     ensures exact { result ≡ all_end (P.ends bytes.now) count start }
     ensures within { IfOk result (λ next. next ≤ length bytes.now) }
 {
     let mut place = start;
     for _ in 0..count {
-        place = P::end(bytes, place)?;
+        place = P::end(bytes, skips, place)?;
     }
     Ok(place)
 }

@@ -1,5 +1,5 @@
 use crate::{AnswerKind, DnsFault, DnsRecord, DnsStep, Message, QuestionPart, TcpDns};
-use std::alloc::Global;
+use std::alloc::{AllocError, Global};
 use std::test::Fail;
 
 /// A query for the address of www.example.com.
@@ -429,4 +429,40 @@ fn a_step_waits_for_a_length_and_its_message(rt: HostRuntime) {
     for (n, (bytes, step)) in rows.iter().enumerate() {
         assert_eq!(rt; side.step(bytes), *step, "in row {n}");
     }
+}
+
+/// A message of 636 bytes: in the data of its first record, at place 23, a root stands and behind it 300
+/// pointers, each to the one before. The second record is named by the last of them. The pointer of
+/// number `broken` leads to itself.
+fn with_a_chain(alloc: Global, broken: u16) -> Result<Vec<u8>, AllocError> {
+    let mut bytes = Vec::from_slice(
+        alloc,
+        b"\x124\x80\x00\x00\x00\x00\x02\x00\x00\x00\x00\x00\xff\x00\x00\x01\x00\x00\x00\x00\x02\x59\x00",
+    )?;
+    let mut target = 23u16;
+    for n in 0..300u16 {
+        let place = 24 + 2 * n;
+        let led = if n == broken { place } else { target };
+        bytes.extend_from_slice(&(0xc000 | led).to_be_bytes())?;
+        target = place;
+    }
+    bytes.extend_from_slice(b"\xc2\x6e\xff\x00\x00\x01\x00\x00\x00\x00\x00\x00")?;
+    Ok(bytes)
+}
+
+#[test]
+fn a_name_goes_on_over_a_long_chain_of_pointers(rt: HostRuntime) -> Result<(), Fail> {
+    let whole = with_a_chain(rt.alloc(), 300)?;
+    let record = record_of(rt.alloc(), &whole)?;
+    let [first, second] = record.answers.as_slice() else {
+        panic!(&rt; "two answers");
+    };
+    assert_eq!(rt; first.name.as_slice(), b".".as_slice());
+    assert_eq!(rt; second.name.as_slice(), b".".as_slice());
+    let broken = with_a_chain(rt.alloc(), 100)?;
+    assert_eq!(rt;
+        Message::read(&broken).err(),
+        Some(DnsFault::Pointer { place: 224 })
+    );
+    Ok(())
 }

@@ -1,15 +1,19 @@
 ghost use Rattle.std.specs.Prelude.{◌≡◌, ◌<◌, ◌++◌, length, Ok, IfOk, IsOk};
 ghost use Rattle.std.specs.Str.{str_to_ascii_lowercase};
 ghost use Rattle.zk_dns.specs.Name.{run_at, whole};
+ghost use Rattle.zk_dns.specs.Skips.{AreSkips};
 ghost use Rattle.zk_dns.specs.Text.{HasName, labels_behind, text_at, text_with};
 
 use crate::name::target_at;
+use crate::skips::skip;
 use std::alloc::Global;
 use zk_base::{Bytes, Mem};
 
 /// The name at a place as text: its labels in ASCII lower case, joined by dots; the root is a dot.
-pub fn name_text(alloc: Global, bytes: &[u8], place: usize) -> Result<Bytes, Mem>
-    requires { HasName bytes.now place }
+/// `skips` cuts chains of pointers short.
+pub fn name_text(alloc: Global, bytes: &[u8], skips: &[u16], place: usize) -> Result<Bytes, Mem>
+    requires name { HasName bytes.now place }
+    requires skips { AreSkips bytes.now skips.now }
     ensures { IfOk result (λ text. text_at bytes.now place ≡ Ok text) }
 {
     let mut text = Vec::new(alloc);
@@ -19,7 +23,7 @@ pub fn name_text(alloc: Global, bytes: &[u8], place: usize) -> Result<Bytes, Mem
         if bytes[ending] == 0 {
             break;
         }
-        start = target_at(bytes, ending);
+        start = skip(skips, target_at(bytes, ending));
     }
     if text.is_empty() {
         text.push(b'.')?;

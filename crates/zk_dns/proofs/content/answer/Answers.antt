@@ -1,14 +1,14 @@
 use Rattle.zk_dns.proofs.ContentLemmas.{answer-known, answer-told, resource-named}
 use Rattle.zk_dns.proofs.content.answer.Goals as goal
 
-pub name_text-requires : goal.name_text-requires
-name_text-requires c = resource-named _ _ c.requires
+pub name_text-requires-clause-name : goal.name_text-requires-clause-name
+name_text-requires-clause-name c = resource-named _ _ c.requires.read
 
 pub what-requires-clause-whole : goal.what-requires-clause-whole
-what-requires-clause-whole c = (answer-known c.args.bytes _ _ _ c.requires c.read-behind.ensures).0
+what-requires-clause-whole c = (answer-known c.args.bytes _ _ _ c.requires.read c.read-behind.ensures).0
 
 pub what-requires-clause-read : goal.what-requires-clause-read
-what-requires-clause-read c = (answer-known c.args.bytes _ _ _ c.requires c.read-behind.ensures).1
+what-requires-clause-read c = (answer-known c.args.bytes _ _ _ c.requires.read c.read-behind.ensures).1
 
 pub returns : goal.returns
 returns c = λ resource next found.

@@ -4,8 +4,8 @@ use Rattle.zk_dns.specs.Record.{answer_of}
 use Rattle.zk_dns.proofs.ReadLemmas.{several-first, several-grown, several-made}
 use Rattle.zk_dns.proofs.content.answers.Goals as goal
 
-pub answer-requires : goal.answer-requires
-answer-requires c = several-first (resource_at c.args.bytes.now) _ _ (omega arith) c.loop.invariant.rest
+pub answer-requires-clause-read : goal.answer-requires-clause-read
+answer-requires-clause-read c = several-first (resource_at c.args.bytes.now) _ _ (omega arith) c.loop.invariant.rest
 
 pub loop-preserved : goal.loop-preserved
 loop-preserved c =

@@ -3,8 +3,8 @@ use Rattle.zk_dns.specs.declared.parts.QuestionPart.{QuestionPart}
 use Rattle.zk_dns.proofs.ContentLemmas.{question-named, question-text}
 use Rattle.zk_dns.proofs.content.question.Goals as goal
 
-pub name_text-requires : goal.name_text-requires
-name_text-requires c = question-named _ _ c.requires
+pub name_text-requires-clause-name : goal.name_text-requires-clause-name
+name_text-requires-clause-name c = question-named _ _ c.requires.read
 
 pub returns : goal.returns
 returns c = λ asked next found.

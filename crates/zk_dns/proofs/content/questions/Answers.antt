@@ -4,8 +4,8 @@ use Rattle.zk_dns.specs.Record.{question_of}
 use Rattle.zk_dns.proofs.ReadLemmas.{several-first, several-grown, several-made}
 use Rattle.zk_dns.proofs.content.questions.Goals as goal
 
-pub question-requires : goal.question-requires
-question-requires c = several-first (question_at c.args.bytes.now) _ _ (omega arith) c.loop.invariant.rest
+pub question-requires-clause-read : goal.question-requires-clause-read
+question-requires-clause-read c = several-first (question_at c.args.bytes.now) _ _ (omega arith) c.loop.invariant.rest
 
 pub loop-preserved : goal.loop-preserved
 loop-preserved c =

@@ -11,14 +11,14 @@ read_u128-requires c =
     let n = length c.args.bytes.now - c.args.at in
     omega (arith, c.requires.whole, (kind-aaaa _ _ _ _ c.in-28.is c.requires.read).0, length-take n (drop c.args.at c.args.bytes.now), length-drop c.args.at c.args.bytes.now)
 
-pub name_text-requires : goal.name_text-requires
-name_text-requires c = (kind-name _ _ _ _ c.in-2.is c.requires.whole c.requires.read).0
+pub name_text-requires-clause-name : goal.name_text-requires-clause-name
+name_text-requires-clause-name c = (kind-name _ _ _ _ c.in-2.is c.requires.whole c.requires.read).0
 
 pub u16_at-requires : goal.u16_at-requires
 u16_at-requires c = omega (arith, name-inside _ _ (kind-mx _ _ _ _ c.in-15.is c.requires.whole c.requires.read).0)
 
-pub name_text-requires-in-15 : goal.name_text-requires-in-15
-name_text-requires-in-15 c = (kind-mx _ _ _ _ c.in-15.is c.requires.whole c.requires.read).0
+pub name_text-requires-in-15-clause-name : goal.name_text-requires-in-15-clause-name
+name_text-requires-in-15-clause-name c = (kind-mx _ _ _ _ c.in-15.is c.requires.whole c.requires.read).0
 
 pub strings-requires : goal.strings-requires
 strings-requires c =

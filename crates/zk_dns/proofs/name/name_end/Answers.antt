@@ -2,7 +2,8 @@ use Rattle.std.proofs.Common.{◌∙◌, sym, arith, Err, ap}
 use Rattle.std.proofs.lemmas.Bool.Decides.{nat_tests}
 use Rattle.std.proofs.lemmas.Result.{err_from_is_err_and}
 use Rattle.zk_dns.specs.declared.fault.DnsFault.{DnsFault}
-use Rattle.zk_dns.proofs.NameLemmas.{left-astray, left-fault, left-goes_on, left-root, name_end-begins, name_end-refused}
+use Rattle.zk_dns.proofs.NameLemmas.{left-astray, left-root, name_end-begins, name_end-refused}
+use Rattle.zk_dns.proofs.SkipLemmas.{left-skip_fault, left-skips_on}
 use Rattle.zk_dns.proofs.name.name_end.Goals as goal
 
 pub returns-in_err-run-clause-exact : goal.returns-in_err-run-clause-exact
@@ -14,7 +15,7 @@ returns-in_err-run-clause-exact c =
 pub loop-run-init : goal.loop-run-init
 loop-run-init c = record {
   rest = rw c.behind_ending-next.ensures (name_end-begins _ _ _ _ (sym c.in_ok-run.ensures.exact));
-  whole = omega (arith, c.in_ok-run.ensures.within, c.requires);
+  whole = omega (arith, c.in_ok-run.ensures.within, c.requires.bound);
   small = c.in_ok-run.ensures.size;
   within = omega (arith, c.in_ok-run.ensures.within, c.behind_ending-next.ensures);
 }
@@ -30,13 +31,19 @@ returns-in_err-run-2-clause-exact c =
     let p = err_from_is_err_and c.from_residual-in_err-run-2.result c.from_residual-in_err-run-2.ensures.1 in
     p.1 ∙ ap (λ (why : DnsFault). Err why) p.2
     ∙ sym (c.loop-run.invariant.rest
-    ∙ left-fault _ _ _ _ c.target_at-target.result _ c.loop-run-test.true c.target_at-target.ensures (omega arith) (omega arith) (sym found))
+    ∙ left-skip_fault _ _ _ _ _ c.target_at-target.result _ _ c.requires.skips c.loop-run-test.true c.target_at-target.ensures
+    (omega arith) (omega arith) c.skip-start.ensures (sym found))
+
+pub loop-run-smaller : goal.loop-run-smaller
+loop-run-smaller c =
+    (left-skips_on c.behind_ending-next.result _ _ _ _ c.target_at-target.result _ _ c.requires.skips c.loop-run-test.true c.target_at-target.ensures
+    (omega arith) (omega arith) c.skip-start.ensures (sym (rw c.whole.ensures at c.in_ok-run-2.ensures.exact))).0
 
 pub loop-run-preserved : goal.loop-run-preserved
 loop-run-preserved c = record {
   rest = c.loop-run.invariant.rest
-      ∙ left-goes_on _ _ _ _ c.target_at-target.result _ c.loop-run-test.true c.target_at-target.ensures (omega arith) (omega arith)
-      (sym (rw c.whole.ensures at c.in_ok-run-2.ensures.exact));
+      ∙ (left-skips_on _ _ _ _ _ c.target_at-target.result _ _ c.requires.skips c.loop-run-test.true c.target_at-target.ensures
+      (omega arith) (omega arith) c.skip-start.ensures (sym (rw c.whole.ensures at c.in_ok-run-2.ensures.exact))).1;
   whole = omega (arith, rw c.whole.ensures at c.in_ok-run-2.ensures.within);
   small = c.in_ok-run-2.ensures.size;
   within = c.loop-run.invariant.within;

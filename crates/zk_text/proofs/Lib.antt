@@ -1,3 +1,5 @@
+pub mod AddressLaws
+pub mod EscapeLaws
 pub mod Injective
 mod Rows
 pub mod Seconds

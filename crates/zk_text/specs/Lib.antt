@@ -1,1 +1,5 @@
+pub mod Address
+pub mod Backward
+pub mod Escape
+pub mod Port
 pub mod Span

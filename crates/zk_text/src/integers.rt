@@ -1,4 +1,5 @@
 ghost use Rattle.std.specs.Prelude.{◌≡◌, ◌<◌, ◌≤◌, ◌↔◌, ◌++◌, decimal, drop, length, IfOk, IsErr, IsOk, OnErr, OnOk};
+ghost use Rattle.std.specs.Fmt.{signed_decimal};
 
 use crate::Short;
 use crate::front::write_front;
@@ -20,6 +21,23 @@ pub fn count_text(n: u64, out: &mut [u8]) -> Result<usize, Short>
     write_front(Buffer::new().format(n).as_bytes(), out)
 }
 
+/// The length of the longest text of `int_text`, in bytes: that of -9223372036854775808.
+pub const INT_TEXT_MAX: usize = 20;
+
+/// Writes the decimal digits of a number to the front of a buffer, with `-` before a negative one,
+/// and answers how many bytes they are. `Short` comes exactly where the text is longer than the buffer.
+pub fn int_text(n: i64, out: &mut [u8]) -> Result<usize, Short>
+    ensures len { IfOk result (λ len. len ≡ length (signed_decimal n)) }
+    ensures text { OnOk result (out.new ≡ signed_decimal n ++ drop (length (signed_decimal n)) out.old) }
+    ensures short { IsErr result ↔ (length out.old < length (signed_decimal n)) }
+    ensures err { OnErr result (out.new ≡ out.old) }
+    ensures bound { length (signed_decimal n) ≤ INT_TEXT_MAX }
+    ensures room { INT_TEXT_MAX ≤ length out.old → IsOk result }
+{
+    let mut digits = Buffer::new();
+    write_front(digits.format(n).as_bytes(), out)
+}
+
 #[cfg(test)]
 mod tests {
     use super::*;
@@ -36,6 +54,22 @@ mod tests {
         for (n, text) in rows {
             let mut out = [b'?'; COUNT_TEXT_MAX];
             let len = count_text(n, &mut out)?;
+            assert_eq!(rt; &out[..len], text.as_bytes(), "at {n}");
+        }
+        Ok(())
+    }
+
+    #[test]
+    fn integers_print_with_their_sign(rt: HostRuntime) -> Result<(), Fail> {
+        let rows = [
+            (0, "0"),
+            (-1, "-1"),
+            (i64::MAX, "9223372036854775807"),
+            (i64::MIN, "-9223372036854775808"),
+        ];
+        for (n, text) in rows {
+            let mut out = [b'?'; INT_TEXT_MAX];
+            let len = int_text(n, &mut out)?;
             assert_eq!(rt; &out[..len], text.as_bytes(), "at {n}");
         }
         Ok(())

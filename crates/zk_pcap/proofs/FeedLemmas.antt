@@ -1,8 +1,8 @@
 -- Records while the bytes of a file come, and of a part of the file.
-use Rattle.std.proofs.Common.{◌≡◌, ℕ, zero, suc, ◌+◌, ◌-◌, ◌<◌, ◌≤◌, ◌^◌, Bool, true, false, cond, List, [], ◌∷◌, ◌++◌, length, take, drop, map, Option, Some, None, Ok, refl, sym, ap, subst, ◌∙◌, arith, length-append, length-drop, length-take}
-use Rattle.std.specs.Prelude.{IfOk, ◌&&◌, ◌==◌, nat_le, nat_lt}
+use Rattle.std.proofs.Common.{◌≡◌, ℕ, ◌+◌, ◌-◌, ◌<◌, ◌≤◌, ◌^◌, Bool, true, false, cond, List, [], ◌∷◌, ◌++◌, length, take, drop, Some, None, Ok, refl, sym, ap, subst, ◌∙◌, arith, length-append, length-drop, length-take}
+use Rattle.std.specs.Prelude.{◌&&◌, nat_le, nat_lt}
 use Rattle.std.specs.Option.{option_map}
-use Rattle.std.proofs.lemmas.Bool.{and_parts, leb-true, le-leb, ltb-true, lt-ltb}
+use Rattle.std.proofs.lemmas.Bool.{and_parts, leb-true, le-leb, ltb-true}
 use Rattle.std.proofs.lemmas.Bool.Decides.{nat_tests}
 use Rattle.std.proofs.lemmas.List.{drop-append-le, take-append-le, drop-drop, take_all}
 use Rattle.std.proofs.lemmas.Option.{cond_some}
@@ -19,7 +19,7 @@ use Rattle.zk_pcap.proofs.HeaderLaws.{header_of-found}
 
 -- ---- more bytes behind
 
-number_of-append : (big : Bool) (n : ℕ) (xs ys : List ℕ) → n ≤ length xs → number_of big n (xs ++ ys) ≡ number_of big n xs
+pub number_of-append : (big : Bool) (n : ℕ) (xs ys : List ℕ) → n ≤ length xs → number_of big n (xs ++ ys) ≡ number_of big n xs
 number_of-append true n xs ys within = big_from-append n xs ys within
 number_of-append false n xs ys within = little_from-append n xs ys within
 

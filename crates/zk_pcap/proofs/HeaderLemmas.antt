@@ -18,7 +18,7 @@ number_of-drop-take big n i m bytes h =
     ap (number_of big n) (drop-take i m bytes) ∙ number_of-take big n m (drop i bytes) h
 
 -- a header is read from four numbers
-header_by-same : (number : ℕ → List ℕ → ℕ) (form : Form) (b c : List ℕ) → 24 ≤ length b → 24 ≤ length c
+pub header_by-same : (number : ℕ → List ℕ → ℕ) (form : Form) (b c : List ℕ) → 24 ≤ length b → 24 ≤ length c
     → number 2 (drop 4 b) ≡ number 2 (drop 4 c) → number 2 (drop 6 b) ≡ number 2 (drop 6 c)
     → number 4 (drop 16 b) ≡ number 4 (drop 16 c) → number 4 (drop 20 b) ≡ number 4 (drop 20 c)
     → header_by number form b ≡ header_by number form c
@@ -41,7 +41,7 @@ header_after-same (Some form) b c long_b long_c major minor snaplen link =
     rw (header_by-same (number_of form.big) form b c long_b long_c (major form.big) (minor form.big) (snaplen form.big) (link form.big)) refl
 
 -- a file of four bytes or more is judged by its magic number
-header_of-after : (bytes : List ℕ) → nat_lt (length bytes) 4 ≡ false → header_of bytes ≡ header_after (form_of bytes) bytes
+pub header_of-after : (bytes : List ℕ) → nat_lt (length bytes) 4 ≡ false → header_of bytes ≡ header_after (form_of bytes) bytes
 header_of-after bytes long = rw long refl
 
 header_of-same : (b c : List ℕ) → 24 ≤ length b → 24 ≤ length c

@@ -3,7 +3,7 @@ ghost use Rattle.std.specs.Option.{option_map};
 ghost use Rattle.zk_pcap.specs.Header.{number_of};
 ghost use Rattle.zk_pcap.specs.Capture.{end_from, StandBetween};
 ghost use Rattle.zk_pcap.specs.Record.{end_of, record_by, record_at};
-ghost use Rattle.zk_pcap.specs.Feed.{FeedsReadCaptures, RecordsStay};
+ghost use Rattle.zk_pcap.specs.Feed.{FeedsReadCaptures, FrontsBeginCaptures, HeadersStay, RecordsStay};
 ghost use Rattle.zk_pcap.specs.declared.headers.Header.{Header as HeaderData};
 ghost use Rattle.zk_pcap.specs.declared.records.Packet.{Packet as PacketData};
 
@@ -32,6 +32,10 @@ pub fn feeds_read_captures()
 
     // Packets that stand one behind another, and behind which no record is read, are those of the capture.
     ensures captures { FeedsReadCaptures }
+
+    // What the first bytes of a file are sure to say of its header, and the packets in them, are the file's.
+    ensures headers { HeadersStay }
+    ensures fronts { FrontsBeginCaptures }
 {}
 
 /// The records of a capture (draft-ietf-opsawg-pcap, section 5), whose bytes come in pieces.

@@ -1,3 +1,4 @@
+use Rattle.zk_pcap.proofs.FrontLemmas.{header_stays, fronts_begin}
 use Rattle.zk_pcap.proofs.FeedLemmas.{record_stays, too_long_stays, feeds_read}
 use Rattle.zk_pcap.proofs.feed.feeds_read_captures.Goals as goal
 
@@ -6,3 +7,9 @@ returns-clause-stay c = record { packet = record_stays; bad = too_long_stays }
 
 pub returns-clause-captures : goal.returns-clause-captures
 returns-clause-captures c = feeds_read
+
+pub returns-clause-headers : goal.returns-clause-headers
+returns-clause-headers c = header_stays
+
+pub returns-clause-fronts : goal.returns-clause-fronts
+returns-clause-fronts c = fronts_begin

@@ -1,4 +1,4 @@
-use Rattle.std.proofs.Common.{◌++◌, ◌∷◌, [], ◌≤◌, length, ap, sym, subst, ◌∙◌}
+use Rattle.std.proofs.Common.{◌++◌, ◌∷◌, [], ◌≤◌, length, sym, subst}
 use Rattle.zk_pcap.specs.Capture.{StandBetween}
 use Rattle.zk_pcap.specs.Record.{record_by}
 use Rattle.zk_pcap.specs.View.{packet_of}

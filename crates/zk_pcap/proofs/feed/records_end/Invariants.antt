@@ -1,4 +1,4 @@
-use Rattle.std.proofs.Common.{ℕ, ◌≤◌, ◌-◌, List, length}
+use Rattle.std.proofs.Common.{◌≤◌, ◌-◌, List, length}
 use Rattle.zk_pcap.specs.Capture.{StandBetween}
 use Rattle.zk_pcap.specs.Record.{record_by}
 use Rattle.zk_pcap.specs.declared.records.Packet.{Packet}

@@ -1,4 +1,4 @@
-use Rattle.std.proofs.Common.{Some, refl}
+use Rattle.std.proofs.Common.{refl}
 use Rattle.zk_pcap.proofs.StandingLemmas.{first_within, stands_behind_some}
 use Rattle.zk_pcap.proofs.feed.Feed.advance.Goals as goal
 

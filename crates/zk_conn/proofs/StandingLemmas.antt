@@ -9,15 +9,18 @@ use Rattle.std.proofs.lemmas.Bool.{cases_Bool, cases_eq, true≢false}
 use Rattle.std.proofs.lemmas.Grind.{common_steps}
 use Rattle.std.proofs.lemmas.List.{append-nil}
 use Rattle.slab.specs.Slab.{get}
+use Rattle.zk_base.specs.declared.network.Side.{Side}
+use Rattle.zk_base.specs.declared.network.Side.TheVariants.{Orig, Resp}
 use Rattle.zk_base.specs.declared.numbers.ConnNo.{ConnNo}
 use Rattle.zk_base.specs.declared.time.Moment.{Moment}
 use Rattle.zk_conn.specs.declared.conns.Conns.{Conns}
 use Rattle.zk_conn.specs.declared.facts.Facts.{Facts}
+use Rattle.zk_conn.specs.declared.half.Half.{Half}
 use Rattle.zk_conn.specs.declared.instance.Instance.{Instance}
 use Rattle.zk_conn.specs.declared.key.Key.{Key}
 use Rattle.zk_conn.specs.Histories.{latest, begun, begun_by, joined_by, is_live, is_removal, comes_late, Precedes, IsLive}
-use Rattle.zk_conn.specs.Holds.{Holds, Follows, facts_in, removal_of}
-use Rattle.zk_conn.specs.Instance.{moment_after, facts_of}
+use Rattle.zk_conn.specs.Holds.{Has, Holds, Follows, end_in, facts_in, removal_of}
+use Rattle.zk_conn.specs.Instance.{Opening, opening, originator, end_of, moment_after, facts_of}
 use Rattle.zk_conn.specs.Removals.{filing_of}
 use Rattle.zk_conn.specs.Segment.{same_key}
 use Rattle.zk_conn.specs.Standing.{StandsFor, IsLatest, Keeps}
@@ -201,6 +204,23 @@ told_live old new told key conn slot event numbered tells stands live of_key joi
     of_key joined quiet kept
     (subst (λ (m : Moment). pos 0 ≤ℤ m.0) (sym (same found.instance.last)) found.latest.early)
     (subst (λ (m : Moment). m.0 ≤ℤ pos (2 ^ 62)) (sym (same found.instance.last)) found.latest.in_time)
+
+-- what a live instance that is found by its number has
+pub has_live : (conns : Conns) (told : List Told) (key : Key) (conn : ConnNo) (slot : ℕ) (now : Instance) (first : Opening) → slot_numbered conns conn ≡ Some slot
+    → get conns.slots slot ≡ Some now → StandsFor conns told → IsLive told key conn.0 → opening (latest key told) ≡ Some first → Has first now (latest key told)
+has_live conns told key conn slot now first numbered seen stands live begins =
+    let found = found_live conns told key stands live.live in
+    let at = one slot found.slot numbered (numbered_found conns told key conn stands found live) in
+    let same : found.instance ≡ now = sym (one found.instance now found.there (subst (λ s. get conns.slots s ≡ Some now) (sym at) seen)) in
+    let holds = found.latest.holds in
+    subst (λ f. Has f now (latest key told)) (one first holds.first begins holds.begun)
+    (subst (λ i. Has holds.first i (latest key told)) same holds.has)
+
+-- how a side's end is closed in what it has
+pub end_live : (first : Opening) (instance : Instance) (side : Side) (events : List Told) → Has first instance events
+    → end_in instance side ≡ end_of (originator first.packet) side events
+end_live first instance Orig events has = ap (λ (h : Half). h.end) has.orig_is
+end_live first instance Resp events has = ap (λ (h : Half). h.end) has.resp_is
 
 -- the facts of a live instance that is found by its number
 pub facts_live : (conns : Conns) (told : List Told) (key : Key) (conn : ConnNo) (slot : ℕ) (now : Instance) (facts : Facts) → slot_numbered conns conn ≡ Some slot

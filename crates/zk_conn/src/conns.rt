@@ -93,8 +93,9 @@ pub struct Conns {
 
 impl Conns {
     ghost use Rattle.zk_conn.specs.Holds.{touched_between, facts_in};
-    ghost use Rattle.zk_conn.specs.Instance.{facts_of};
+    ghost use Rattle.zk_conn.specs.Instance.{Opening, opening, originator, end_of, is_reset, facts_of};
     ghost use Rattle.zk_conn.specs.Removals.{removal_at};
+    ghost use Rattle.zk_conn.specs.State.{is_open};
     ghost use Rattle.zk_conn.specs.Table.{first_by, is_stale, slot_of, slot_numbered, IsLeast, IsTable, Files, Hastens, Tells, Inserts, SameTable, Removes};
 
     /// No connections. No memory is taken.
@@ -210,6 +211,30 @@ impl Conns {
             unreachable!()
         };
         self.slots[slot].facts()
+    }
+
+    /// Whether the end of a side of a live instance is open.
+    pub fn is_open(&self, conn: ConnNo, side: Side) -> bool
+        requires { HasLive self.now conn }
+        ensures { (told : List Told) (key : Key) (first : Opening) → StandsFor self.now told → IsLive told key conn.0 → opening (latest key told) ≡ Some first
+            → result ≡ is_open (end_of (originator first.packet) side (latest key told)) }
+    {
+        let Some(slot) = self.slot_numbered(conn) else {
+            unreachable!()
+        };
+        self.slots[slot].is_open(side)
+    }
+
+    /// Whether a live instance was reset.
+    pub fn is_reset(&self, conn: ConnNo) -> bool
+        requires { HasLive self.now conn }
+        ensures { (told : List Told) (key : Key) (first : Opening) → StandsFor self.now told → IsLive told key conn.0 → opening (latest key told) ≡ Some first
+            → result ≡ is_reset (originator first.packet) (latest key told) }
+    {
+        let Some(slot) = self.slot_numbered(conn) else {
+            unreachable!()
+        };
+        self.slots[slot].is_reset()
     }
 
     /// Whether an instance of this number is live.

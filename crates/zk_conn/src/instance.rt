@@ -2,7 +2,7 @@ ghost use Rattle.std.specs.Prelude.{◌≡◌, pos, ◌||◌, []};
 ghost use Rattle.zk_conn.specs.Half.{seen};
 ghost use Rattle.zk_conn.specs.Instance.{side_of, wait};
 ghost use Rattle.zk_conn.specs.Segment.{is_tcp};
-ghost use Rattle.zk_conn.specs.State.{are_established, is_fin, is_rst, state_of};
+ghost use Rattle.zk_conn.specs.State.{are_established, is_fin, is_open, is_rst, state_of};
 ghost use Rattle.zk_conn.specs.Told.{Packet, Front, Reached};
 
 use crate::conns::Touched;
@@ -187,6 +187,16 @@ impl Instance {
         ensures { result ≡ (is_rst self.now.orig.end || is_rst self.now.resp.end) }
     {
         self.orig.end == StreamEnd::Rst || self.resp.end == StreamEnd::Rst
+    }
+
+    /// Whether a side's end is open.
+    pub fn is_open(&self, side: Side) -> bool
+        ensures { result ≡ is_open (end_in self.now side) }
+    {
+        match side {
+            Side::Orig => self.orig.end == StreamEnd::Open,
+            Side::Resp => self.resp.end == StreamEnd::Open,
+        }
     }
 
     /// Whether a FIN closed a side's end.

@@ -1,6 +1,6 @@
-ghost use Rattle.std.specs.Prelude.{◌≡◌, ◌≤◌, length, IfOk};
+ghost use Rattle.std.specs.Prelude.{◌≡◌, ◌≢◌, ◌<◌, ◌≤◌, ℕ, length, Ok, Err, IfOk};
 ghost use Rattle.zk_pcap.specs.Header.{counted, form_of, header_by, header_of, is_link, nano_of, HasHeader};
-ghost use Rattle.zk_pcap.specs.declared.faults.CaptureFault.TheVariants.{Short};
+ghost use Rattle.zk_pcap.specs.declared.faults.CaptureFault.TheVariants.{NoMemory, Short};
 
 use crate::CaptureFault;
 use byteorder::{BigEndian, ByteOrder, LittleEndian};
@@ -63,12 +63,15 @@ impl Header {
     /// Reads the header at the front of a capture, 24 bytes. A fault is the first that holds of:
     /// fewer than 4 bytes, an unknown magic number, fewer than 8 bytes, another version than 2.4,
     /// fewer than 24 bytes, a link type that isn't read (draft-ietf-opsawg-pcap, section 4).
-    #[tactic(auto, using(crate::proofs::HeaderLemmas::header_of_counted))]
+    #[tactic(auto, using(crate::proofs::HeaderLemmas::header_of_counted, crate::proofs::HeaderFaults::short_header_length, crate::proofs::HeaderFaults::header_takes_none))]
     pub fn read(bytes: &[u8]) -> Result<Header, CaptureFault>
         ensures exact { result ≡ header_of bytes.now }
         // What is read is the header, and no header is refused.
         ensures found { IfOk result (λ header. HasHeader bytes.now header) }
         ensures only { (header : Header) → HasHeader bytes.now header → result ≡ Ok header }
+        // Bytes are missing only where fewer than 24 are there. No memory is taken.
+        ensures short { (place : ℕ) → result ≡ Err (Short place) → length bytes.now < HEADER_LEN }
+        ensures no_memory { result ≢ Err NoMemory }
         // Only the first 2 ^ 40 bytes of a file count.
         ensures counted { header_of bytes.now ≡ header_of (counted bytes.now) }
     {

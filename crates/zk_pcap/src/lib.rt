@@ -10,7 +10,7 @@ mod records;
 pub use captures::{CAPTURE_MAX, Capture, CaptureEnding, packets};
 pub use faults::CaptureFault;
 pub use feed::{Feed, Next, feeds_read_captures};
-pub use headers::Header;
+pub use headers::{HEADER_LEN, Header};
 pub use records::{Packet, PacketView};
 
 #[cfg(test)]

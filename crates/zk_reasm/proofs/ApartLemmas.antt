@@ -11,7 +11,7 @@ use Rattle.zk_reasm.specs.Apart.{byte_apart}
 use Rattle.zk_reasm.specs.Between.{held_between}
 use Rattle.zk_reasm.specs.Pages.{byte_paged}
 use Rattle.zk_reasm.specs.Piece.{byte_in}
-use Rattle.zk_reasm.specs.Stretch.{byte_in_stretch, IsNext}
+use Rattle.zk_reasm.specs.Stretch.{byte_in_stretch, MayExtend}
 use Rattle.zk_reasm.proofs.PieceLemmas.{option_or_held, byte_in-at, byte_in-before, byte_in-behind, byte_in-within, byte_in-drop}
 use Rattle.zk_reasm.proofs.RangeLemmas.{held_at, held_between-more, held_between-none, held_between-split, held_between-full, held_between-empty}
 
@@ -132,8 +132,9 @@ once_behind apart pages last place left stretch paged at low high =
     let there : IsSome (byte_in_stretch last at) = byte_in-within last.at last.bytes.items at low (omega (arith, high, last.bytes.ok.0)) in
     paged at behind ∙ one_place apart at (sym (ap is_some (stretch at behind)) ∙ there)
 
--- the stretch has no byte where one is next to it
-pub next_outside : (last : Stretch) (at n i : ℕ) → IsNext last at n → at ≤ i → i < at + n → byte_in_stretch last i ≡ None
-next_outside last at n i next low high =
+-- the stretch has no byte where it may be extended
+pub extended_outside : (last : Stretch) (at n i : ℕ) → MayExtend last at n → at ≤ i → i < at + n → byte_in_stretch last i ≡ None
+extended_outside last at n i may low high =
     byte_in-outside last.at last.bytes.items i
-    (λ l h. ⊎_elim (λ e. omega (arith, e, l, h, low, high, last.bytes.ok.0)) (λ e. omega (arith, e, l, h, low, high, last.bytes.ok.0)) next)
+    (λ l h. ⊎_elim (λ e. omega (arith, e, l, h, last.bytes.ok.0))
+    (⊎_elim (λ e. omega (arith, e, l, h, low, high, last.bytes.ok.0)) (λ e. omega (arith, e, l, h, low, high, last.bytes.ok.0))) may)

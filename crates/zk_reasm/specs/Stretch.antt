@@ -8,6 +8,6 @@ use Rattle.zk_reasm.specs.Piece.{byte_in}
 abbrev pub byte_in_stretch : Stretch → ℕ → Option ℕ
 byte_in_stretch stretch at = byte_in stretch.at stretch.bytes.items at
 
--- so many bytes from a place on stand right behind it or right before it
-abbrev pub IsNext : Stretch → ℕ → ℕ → Type 0
-IsNext stretch at n = (at ≡ stretch.at + deque_len stretch.bytes) ⊎ (at + n ≡ stretch.at)
+-- it is empty, or so many bytes from a place on stand right behind it or right before it
+abbrev pub MayExtend : Stretch → ℕ → ℕ → Type 0
+MayExtend stretch at n = (deque_len stretch.bytes ≡ 0) ⊎ ((at ≡ stretch.at + deque_len stretch.bytes) ⊎ (at + n ≡ stretch.at))

@@ -20,13 +20,16 @@ use zk_base::{ByteQueue, Mem};
 pub struct Apart {
     pages: Pages,
     last: Stretch,
+    /// Where the piece began that came to the pages last, and where it ended.
+    start: u64,
+    end: u64,
     ghost once: { (at : ℕ) → last.at ≤ at → at < last.at + deque_len last.bytes → byte_paged pages at ≡ None },
 }
 
 #[tactic(auto, unfolding(crate::specs::Apart::byte_apart))]
 impl Apart {
     ghost use Rattle.zk_reasm.specs.Apart.{byte_apart};
-    ghost use Rattle.zk_reasm.specs.Stretch.{IsNext};
+    ghost use Rattle.zk_reasm.specs.Stretch.{byte_in_stretch, MayExtend};
 
     /// No bytes. No memory is taken.
     pub fn new(alloc: Global) -> Apart
@@ -35,6 +38,8 @@ impl Apart {
         Apart {
             pages: Pages::new(alloc),
             last: Stretch::new(alloc),
+            start: 0,
+            end: 0,
         }
     }
 
@@ -55,60 +60,71 @@ impl Apart {
         if piece.bytes.is_empty() {
             return Ok(0);
         }
-        self.make_next(piece)?;
-        if self.pages.is_free(piece.at, piece.end()) {
+        if self.is_next(piece) && self.pages.is_free(piece.at, piece.end()) {
             self.extend(piece)?;
-            Ok(piece.bytes.len())
-        } else {
-            self.put_on_pages(piece)
+            return Ok(piece.bytes.len());
         }
+        self.put_on_pages(piece)
     }
 
-    /// Sees to it that a piece stands right behind the stretch or before it: else the stretch goes to the
-    /// pages, and begins anew. The bytes stay.
-    fn make_next(&mut self, piece: &Piece<'_>) -> Result<(), Mem>
+    /// Whether a piece stands right behind what came last or right before it.
+    fn is_next(&self, piece: &Piece<'_>) -> bool
         requires { piece.now.at + length piece.now.bytes.now ≤ PLACES }
-        ensures bytes { (at : ℕ) → byte_apart self.new at ≡ byte_apart self.old at }
-        ensures next { OnOk result (IsNext self.new.last piece.now.at (length piece.now.bytes.now)) }
+        ensures { result ≡ true → MayExtend self.now.last piece.now.at (length piece.now.bytes.now) }
     {
-        let start = self.last.start();
-        let end = self.last.end();
-        if piece.at == end || piece.end() == start {
-            return Ok(());
+        if self.last.is_empty() {
+            return piece.at == self.end || piece.end() == self.start;
         }
-        self.pages.make_room(start, end)?;
-        let (front, back) = self.last.slices();
-        self.pages.fill(start, front);
-        self.pages.fill(start + front.len() as u64, back);
-        self.last.restart(piece.at);
-        Ok(())
+        piece.at == self.last.end() || piece.end() == self.last.start()
     }
 
-    /// Adds a piece to the stretch, which it is next to, where no page has a byte.
+    /// Adds a piece to the stretch, where no page has a byte.
     fn extend(&mut self, piece: &Piece<'_>) -> Result<(), Mem>
         requires within { piece.now.at + length piece.now.bytes.now ≤ PLACES }
-        requires next { IsNext self.old.last piece.now.at (length piece.now.bytes.now) }
+        requires next { MayExtend self.old.last piece.now.at (length piece.now.bytes.now) }
         requires free { (at : ℕ) → piece.now.at ≤ at → at < piece.now.at + length piece.now.bytes.now → byte_paged self.old.pages at ≡ None }
         ensures bytes { OnOk result ((at : ℕ) → byte_apart self.new at ≡ option_or (byte_apart self.old at) (byte_in piece.now.at piece.now.bytes.now at)) }
         ensures err { OnErr result ((at : ℕ) → byte_apart self.new at ≡ byte_apart self.old at) }
     {
-        if piece.at == self.last.end() {
+        if self.last.is_empty() {
+            self.last.restart(piece.at);
+            self.last.add_behind(piece.bytes)
+        } else if piece.at == self.last.end() {
             self.last.add_behind(piece.bytes)
         } else {
             self.last.add_before(piece.bytes)
         }
     }
 
-    /// Puts a piece on pages, where nothing is yet. It is next to the stretch, and so not in it.
+    /// Puts a piece on the pages, where nothing is yet. What came before it goes there too.
     fn put_on_pages(&mut self, piece: &Piece<'_>) -> Result<usize, Mem>
-        requires within { piece.now.at + length piece.now.bytes.now ≤ PLACES }
-        requires next { IsNext self.old.last piece.now.at (length piece.now.bytes.now) }
+        requires { piece.now.at + length piece.now.bytes.now ≤ PLACES }
         ensures bytes { OnOk result ((at : ℕ) → byte_apart self.new at ≡ option_or (byte_apart self.old at) (byte_in piece.now.at piece.now.bytes.now at)) }
         ensures count { IfOk result (λ count. count + held_between (byte_apart self.old) piece.now.at (piece.now.at + length piece.now.bytes.now) ≡ length piece.now.bytes.now) }
         ensures err { OnErr result ((at : ℕ) → byte_apart self.new at ≡ byte_apart self.old at) }
     {
-        self.pages.make_room(piece.at, piece.end())?;
-        Ok(self.pages.fill(piece.at, piece.bytes))
+        self.empty_stretch()?;
+        let count = self.pages.put(piece.at, piece.bytes)?;
+        self.start = piece.at;
+        self.end = piece.end();
+        Ok(count)
+    }
+
+    /// Moves the stretch to the pages. The bytes stay, at `Mem` too.
+    fn empty_stretch(&mut self) -> Result<(), Mem>
+        ensures bytes { (at : ℕ) → byte_apart self.new at ≡ byte_apart self.old at }
+        ensures empty { OnOk result ((at : ℕ) → byte_in_stretch self.new.last at ≡ None) }
+    {
+        if self.last.is_empty() {
+            return Ok(());
+        }
+        let start = self.last.start();
+        self.pages.make_room(start, self.last.end())?;
+        let (front, back) = self.last.slices();
+        self.pages.fill(start, front);
+        self.pages.fill(start + front.len() as u64, back);
+        self.last.restart(0);
+        Ok(())
     }
 
     /// The first place from `from` on without a byte.

@@ -1,4 +1,4 @@
-ghost use Rattle.std.specs.Prelude.{◌≡◌, ℕ, ◌+◌, ◌-◌, ◌*◌, ◌%◌, ◌<◌, ◌≤◌, true, ◌++◌, length, None, IsSome, MatchOption, OnOk};
+ghost use Rattle.std.specs.Prelude.{◌≡◌, ℕ, ◌+◌, ◌-◌, ◌*◌, ◌%◌, ◌<◌, ◌≤◌, true, ◌++◌, length, None, IsSome, MatchOption, IfOk, OnOk, OnErr};
 ghost use Rattle.std.specs.Option.{option_or};
 ghost use Rattle.zk_reasm.specs.Between.{held_between, bytes_between};
 ghost use Rattle.zk_reasm.specs.PageTable.{AreWithin};
@@ -54,6 +54,17 @@ impl Pages {
             }
         }
         Ok(())
+    }
+
+    /// Puts bytes where nothing is yet. The answer is how many were put. At `Mem` the bytes stay.
+    pub fn put(&mut self, at: u64, bytes: &[u8]) -> Result<usize, Mem>
+        requires { at + length bytes.now ≤ PLACES }
+        ensures bytes { OnOk result ((place : ℕ) → byte_paged self.new place ≡ option_or (byte_paged self.old place) (byte_in at bytes.now place)) }
+        ensures count { IfOk result (λ count. count + held_between (byte_paged self.old) at (at + length bytes.now) ≡ length bytes.now) }
+        ensures err { OnErr result ((place : ℕ) → byte_paged self.new place ≡ byte_paged self.old place) }
+    {
+        self.make_room(at, at + bytes.len() as u64)?;
+        Ok(self.fill(at, bytes))
     }
 
     /// Puts bytes where nothing is yet, on pages that are there. The answer is how many were put.

@@ -1,4 +1,4 @@
-ghost use Rattle.std.specs.Prelude.{◌≡◌, ℕ, ◌+◌, ◌-◌, ◌<◌, ◌≤◌, true, min, max, ◌++◌, [], length, None, IsSome, OnOk, OnErr};
+ghost use Rattle.std.specs.Prelude.{◌≡◌, ℕ, ◌+◌, ◌-◌, ◌<◌, ◌≤◌, true, false, min, max, ◌++◌, [], length, None, IsSome, OnOk, OnErr};
 ghost use Rattle.std.specs.VecDeque.{deque_len};
 ghost use Rattle.zk_reasm.specs.declared.place.TheConstants.{PLACES};
 ghost use Rattle.zk_reasm.specs.Between.{held_between, bytes_between};
@@ -102,7 +102,9 @@ impl Stretch {
 
     /// Whether there is no byte.
     pub fn is_empty(&self) -> bool
-        ensures { result ≡ true → (at : ℕ) → byte_in_stretch self.now at ≡ None }
+        ensures none { result ≡ true → (at : ℕ) → byte_in_stretch self.now at ≡ None }
+        ensures len { result ≡ true → deque_len self.now.bytes ≡ 0 }
+        ensures some { result ≡ false → 0 < deque_len self.now.bytes }
     {
         self.bytes.is_empty()
     }

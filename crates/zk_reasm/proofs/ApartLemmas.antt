@@ -1,212 +1,140 @@
--- Bytes in pages: a place by its page, and what a change of one page does.
-use Rattle.std.proofs.Common.{◌≡◌, ◌≢◌, ℕ, ◌+◌, ◌-◌, ◌*◌, ◌/◌, ◌%◌, ◌<◌, ◌≤◌, max, false, List, length, replicate, zero, suc, Option, Some, None, IsSome, refl, sym, ap, ◌∙◌, ⊎_elim, arith}
-use Rattle.std.specs.BTreeMap as tree
-use Rattle.std.specs.Ordering.{nat_cmp, is_eq}
+-- Bytes of two parts: of pages, and of a stretch.
+use Rattle.std.proofs.Common.{◌≡◌, ℕ, zero, suc, ◌+◌, ◌-◌, ◌<◌, ◌≤◌, max, min, cond, List, ◌∷◌, length, Option, None, Some, IsSome, refl, sym, ap, ◌∙◌, ⊎_elim, arith}
 use Rattle.std.specs.List.{slice_get}
-use Rattle.std.specs.Map.{lookup}
 use Rattle.std.specs.Option.{is_some, option_or}
-use Rattle.std.proofs.lemmas.Bool.{cases_eq, cases_lt}
-use Rattle.std.proofs.lemmas.Grind.{common_steps}
+use Rattle.std.proofs.lemmas.Bool.{cases_lt}
+use Rattle.std.specs.VecDeque.{deque_len}
 use Rattle.zk_reasm.specs.declared.apart.Apart.{Apart}
-use Rattle.zk_reasm.specs.declared.page.TheConstants.{PAGE_LEN}
-use Rattle.zk_reasm.specs.Apart.{byte_on_any, page_at, page_of, byte_apart}
-use Rattle.zk_reasm.specs.Page.{byte_on}
+use Rattle.zk_reasm.specs.declared.pages.Pages.{Pages}
+use Rattle.zk_reasm.specs.declared.stretch.Stretch.{Stretch}
+use Rattle.zk_reasm.specs.Apart.{byte_apart}
+use Rattle.zk_reasm.specs.Between.{held_between}
+use Rattle.zk_reasm.specs.Pages.{byte_paged}
 use Rattle.zk_reasm.specs.Piece.{byte_in}
-use Rattle.zk_reasm.proofs.PieceLemmas.{option_or_none, byte_in-at, byte_in-before, byte_in-behind}
+use Rattle.zk_reasm.specs.Stretch.{byte_in_stretch, MayExtend}
+use Rattle.zk_reasm.proofs.PieceLemmas.{option_or_held, byte_in-at, byte_in-before, byte_in-behind, byte_in-within, byte_in-drop}
+use Rattle.zk_reasm.proofs.RangeLemmas.{held_at, held_between-more, held_between-none, held_between-split, held_between-full, held_between-empty}
 
--- keys that differ are told apart
-pub apart-keys : (k q : ℕ) → k ≢ q → is_eq (nat_cmp k q) ≡ false
-apart-keys k q other = grind (arith, common_steps)
+-- what is there of the second part is what the first has not
+pub option_or_other : (o p : Option ℕ) → o ≡ None → option_or o p ≡ p
+option_or_other o p none = ap (λ (q : Option ℕ). option_or q p) none
 
-pub byte_apart-on : (apart : Apart) (at : ℕ) (page : List (Option ℕ)) → page_of apart at ≡ Some page → byte_apart apart at ≡ byte_on page (at % PAGE_LEN)
+-- two parts of which one has nothing can change places
+pub option_or_swap : (o p : Option ℕ) → (IsSome p → o ≡ None) → option_or o p ≡ option_or p o
+option_or_swap None None other = refl
+option_or_swap None (Some y) other = refl
+option_or_swap (Some x) None other = refl
+option_or_swap (Some x) (Some y) other = let no : Some x ≡ None = other refl in cc
+
+one_of : (o p : Option ℕ) → (IsSome p → o ≡ None) → cond (is_some (option_or o p)) 1 0 ≡ cond (is_some o) 1 0 + cond (is_some p) 1 0
+one_of None None other = refl
+one_of None (Some y) other = refl
+one_of (Some x) None other = refl
+one_of (Some x) (Some y) other = let no : Some x ≡ None = other refl in cc
+
+both_up_to : (f g : ℕ → Option ℕ) (a n : ℕ) → ((at : ℕ) → IsSome (g at) → f at ≡ None)
+    → held_between (λ at. option_or (f at) (g at)) a (a + n) ≡ held_between f a (a + n) + held_between g a (a + n)
+both_up_to f g a zero other =
+    let h = held_between-none (λ at. option_or (f at) (g at)) a (a + 0) (omega arith) in
+    let hf = held_between-none f a (a + 0) (omega arith) in
+    let hg = held_between-none g a (a + 0) (omega arith) in
+    omega (arith, h, hf, hg)
+both_up_to f g a (suc n) other =
+    let e : a + suc n ≡ a + n + 1 = omega arith in
+    let h = ap (held_between (λ at. option_or (f at) (g at)) a) e ∙ held_between-more (λ at. option_or (f at) (g at)) a (a + n) (omega arith) in
+    let hf = ap (held_between f a) e ∙ held_between-more f a (a + n) (omega arith) in
+    let hg = ap (held_between g a) e ∙ held_between-more g a (a + n) (omega arith) in
+    let here = one_of (f (a + n)) (g (a + n)) (other (a + n)) in
+    let before = both_up_to f g a n other in
+    omega (arith, h, hf, hg, here, before)
+
+-- how many places have a byte of one part or the other, which have no place in common
+pub held_between-both : (f g : ℕ → Option ℕ) (a b : ℕ) → ((at : ℕ) → IsSome (g at) → f at ≡ None)
+    → held_between (λ at. option_or (f at) (g at)) a b ≡ held_between f a b + held_between g a b
+held_between-both f g a b other =
+    ⊎_elim
+    (λ low. let e : b ≡ a + (b - a) = omega arith in
+    let h = ap (held_between (λ at. option_or (f at) (g at)) a) e in
+    let hf = ap (held_between f a) e in
+    let hg = ap (held_between g a) e in
+    let all = both_up_to f g a (b - a) other in
+    omega (arith, h, hf, hg, all))
+    (λ past.
+    let h = held_between-none (λ at. option_or (f at) (g at)) a b past in
+    let hf = held_between-none f a b past in
+    let hg = held_between-none g a b past in
+    omega (arith, h, hf, hg))
+    (cases_lt a b)
+
+-- the first of some bytes, and those behind it
+pub byte_in-first : (from byte : ℕ) (rest : List ℕ) → byte_in from (byte ∷ rest) from ≡ Some byte
+byte_in-first from byte rest = byte_in-at from (byte ∷ rest) from (omega arith) ∙ ap (slice_get (byte ∷ rest)) (let e : from - from ≡ 0 = omega arith in e)
+
+pub byte_in-rest : (from byte : ℕ) (rest : List ℕ) (at : ℕ) → from + 1 ≤ at → byte_in (from + 1) rest at ≡ byte_in from (byte ∷ rest) at
+byte_in-rest from byte rest at low = byte_in-drop from 1 (byte ∷ rest) at low
+
+-- no byte outside of the bytes
+pub byte_in-outside : (from : ℕ) (bytes : List ℕ) (at : ℕ) → (from ≤ at → at < from + length bytes → ⊥) → byte_in from bytes at ≡ None
+byte_in-outside from bytes at outside =
+    ⊎_elim
+    (byte_in-before from bytes at)
+    (λ low. ⊎_elim (λ high. absurd (outside low high)) (byte_in-behind from bytes at) (cases_lt at (from + length bytes)))
+    (cases_lt at from)
+
+-- a place that has a byte is one of the bytes' places
+pub byte_in-inside : (from : ℕ) (bytes : List ℕ) (at : ℕ) → IsSome (byte_in from bytes at) → (from ≤ at) × (at < from + length bytes)
+byte_in-inside from bytes at there =
+    ⊎_elim
+    (λ before. let no = sym there ∙ ap is_some (byte_in-before from bytes at before) in cc)
+    (λ low. ⊎_elim (λ high. (low, high)) (λ behind. let no = sym there ∙ ap is_some (byte_in-behind from bytes at behind) in cc) (cases_lt at (from + length bytes)))
+    (cases_lt at from)
+
+-- how many of the places between are places of the bytes
+pub held_between-bytes : (from : ℕ) (bytes : List ℕ) (a b : ℕ) → held_between (byte_in from bytes) a b ≡ min b (from + length bytes) - max a from
+held_between-bytes from bytes a b =
+    ⊎_elim
+    (λ some.
+    let before = held_between-empty (byte_in from bytes) a (max a from) (λ at low high. byte_in-outside from bytes at (λ l h. omega arith)) in
+    let inside = held_between-full (byte_in from bytes) (max a from) (min b (from + length bytes)) (omega arith)
+    (λ at low high. byte_in-within from bytes at (omega arith) (omega arith)) in
+    let behind = held_between-empty (byte_in from bytes) (min b (from + length bytes)) b (λ at low high. byte_in-outside from bytes at (λ l h. omega arith)) in
+    let first = held_between-split (byte_in from bytes) a (max a from) b (omega arith) (omega arith) in
+    let second = held_between-split (byte_in from bytes) (max a from) (min b (from + length bytes)) b (omega arith) (omega arith) in
+    omega (arith, before, inside, behind, first, second))
+    (λ none. let empty = held_between-empty (byte_in from bytes) a b (λ at low high. byte_in-outside from bytes at (λ l h. omega arith)) in omega (arith, empty))
+    (cases_lt (max a from) (min b (from + length bytes)))
+
+-- a place of the stretch is on no page
+pub one_place : (apart : Apart) (at : ℕ) → IsSome (byte_in_stretch apart.last at) → byte_paged apart.pages at ≡ None
+one_place apart at there =
+    let is = byte_in-inside apart.last.at apart.last.bytes.items at there in
+    apart.once at is.0 (omega (arith, is.1, apart.last.bytes.ok.0))
+
+pub held_apart : (apart : Apart) (a b : ℕ) → held_between (byte_apart apart) a b ≡ held_between (byte_paged apart.pages) a b + held_between (byte_in_stretch apart.last) a b
 unfolding byte_apart
-byte_apart-on apart at page is = ap (λ o. byte_on_any o (at % PAGE_LEN)) is
+held_apart apart a b = held_between-both (byte_paged apart.pages) (byte_in_stretch apart.last) a b (one_place apart)
 
-pub byte_apart-off : (apart : Apart) (at : ℕ) → page_of apart at ≡ None → byte_apart apart at ≡ None
+-- the byte of a place on a page, and of one in the stretch
+pub byte_apart-page : (apart : Apart) (at : ℕ) → IsSome (byte_paged apart.pages at) → byte_paged apart.pages at ≡ byte_apart apart at
 unfolding byte_apart
-byte_apart-off apart at is = ap (λ o. byte_on_any o (at % PAGE_LEN)) is
+byte_apart-page apart at there = sym (option_or_held (byte_paged apart.pages at) (byte_in_stretch apart.last at) there)
 
--- one page is now this one, and the others stay
-pub record Writes (old new : Apart) (key : ℕ) (page : Option (List (Option ℕ))) : Type 0 where
-  pub here : tree.get nat_cmp new.pages key ≡ page
-  pub others : (q : ℕ) → is_eq (nat_cmp key q) ≡ false → tree.get nat_cmp new.pages q ≡ tree.get nat_cmp old.pages q
-
-pub page_of-here : (old new : Apart) (key : ℕ) (page : Option (List (Option ℕ))) (at : ℕ) → Writes old new key page → at / PAGE_LEN ≡ key → page_of new at ≡ page
-unfolding page_of
-page_of-here old new key page at writes same = ap (tree.get nat_cmp new.pages) same ∙ writes.here
-
-pub page_of-other : (old new : Apart) (key : ℕ) (page : Option (List (Option ℕ))) (at : ℕ) → Writes old new key page → at / PAGE_LEN ≢ key → page_of new at ≡ page_of old at
-unfolding page_of
-page_of-other old new key page at writes other = writes.others (at / PAGE_LEN) (apart-keys key (at / PAGE_LEN) (λ same. other (sym same)))
-
--- the bytes of another page stay
-pub byte_apart-other : (old new : Apart) (key : ℕ) (page : Option (List (Option ℕ))) (at : ℕ) → Writes old new key page → at / PAGE_LEN ≢ key → byte_apart new at ≡ byte_apart old at
+pub byte_apart-stretch : (apart : Apart) (at : ℕ) → IsSome (byte_in_stretch apart.last at) → byte_in_stretch apart.last at ≡ byte_apart apart at
 unfolding byte_apart
-byte_apart-other old new key page at writes other = ap (λ o. byte_on_any o (at % PAGE_LEN)) (page_of-other old new key page at writes other)
+byte_apart-stretch apart at there = sym (option_or_other (byte_paged apart.pages at) (byte_in_stretch apart.last at) (one_place apart at there))
 
--- bytes put on a page
-pub byte_apart-put : (old new : Apart) (key from : ℕ) (was is : List (Option ℕ)) (bytes : List ℕ) → tree.get nat_cmp old.pages key ≡ Some was → Writes old new key (Some is)
-    → from + length bytes ≤ PAGE_LEN
-    → ((i : ℕ) → byte_on is i ≡ option_or (byte_on was i) (byte_in from bytes i)) → (at : ℕ)
-    → byte_apart new at ≡ option_or (byte_apart old at) (byte_in (key * PAGE_LEN + from) bytes at)
-unfolding page_of
-byte_apart-put old new key from was is bytes old_page writes within put at =
-    ⊎_elim
-    (λ same. byte_apart-on new at is (page_of-here old new key (Some is) at writes same) ∙ put (at % PAGE_LEN)
-    ∙ ap (λ o. option_or o (byte_in from bytes (at % PAGE_LEN))) (sym (byte_apart-on old at was (ap (tree.get nat_cmp old.pages) same ∙ old_page)))
-    ∙ ap (option_or (byte_apart old at)) (moved same))
-    (λ other. byte_apart-other old new key (Some is) at writes other
-    ∙ sym (ap (option_or (byte_apart old at)) (elsewhere other) ∙ option_or_none (byte_apart old at)))
-    (cases_eq (at / PAGE_LEN) key)
-  where
-    moved : at / PAGE_LEN ≡ key → byte_in from bytes (at % PAGE_LEN) ≡ byte_in (key * PAGE_LEN + from) bytes at
-    moved same = ⊎_elim
-        (λ before. byte_in-before from bytes (at % PAGE_LEN) before ∙ sym (byte_in-before (key * PAGE_LEN + from) bytes at (omega (arith, before, same))))
-        (λ low. byte_in-at from bytes (at % PAGE_LEN) low
-        ∙ ap (slice_get bytes) (let e : at % PAGE_LEN - from ≡ at - (key * PAGE_LEN + from) = omega (arith, low, same) in e)
-        ∙ sym (byte_in-at (key * PAGE_LEN + from) bytes at (omega (arith, low, same))))
-        (cases_lt (at % PAGE_LEN) from)
+-- what is left of the stretch lies behind a place from which on nothing changed
+pub once_behind : (apart : Apart) (pages : Pages) (last : Stretch) (place : ℕ) → (0 < deque_len last.bytes → place ≤ last.at)
+    → ((at : ℕ) → place ≤ at → byte_in_stretch last at ≡ byte_in_stretch apart.last at) → ((at : ℕ) → place ≤ at → byte_paged pages at ≡ byte_paged apart.pages at)
+    → (at : ℕ) → last.at ≤ at → at < last.at + deque_len last.bytes → byte_paged pages at ≡ None
+once_behind apart pages last place left stretch paged at low high =
+    let behind : place ≤ at = let l = left (omega (arith, low, high)) in omega (arith, l, low) in
+    let there : IsSome (byte_in_stretch last at) = byte_in-within last.at last.bytes.items at low (omega (arith, high, last.bytes.ok.0)) in
+    paged at behind ∙ one_place apart at (sym (ap is_some (stretch at behind)) ∙ there)
 
-    elsewhere : at / PAGE_LEN ≢ key → byte_in (key * PAGE_LEN + from) bytes at ≡ None
-    elsewhere other = ⊎_elim
-        (λ before. byte_in-before (key * PAGE_LEN + from) bytes at before)
-        (λ low. byte_in-behind (key * PAGE_LEN + from) bytes at (omega (arith, low, other, within)))
-        (cases_lt at (key * PAGE_LEN + from))
-
--- the places of one page
-pub byte_apart-page : (apart : Apart) (at n : ℕ) (page : List (Option ℕ)) → page_of apart at ≡ Some page → at % PAGE_LEN + n ≤ PAGE_LEN
-    → (k : ℕ) → k < n → byte_apart apart (at + k) ≡ byte_on page (at % PAGE_LEN + k)
-unfolding page_of
-byte_apart-page apart at n page is within k low =
-    byte_apart-on apart (at + k) page (ap (tree.get nat_cmp apart.pages) (let e : (at + k) / PAGE_LEN ≡ at / PAGE_LEN = omega (arith, low, within) in e) ∙ is)
-    ∙ ap (byte_on page) (let e : (at + k) % PAGE_LEN ≡ at % PAGE_LEN + k = omega (arith, low, within) in e)
-
--- a page that is there stays
-pub page_of-stays : (old new : Apart) (key : ℕ) (page : List (Option ℕ)) (at : ℕ) → Writes old new key (Some page) → IsSome (page_of old at) → IsSome (page_of new at)
-page_of-stays old new key page at writes there =
-    ⊎_elim
-    (λ same. ap is_some (page_of-here old new key (Some page) at writes same))
-    (λ other. ap is_some (page_of-other old new key (Some page) at writes other) ∙ there)
-    (cases_eq (at / PAGE_LEN) key)
-
--- the page that a place has is in the table
-pub page_there : (apart : Apart) (at : ℕ) → IsSome (page_of apart at) → IsSome (tree.get nat_cmp apart.pages (at / PAGE_LEN))
-unfolding page_of
-page_there apart at there = there
-
-pub byte_apart-at : (apart : Apart) (key i : ℕ) (page : List (Option ℕ)) → page_at apart key ≡ Some page → i < PAGE_LEN → byte_apart apart (key * PAGE_LEN + i) ≡ byte_on page i
-unfolding page_of
-byte_apart-at apart key i page is low =
-    byte_apart-on apart (key * PAGE_LEN + i) page (ap (page_at apart) (let e : (key * PAGE_LEN + i) / PAGE_LEN ≡ key = omega (arith, low) in e) ∙ is)
-    ∙ ap (byte_on page) (let e : (key * PAGE_LEN + i) % PAGE_LEN ≡ i = omega (arith, low) in e)
-
--- no byte on the pages up to one, nor on that one up to a place
-pub none_before : (apart : Apart) (from key start n : ℕ) (page : List (Option ℕ)) → start + key * PAGE_LEN ≡ max from (key * PAGE_LEN)
-    → page_at apart key ≡ Some page → ((q : ℕ) → from / PAGE_LEN ≤ q → q < key → page_at apart q ≡ None)
-    → ((i : ℕ) → start ≤ i → i < n → byte_on page i ≡ None) → n ≤ PAGE_LEN
-    → (at : ℕ) → from ≤ at → at < key * PAGE_LEN + n → byte_apart apart at ≡ None
-unfolding page_of
-none_before apart from key start n page starts is none empty short at low high =
-    ⊎_elim
-    (λ before. byte_apart-off apart at (none (at / PAGE_LEN) (omega (arith, low)) before))
-    (λ behind.
-    let here : at / PAGE_LEN ≡ key = omega (arith, behind, high, short) in
-    byte_apart-on apart at page (ap (page_at apart) here ∙ is) ∙ empty (at % PAGE_LEN) (omega (arith, here, starts, low)) (omega (arith, here, high)))
-    (cases_lt (at / PAGE_LEN) key)
-
--- no byte from a place on, where no page is there
-pub none_from_page : (apart : Apart) (from : ℕ) → ((q : ℕ) → from / PAGE_LEN ≤ q → page_at apart q ≡ None) → (at : ℕ) → from ≤ at → byte_apart apart at ≡ None
-unfolding page_of
-none_from_page apart from none at low = byte_apart-off apart at (none (at / PAGE_LEN) (omega (arith, low)))
-
--- the bytes of a table with the same entries
-pub byte_apart-same : (old new : Apart) → new.pages.entries ≡ old.pages.entries → (at : ℕ) → byte_apart new at ≡ byte_apart old at
-unfolding byte_apart page_of
-byte_apart-same old new same at = ap (λ es. byte_on_any (lookup (tree.is_at (nat_cmp (at / PAGE_LEN))) es) (at % PAGE_LEN)) same
-
-blank_page : (n i : ℕ) → byte_on (replicate n None) i ≡ None
-blank_page zero i = refl
-blank_page (suc n) zero = refl
-blank_page (suc n) (suc i) = blank_page n i
-
--- a page without a byte where there was none
-pub byte_apart-made : (old new : Apart) (key : ℕ) → page_at old key ≡ None → Writes old new key (Some (replicate PAGE_LEN None)) → (at : ℕ) → byte_apart new at ≡ byte_apart old at
-unfolding page_of
-byte_apart-made old new key none writes at =
-    ⊎_elim
-    (λ same. byte_apart-on new at (replicate PAGE_LEN None) (page_of-here old new key (Some (replicate PAGE_LEN None)) at writes same)
-    ∙ blank_page PAGE_LEN (at % PAGE_LEN) ∙ sym (byte_apart-off old at (ap (page_at old) same ∙ none)))
-    (byte_apart-other old new key (Some (replicate PAGE_LEN None)) at writes)
-    (cases_eq (at / PAGE_LEN) key)
-
--- a page made at a place
-pub page_of-made : (old new : Apart) (key : ℕ) (page : List (Option ℕ)) (at : ℕ) → Writes old new key (Some page) → at / PAGE_LEN ≡ key → IsSome (page_of new at)
-page_of-made old new key page at writes same = ap is_some (page_of-here old new key (Some page) at writes same)
-
-pub page_of-found : (apart : Apart) (key at : ℕ) → at / PAGE_LEN ≡ key → IsSome (page_at apart key) → IsSome (page_of apart at)
-unfolding page_of
-page_of-found apart key at same there = ap (λ k. is_some (page_at apart k)) same ∙ there
-
--- the bytes below a place, once what lies from it on is dropped
-pub cut_below : (old mid new : Apart) (from least : ℕ) (was is : List (Option ℕ)) → from ≤ least * PAGE_LEN
-    → ((key : ℕ) → key < least → page_at mid key ≡ page_at old key) → page_at mid (from / PAGE_LEN) ≡ Some was → Writes mid new (from / PAGE_LEN) (Some is)
-    → ((i : ℕ) → i < from % PAGE_LEN → byte_on is i ≡ byte_on was i) → (at : ℕ) → at < from → byte_apart new at ≡ byte_apart old at
-unfolding page_of byte_apart
-cut_below old mid new from least was is enough below had writes kept at low =
-    ⊎_elim
-    (λ same. byte_apart-on new at is (page_of-here mid new (from / PAGE_LEN) (Some is) at writes same)
-    ∙ kept (at % PAGE_LEN) (omega (arith, same, low))
-    ∙ sym (byte_apart-on mid at was (ap (page_at mid) same ∙ had)))
-    (byte_apart-other mid new (from / PAGE_LEN) (Some is) at writes)
-    (cases_eq (at / PAGE_LEN) (from / PAGE_LEN))
-    ∙ ap (λ o. byte_on_any o (at % PAGE_LEN)) (below (at / PAGE_LEN) (omega (arith, low, enough)))
-
--- and the places from it on
-pub cut_above : (mid new : Apart) (from least : ℕ) (is : List (Option ℕ)) → least * PAGE_LEN < from + PAGE_LEN
-    → ((key : ℕ) → least ≤ key → page_at mid key ≡ None) → Writes mid new (from / PAGE_LEN) (Some is)
-    → ((i : ℕ) → from % PAGE_LEN ≤ i → byte_on is i ≡ None) → (at : ℕ) → from ≤ at → byte_apart new at ≡ None
-unfolding page_of
-cut_above mid new from least is enough above writes none at low =
-    ⊎_elim
-    (λ same. byte_apart-on new at is (page_of-here mid new (from / PAGE_LEN) (Some is) at writes same) ∙ none (at % PAGE_LEN) (omega (arith, same, low)))
-    (λ other. byte_apart-other mid new (from / PAGE_LEN) (Some is) at writes other
-    ∙ byte_apart-off mid at (above (at / PAGE_LEN) (omega (arith, other, low, enough))))
-    (cases_eq (at / PAGE_LEN) (from / PAGE_LEN))
-
--- where the page of the place isn't there
-pub cut_below_none : (old mid : Apart) (from least : ℕ) → from ≤ least * PAGE_LEN → ((key : ℕ) → key < least → page_at mid key ≡ page_at old key)
-    → (at : ℕ) → at < from → byte_apart mid at ≡ byte_apart old at
-unfolding page_of byte_apart
-cut_below_none old mid from least enough below at low = ap (λ o. byte_on_any o (at % PAGE_LEN)) (below (at / PAGE_LEN) (omega (arith, low, enough)))
-
-pub cut_above_none : (mid : Apart) (from least : ℕ) → least * PAGE_LEN < from + PAGE_LEN → ((key : ℕ) → least ≤ key → page_at mid key ≡ None)
-    → page_at mid (from / PAGE_LEN) ≡ None → (at : ℕ) → from ≤ at → byte_apart mid at ≡ None
-unfolding page_of
-cut_above_none mid from least enough above none at low =
-    byte_apart-off mid at (⊎_elim
-    (λ same. ap (page_at mid) same ∙ none)
-    (λ other. above (at / PAGE_LEN) (omega (arith, other, low, enough)))
-    (cases_eq (at / PAGE_LEN) (from / PAGE_LEN)))
-
--- a page without a byte is dropped
-pub byte_apart-dropped : (old new : Apart) (key : ℕ) (page : List (Option ℕ)) → page_at old key ≡ Some page → ((i : ℕ) → byte_on page i ≡ None)
-    → Writes old new key None → (at : ℕ) → byte_apart new at ≡ byte_apart old at
-unfolding page_of
-byte_apart-dropped old new key page had none writes at =
-    ⊎_elim
-    (λ same. byte_apart-off new at (page_of-here old new key None at writes same)
-    ∙ sym (byte_apart-on old at page (ap (page_at old) same ∙ had) ∙ none (at % PAGE_LEN)))
-    (byte_apart-other old new key None at writes)
-    (cases_eq (at / PAGE_LEN) key)
-
--- bytes moved from a page: the places behind them, on it and on others, stay
-pub byte_apart-behind : (old new : Apart) (from end : ℕ) (was is : List (Option ℕ)) → page_at old (from / PAGE_LEN) ≡ Some was → Writes old new (from / PAGE_LEN) (Some is)
-    → end ≤ PAGE_LEN → ((i : ℕ) → end ≤ i → byte_on is i ≡ byte_on was i)
-    → (at : ℕ) → from / PAGE_LEN * PAGE_LEN + end ≤ at → byte_apart new at ≡ byte_apart old at
-unfolding page_of
-byte_apart-behind old new from end was is had writes short behind at low =
-    ⊎_elim
-    (λ same. byte_apart-on new at is (page_of-here old new (from / PAGE_LEN) (Some is) at writes same) ∙ behind (at % PAGE_LEN) (omega (arith, same, low))
-    ∙ sym (byte_apart-on old at was (ap (page_at old) same ∙ had)))
-    (byte_apart-other old new (from / PAGE_LEN) (Some is) at writes)
-    (cases_eq (at / PAGE_LEN) (from / PAGE_LEN))
+-- the stretch has no byte where it may be extended
+pub extended_outside : (last : Stretch) (at n i : ℕ) → MayExtend last at n → at ≤ i → i < at + n → byte_in_stretch last i ≡ None
+extended_outside last at n i may low high =
+    byte_in-outside last.at last.bytes.items i
+    (λ l h. ⊎_elim (λ e. omega (arith, e, l, h, last.bytes.ok.0))
+    (⊎_elim (λ e. omega (arith, e, l, h, low, high, last.bytes.ok.0)) (λ e. omega (arith, e, l, h, low, high, last.bytes.ok.0))) may)

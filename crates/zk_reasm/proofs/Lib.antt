@@ -8,6 +8,7 @@ pub mod HistoryLemmas
 pub mod LawLemmas
 pub mod NewLemmas
 pub mod PageLemmas
+pub mod PagesLemmas
 pub mod PieceLemmas
 pub mod PlaceLemmas
 pub mod PutLemmas

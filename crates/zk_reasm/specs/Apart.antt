@@ -1,24 +1,10 @@
--- Bytes by their places, in pages of neighbouring places.
-use Rattle.std.specs.Prelude.{ℕ, ◌/◌, ◌%◌, List, Option, None, Some}
-use Rattle.std.specs.Ordering.{nat_cmp}
-use Rattle.std.specs.BTreeMap as tree
+-- Bytes by their places, with holes between them.
+use Rattle.std.specs.Prelude.{ℕ, Option}
+use Rattle.std.specs.Option.{option_or}
 use Rattle.zk_reasm.specs.declared.apart.Apart.{Apart}
-use Rattle.zk_reasm.specs.declared.page.TheConstants.{PAGE_LEN}
-use Rattle.zk_reasm.specs.Page.{byte_on}
+use Rattle.zk_reasm.specs.Pages.{byte_paged}
+use Rattle.zk_reasm.specs.Stretch.{byte_in_stretch}
 
--- the byte at a place of a page that may be there
-abbrev pub byte_on_any : Option (List (Option ℕ)) → ℕ → Option ℕ
-byte_on_any None at = None
-byte_on_any (Some page) at = byte_on page at
-
--- the page of this number
-abbrev pub page_at : Apart → ℕ → Option (List (Option ℕ))
-page_at apart key = tree.get nat_cmp apart.pages key
-
--- the page with a place
-unfoldable pub page_of : Apart → ℕ → Option (List (Option ℕ))
-page_of apart at = page_at apart (at / PAGE_LEN)
-
--- the byte at a place
+-- the byte at a place: of the pages, or of the stretch that came last
 unfoldable pub byte_apart : Apart → ℕ → Option ℕ
-byte_apart apart at = byte_on_any (page_of apart at) (at % PAGE_LEN)
+byte_apart apart at = option_or (byte_paged apart.pages at) (byte_in_stretch apart.last at)

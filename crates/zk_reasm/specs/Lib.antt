@@ -6,10 +6,12 @@ pub mod Held
 pub mod Histories
 pub mod Judging
 pub mod Page
+pub mod PageTable
 pub mod Pages
 pub mod Parts
 pub mod Piece
 pub mod Place
 pub mod Standing
+pub mod Stretch
 pub mod Told
 pub mod Views

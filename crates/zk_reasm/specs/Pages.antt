@@ -1,10 +1,24 @@
--- The pages of a table.
-use Rattle.std.specs.Prelude.{ℕ, ◌*◌, ◌+◌, ◌≤◌, List, Option, IsSome}
+-- Bytes by their places, in pages of neighbouring places.
+use Rattle.std.specs.Prelude.{ℕ, ◌/◌, ◌%◌, List, Option, None, Some}
 use Rattle.std.specs.Ordering.{nat_cmp}
 use Rattle.std.specs.BTreeMap as tree
+use Rattle.zk_reasm.specs.declared.pages.Pages.{Pages}
 use Rattle.zk_reasm.specs.declared.page.TheConstants.{PAGE_LEN}
-use Rattle.zk_reasm.specs.declared.place.TheConstants.{PLACES}
+use Rattle.zk_reasm.specs.Page.{byte_on}
 
--- each page has places that there are
-abbrev pub AreWithin : tree.BTreeMap ℕ (List (Option ℕ)) → Type 0
-AreWithin pages = (key : ℕ) → IsSome (tree.get nat_cmp pages key) → (key + 1) * PAGE_LEN ≤ PLACES
+-- the byte at a place of a page that may be there
+abbrev pub byte_on_any : Option (List (Option ℕ)) → ℕ → Option ℕ
+byte_on_any None at = None
+byte_on_any (Some page) at = byte_on page at
+
+-- the page of this number
+abbrev pub page_at : Pages → ℕ → Option (List (Option ℕ))
+page_at table key = tree.get nat_cmp table.pages key
+
+-- the page with a place
+unfoldable pub page_of : Pages → ℕ → Option (List (Option ℕ))
+page_of table at = page_at table (at / PAGE_LEN)
+
+-- the byte at a place
+unfoldable pub byte_paged : Pages → ℕ → Option ℕ
+byte_paged table at = byte_on_any (page_of table at) (at % PAGE_LEN)

@@ -1,91 +1,130 @@
-ghost use Rattle.std.specs.Prelude.{◌≡◌, ℕ, ◌+◌, ◌-◌, ◌*◌, ◌%◌, ◌<◌, ◌≤◌, true, ◌++◌, length, None, IsSome, MatchOption, OnOk};
+ghost use Rattle.std.specs.Prelude.{◌≡◌, ℕ, ◌+◌, ◌-◌, ◌<◌, ◌≤◌, true, ◌++◌, length, None, IsSome, MatchOption, IfOk, OnOk, OnErr};
 ghost use Rattle.std.specs.Option.{option_or};
+ghost use Rattle.std.specs.VecDeque.{deque_len};
 ghost use Rattle.zk_reasm.specs.Between.{held_between, bytes_between};
-ghost use Rattle.zk_reasm.specs.Pages.{AreWithin};
+ghost use Rattle.zk_reasm.specs.Pages.{byte_paged};
 ghost use Rattle.zk_reasm.specs.Piece.{byte_in};
 ghost use Rattle.zk_base.specs.ByteQueue.{bytes_of, room_of};
 
-use crate::page::{self, PAGE_LEN, Page};
+use crate::pages::Pages;
+use crate::piece::Piece;
 use crate::place::PLACES;
+use crate::stretch::Stretch;
 use std::alloc::Global;
-use std::collections::BTreeMap;
 use zk_base::{ByteQueue, Mem};
 
-/// How many places one page has.
-const PAGE: u64 = PAGE_LEN as u64;
-
-/// Bytes by their places, with holes between them, in pages of neighbouring places.
+/// Bytes by their places, with holes between them. What came last lies in one stretch, so that bytes
+/// that follow one another, upward or downward, cost no more than those of a run; what lies elsewhere
+/// is on pages.
 #[derive(Debug, Drop)]
 pub struct Apart {
-    pages: BTreeMap<u64, Page>,
-    ghost within: { AreWithin pages },
+    pages: Pages,
+    last: Stretch,
+    /// Where the piece began that came to the pages last, and where it ended.
+    start: u64,
+    end: u64,
+    ghost once: { (at : ℕ) → last.at ≤ at → at < last.at + deque_len last.bytes → byte_paged pages at ≡ None },
 }
 
+#[tactic(auto, unfolding(crate::specs::Apart::byte_apart))]
 impl Apart {
-    ghost use Rattle.zk_reasm.specs.Apart.{byte_apart, page_at, page_of};
+    ghost use Rattle.zk_reasm.specs.Apart.{byte_apart};
+    ghost use Rattle.zk_reasm.specs.Stretch.{byte_in_stretch, MayExtend};
 
     /// No bytes. No memory is taken.
-    #[tactic(auto, unfolding(crate::specs::Apart::byte_apart, crate::specs::Apart::page_of))]
     pub fn new(alloc: Global) -> Apart
         ensures { (at : ℕ) → byte_apart result at ≡ None }
     {
         Apart {
-            pages: BTreeMap::new(alloc),
+            pages: Pages::new(alloc),
+            last: Stretch::new(alloc),
+            start: 0,
+            end: 0,
         }
     }
 
-    /// Whether there is no page, and so no byte.
-    #[tactic(auto, unfolding(crate::specs::Apart::byte_apart, crate::specs::Apart::page_of))]
+    /// Whether it can be told at once that there is no byte.
     pub fn is_empty(&self) -> bool
         ensures { result ≡ true → (at : ℕ) → byte_apart self.now at ≡ None }
     {
-        self.pages.is_empty()
+        self.last.is_empty() && self.pages.is_empty()
     }
 
-    /// Makes the pages of the places from one up to another. At `Mem` the bytes stay too.
-    pub fn make_room(&mut self, from: u64, to: u64) -> Result<(), Mem>
-        requires { to ≤ PLACES }
-        ensures same { (at : ℕ) → byte_apart self.new at ≡ byte_apart self.old at }
-        ensures ok { OnOk result ((at : ℕ) → from ≤ at → at < to → IsSome (page_of self.new at)) }
+    /// Puts bytes where nothing is yet. The answer is how many were put. At `Mem` the bytes stay.
+    pub fn put(&mut self, piece: &Piece<'_>) -> Result<usize, Mem>
+        requires { piece.now.at + length piece.now.bytes.now ≤ PLACES }
+        ensures bytes { OnOk result ((at : ℕ) → byte_apart self.new at ≡ option_or (byte_apart self.old at) (byte_in piece.now.at piece.now.bytes.now at)) }
+        ensures count { IfOk result (λ count. count + held_between (byte_apart self.old) piece.now.at (piece.now.at + length piece.now.bytes.now) ≡ length piece.now.bytes.now) }
+        ensures err { OnErr result ((at : ℕ) → byte_apart self.new at ≡ byte_apart self.old at) }
     {
-        for key in from / PAGE..to.div_ceil(PAGE) {
-            if !self.pages.contains_key(&key) {
-                self.pages.insert(key, [None; PAGE_LEN])?;
-            }
+        if piece.bytes.is_empty() {
+            return Ok(0);
         }
+        if self.is_next(piece) && self.pages.is_free(piece.at, piece.end()) {
+            self.extend(piece)?;
+            return Ok(piece.bytes.len());
+        }
+        self.put_on_pages(piece)
+    }
+
+    /// Whether a piece stands right behind what came last or right before it.
+    fn is_next(&self, piece: &Piece<'_>) -> bool
+        requires { piece.now.at + length piece.now.bytes.now ≤ PLACES }
+        ensures { result ≡ true → MayExtend self.now.last piece.now.at (length piece.now.bytes.now) }
+    {
+        if self.last.is_empty() {
+            return piece.at == self.end || piece.end() == self.start;
+        }
+        piece.at == self.last.end() || piece.end() == self.last.start()
+    }
+
+    /// Adds a piece to the stretch, where no page has a byte.
+    fn extend(&mut self, piece: &Piece<'_>) -> Result<(), Mem>
+        requires within { piece.now.at + length piece.now.bytes.now ≤ PLACES }
+        requires next { MayExtend self.old.last piece.now.at (length piece.now.bytes.now) }
+        requires free { (at : ℕ) → piece.now.at ≤ at → at < piece.now.at + length piece.now.bytes.now → byte_paged self.old.pages at ≡ None }
+        ensures bytes { OnOk result ((at : ℕ) → byte_apart self.new at ≡ option_or (byte_apart self.old at) (byte_in piece.now.at piece.now.bytes.now at)) }
+        ensures err { OnErr result ((at : ℕ) → byte_apart self.new at ≡ byte_apart self.old at) }
+    {
+        if self.last.is_empty() {
+            self.last.restart(piece.at);
+            self.last.add_behind(piece.bytes)
+        } else if piece.at == self.last.end() {
+            self.last.add_behind(piece.bytes)
+        } else {
+            self.last.add_before(piece.bytes)
+        }
+    }
+
+    /// Puts a piece on the pages, where nothing is yet. What came before it goes there too.
+    fn put_on_pages(&mut self, piece: &Piece<'_>) -> Result<usize, Mem>
+        requires { piece.now.at + length piece.now.bytes.now ≤ PLACES }
+        ensures bytes { OnOk result ((at : ℕ) → byte_apart self.new at ≡ option_or (byte_apart self.old at) (byte_in piece.now.at piece.now.bytes.now at)) }
+        ensures count { IfOk result (λ count. count + held_between (byte_apart self.old) piece.now.at (piece.now.at + length piece.now.bytes.now) ≡ length piece.now.bytes.now) }
+        ensures err { OnErr result ((at : ℕ) → byte_apart self.new at ≡ byte_apart self.old at) }
+    {
+        self.empty_stretch()?;
+        let count = self.pages.put(piece.at, piece.bytes)?;
+        self.start = piece.at;
+        self.end = piece.end();
+        Ok(count)
+    }
+
+    /// Moves the stretch to the pages. The bytes stay, at `Mem` too.
+    fn empty_stretch(&mut self) -> Result<(), Mem>
+        ensures bytes { (at : ℕ) → byte_apart self.new at ≡ byte_apart self.old at }
+        ensures empty { OnOk result ((at : ℕ) → byte_in_stretch self.new.last at ≡ None) }
+    {
+        if self.last.is_empty() {
+            return Ok(());
+        }
+        let start = self.last.start();
+        self.pages.make_room(start, self.last.end())?;
+        let (front, back) = self.last.slices();
+        self.pages.fill(start, front);
+        self.pages.fill(start + front.len() as u64, back);
+        self.last.restart(0);
         Ok(())
-    }
-
-    /// Puts bytes where nothing is yet, on pages that are there. The answer is how many were put.
-    pub fn fill(&mut self, at: u64, bytes: &[u8]) -> usize
-        requires within { at + length bytes.now ≤ PLACES }
-        requires pages { (place : ℕ) → at ≤ place → place < at + length bytes.now → IsSome (page_of self.old place) }
-        ensures bytes { (place : ℕ) → byte_apart self.new place ≡ option_or (byte_apart self.old place) (byte_in at bytes.now place) }
-        ensures count { result + held_between (byte_apart self.old) at (at + length bytes.now) ≡ length bytes.now }
-    {
-        let mut done = 0;
-        let mut count = 0;
-        while done < bytes.len() {
-            let place = at + done as u64;
-            let n = (bytes.len() - done).min(PAGE_LEN - (place % PAGE) as usize);
-            count += self.fill_page(place, &bytes[done..done + n]);
-            done += n;
-        }
-        count
-    }
-
-    /// Puts bytes where nothing is yet, on one page that is there.
-    fn fill_page(&mut self, at: u64, bytes: &[u8]) -> usize
-        requires within { at % PAGE_LEN + length bytes.now ≤ PAGE_LEN }
-        requires page { IsSome (page_of self.old at) }
-        ensures bytes { (place : ℕ) → byte_apart self.new place ≡ option_or (byte_apart self.old place) (byte_in at bytes.now place) }
-        ensures count { result + held_between (byte_apart self.old) at (at + length bytes.now) ≡ length bytes.now }
-        ensures pages { (place : ℕ) → IsSome (page_of self.old place) → IsSome (page_of self.new place) }
-    {
-        match self.pages.get_mut(&(at / PAGE)) {
-            Some(page) => page::fill(page, (at % PAGE) as usize, bytes),
-            None => unreachable!(),
-        }
     }
 
     /// The first place from `from` on without a byte.
@@ -96,29 +135,12 @@ impl Apart {
         ensures before { (at : ℕ) → from ≤ at → at < result → IsSome (byte_apart self.now at) }
         ensures free { byte_apart self.now result ≡ None }
     {
-        let mut place = from;
-        let mut next = self.free_on_page(place);
-        while place < next {
-            place = next;
-            next = self.free_on_page(place);
+        let place = self.pages.first_free(from);
+        let end = self.last.end();
+        if place < self.last.start() || end <= place {
+            return place;
         }
-        place
-    }
-
-    /// The first place from `from` on, on its page, without a byte, or the place behind the page.
-    fn free_on_page(&self, from: u64) -> u64
-        requires { from ≤ PLACES }
-        ensures least { from ≤ result }
-        ensures within { result ≤ PLACES }
-        ensures before { (at : ℕ) → from ≤ at → at < result → IsSome (byte_apart self.now at) }
-        ensures free { result ≡ from → byte_apart self.now from ≡ None }
-    {
-        match self.pages.get(&(from / PAGE)) {
-            Some(page) => {
-                from / PAGE * PAGE + page::first_free(page, (from % PAGE) as usize) as u64
-            }
-            None => from,
-        }
+        self.pages.first_free(end)
     }
 
     /// The first place from `from` on with a byte.
@@ -127,25 +149,15 @@ impl Apart {
             (from ≤ found) × (found < PLACES) × IsSome (byte_apart self.now found)
             × ((at : ℕ) → from ≤ at → at < found → byte_apart self.now at ≡ None)) }
     {
-        let mut from = from;
-        while let Some((key, page)) = self.next_page(from / PAGE) {
-            let start = from.max(key * PAGE) - key * PAGE;
-            if let Some(at) = page::first_held(page, start as usize) {
-                return Some(key * PAGE + at as u64);
-            }
-            from = (key + 1) * PAGE;
+        let held = self.pages.first_held(from);
+        let start = from.max(self.last.start());
+        if self.last.end() <= start {
+            return held;
         }
-        None
-    }
-
-    /// The first page from a number on.
-    fn next_page(&self, least: u64) -> Option<(u64, &Page)>
-        ensures { MatchOption result ((key : ℕ) → least ≤ key → page_at self.now key ≡ None) (λ found.
-            (least ≤ found.0) × ((found.0 + 1) * PAGE_LEN ≤ PLACES) × (page_at self.now found.0 ≡ Some found.1.now)
-            × ((key : ℕ) → least ≤ key → key < found.0 → page_at self.now key ≡ None)) }
-    {
-        let (key, page) = self.pages.range(least..).next()?;
-        Some((*key, page))
+        match held {
+            Some(place) => Some(place.min(start)),
+            None => Some(start),
+        }
     }
 
     /// How many places from one up to another have a byte.
@@ -153,16 +165,10 @@ impl Apart {
         requires { to ≤ PLACES }
         ensures { result ≡ held_between (byte_apart self.now) from to }
     {
-        let mut count = 0;
-        let mut from = from;
-        while let Some(place) = self.first_held(from) {
-            if to <= place {
-                break;
-            }
-            count += 1;
-            from = place + 1;
+        if to <= from {
+            return 0;
         }
-        count
+        self.pages.count(from, to) + self.last.count(from, to)
     }
 
     /// Moves bytes to a run, from a place on up to the first place without a byte or to `to`. The
@@ -179,48 +185,15 @@ impl Apart {
         ensures behind { (at : ℕ) → result ≤ at → byte_apart self.new at ≡ byte_apart self.old at }
         ensures stop { result < to → byte_apart self.old result ≡ None }
     {
-        let mut place = from;
-        let mut next = self.move_page(place, to, run);
-        while place < next {
-            place = next;
-            next = self.move_page(place, to, run);
-        }
-        place
-    }
-
-    /// Moves bytes of one page to a run, from a place on up to the first place without a byte, to
-    /// `to` or to the page's end. The answer is the place behind them.
-    fn move_page(&mut self, from: u64, to: u64, run: &mut ByteQueue) -> u64
-        requires within { to ≤ PLACES }
-        requires order { from ≤ to }
-        requires room { held_between (byte_apart self.old) from to ≤ room_of run.old }
-        ensures order { from ≤ result }
-        ensures within { result ≤ to }
-        ensures run { bytes_of run.new ≡ bytes_of run.old ++ bytes_between (byte_apart self.old) from result }
-        ensures room { room_of run.old ≤ room_of run.new + (result - from) }
-        ensures had { (at : ℕ) → from ≤ at → at < result → IsSome (byte_apart self.old at) }
-        ensures behind { (at : ℕ) → result ≤ at → byte_apart self.new at ≡ byte_apart self.old at }
-        ensures stop { result ≡ from → from < to → byte_apart self.old from ≡ None }
-    {
-        let key = from / PAGE;
-        let Some(page) = self.pages.get_mut(&key) else {
+        if from == to {
             return from;
-        };
-        let end = (to - key * PAGE).min(PAGE) as usize;
-        let at = page::move_run(page, (from % PAGE) as usize, end, run);
-        self.drop_if_empty(key);
-        key * PAGE + at as u64
-    }
-
-    /// Drops a page that has no byte.
-    fn drop_if_empty(&mut self, key: u64)
-        ensures { (at : ℕ) → byte_apart self.new at ≡ byte_apart self.old at }
-    {
-        if let Some(page) = self.pages.get(&key)
-            && page::is_empty(page)
-        {
-            self.pages.remove(&key);
         }
+        let place = self.pages.move_run(from, to, run);
+        let end = self.last.move_run(place, to, run);
+        if end == place {
+            return place;
+        }
+        self.pages.move_run(end, to, run)
     }
 
     /// Drops the bytes from a place on.
@@ -229,21 +202,7 @@ impl Apart {
         ensures below { (at : ℕ) → at < from → byte_apart self.new at ≡ byte_apart self.old at }
         ensures above { (at : ℕ) → from ≤ at → byte_apart self.new at ≡ None }
     {
-        self.drop_pages(from.div_ceil(PAGE));
-        if let Some(page) = self.pages.get_mut(&(from / PAGE)) {
-            page::cut(page, (from % PAGE) as usize);
-        }
-    }
-
-    /// Drops the pages from a number on.
-    fn drop_pages(&mut self, least: u64)
-        ensures below { (key : ℕ) → key < least → page_at self.new key ≡ page_at self.old key }
-        ensures above { (key : ℕ) → least ≤ key → page_at self.new key ≡ None }
-    {
-        while let Some((key, _)) = self.pages.last_key_value()
-            && least <= *key
-        {
-            self.pages.pop_last();
-        }
+        self.pages.cut(from);
+        self.last.cut(from);
     }
 }

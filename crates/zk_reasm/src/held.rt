@@ -1,7 +1,7 @@
 ghost use Rattle.std.specs.Prelude.{◌≡◌, ℕ, ◌+◌, ◌-◌, ◌<◌, ◌≤◌, false, max, min, drop, length, None, IsSome, IfOk, OnOk, OnErr};
 ghost use Rattle.std.specs.Option.{option_or};
 ghost use Rattle.zk_reasm.specs.declared.place.TheConstants.{PLACES};
-ghost use Rattle.zk_reasm.specs.Apart.{byte_apart, page_of};
+ghost use Rattle.zk_reasm.specs.Apart.{byte_apart};
 ghost use Rattle.zk_reasm.specs.Between.{held_between};
 ghost use Rattle.zk_reasm.specs.Parts.{byte_held, IsFirstFree};
 ghost use Rattle.zk_reasm.specs.Piece.{byte_in};
@@ -78,8 +78,7 @@ impl Held {
         if may_append && piece.at == self.run_end && self.apart.is_empty() {
             return Ok(self.append(piece));
         }
-        self.make_pages(piece)?;
-        Ok(self.fill(piece))
+        self.put_apart(piece)
     }
 
     /// Makes room in the run for all that lies apart from it and this many bytes more.
@@ -91,17 +90,6 @@ impl Held {
     {
         let apart = (self.kept - self.run.as_slice().len() as u64) as usize;
         self.run.reserve(apart + more)
-    }
-
-    /// Makes the pages of a piece.
-    fn make_pages(&mut self, piece: &Piece<'_>) -> Result<(), Mem>
-        requires { piece.now.at + length piece.now.bytes.now ≤ PLACES }
-        ensures stays { Stays self.old self.new }
-        ensures run { self.new.run ≡ self.old.run }
-        ensures apart { (at : ℕ) → byte_apart self.new.apart at ≡ byte_apart self.old.apart at }
-        ensures pages { OnOk result ((at : ℕ) → piece.now.at ≤ at → at < piece.now.at + length piece.now.bytes.now → IsSome (page_of self.new.apart at)) }
-    {
-        self.apart.make_room(piece.at, piece.end())
     }
 
     /// Puts bytes right behind the run, where nothing lies apart. The answer is how many.
@@ -125,24 +113,24 @@ impl Held {
         count
     }
 
-    /// Puts bytes apart from the run, on pages that are there. The answer is how many were put.
-    fn fill(&mut self, piece: &Piece<'_>) -> u64
+    /// Puts bytes apart from the run. The answer is how many were put.
+    fn put_apart(&mut self, piece: &Piece<'_>) -> Result<u64, Mem>
         requires run_end { self.old.run_end ≤ piece.now.at }
         requires front { self.old.front ≤ piece.now.at }
         requires within { piece.now.at + length piece.now.bytes.now ≤ PLACES }
-        requires pages { (at : ℕ) → piece.now.at ≤ at → at < piece.now.at + length piece.now.bytes.now → IsSome (page_of self.old.apart at) }
         requires room { held_between (byte_apart self.old.apart) self.old.run_end PLACES + length piece.now.bytes.now ≤ room_of self.old.run }
-        ensures bytes { (at : ℕ) → byte_kept self.new at ≡ option_or (byte_kept self.old at) (byte_in piece.now.at piece.now.bytes.now at) }
-        ensures count { result + held_between (byte_kept self.old) piece.now.at (piece.now.at + length piece.now.bytes.now) ≡ length piece.now.bytes.now }
-        ensures kept { self.new.kept ≡ self.old.kept + result }
-        ensures taken { taken_of self.new ≡ taken_of self.old }
-        ensures front { self.new.front ≡ self.old.front }
-        ensures run_end { self.new.run_end ≡ self.old.run_end }
+        ensures bytes { OnOk result ((at : ℕ) → byte_kept self.new at ≡ option_or (byte_kept self.old at) (byte_in piece.now.at piece.now.bytes.now at)) }
+        ensures count { IfOk result (λ count. count + held_between (byte_kept self.old) piece.now.at (piece.now.at + length piece.now.bytes.now) ≡ length piece.now.bytes.now) }
+        ensures kept { IfOk result (λ count. self.new.kept ≡ self.old.kept + count) }
+        ensures taken { OnOk result (taken_of self.new ≡ taken_of self.old) }
+        ensures front { OnOk result (self.new.front ≡ self.old.front) }
+        ensures run_end { OnOk result (self.new.run_end ≡ self.old.run_end) }
+        ensures err { OnErr result (Stays self.old self.new) }
     {
-        let count = self.apart.fill(piece.at, piece.bytes) as u64;
+        let count = self.apart.put(piece)? as u64;
         self.kept += count;
         self.above += count;
-        count
+        Ok(count)
     }
 
     /// Moves the front to the first place at or past the reach without a byte, but at most to `most`.

@@ -5,9 +5,11 @@ mod apart;
 mod held;
 mod laws;
 mod page;
+mod pages;
 mod piece;
 mod place;
 mod stream;
+mod stretch;
 
 pub use laws::stream_laws;
 pub use place::PLACES;

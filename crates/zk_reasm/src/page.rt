@@ -8,7 +8,7 @@ ghost use Rattle.zk_base.specs.ByteQueue.{bytes_of, room_of};
 use zk_base::ByteQueue;
 
 /// How many places one page has.
-pub const PAGE_LEN: usize = 32;
+pub const PAGE_LEN: usize = 8;
 
 /// The bytes of neighbouring places, each with its byte or none.
 pub type Page = [Option<u8>; PAGE_LEN];

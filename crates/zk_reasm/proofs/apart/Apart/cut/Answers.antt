@@ -1,36 +1,19 @@
-use Rattle.std.proofs.Common.{◌≡◌, ℕ, ◌/◌, List, Option, Some, sym, ap, ◌∙◌, arith}
-use Rattle.std.specs.BTreeMap as tree
-use Rattle.std.specs.Option.{option_copied_mut, is_some}
-use Rattle.zk_reasm.specs.declared.page.TheConstants.{PAGE_LEN}
-use Rattle.zk_reasm.specs.Apart.{page_at}
-use Rattle.zk_reasm.proofs.ApartLemmas.{byte_apart-same, cut_below, cut_above, cut_below_none, cut_above_none}
+use Rattle.std.proofs.Common.{◌≡◌, ◌<◌, None, IsSome, sym, ap, ◌∙◌, ⊎_elim, arith}
+use Rattle.std.specs.Option.{is_some}
+use Rattle.std.proofs.lemmas.Bool.{cases_lt}
+use Rattle.zk_reasm.specs.Stretch.{byte_in_stretch}
+use Rattle.zk_reasm.proofs.ApartLemmas.{one_place}
+use Rattle.zk_reasm.proofs.PieceLemmas.{byte_in-within}
 use Rattle.zk_reasm.proofs.apart.Apart.cut.Goals as goal
 
-pub returns-in-Some-clause-below : goal.returns-in-Some-clause-below
-returns-in-Some-clause-below c =
-    let mid = c.drop_pages.new.self in
-    let was = c.in-Some.page.now in
-    let had : page_at mid (c.args.from / PAGE_LEN) ≡ Some was = sym c.get_mut.ensures.value ∙ ap option_copied_mut c.in-Some.is in
-    let written = (c.get_mut.follows.holds c.cut.new.page).3 (ap is_some had) in
-    cut_below c.args.self.now mid _ c.args.from c.div_ceil.result was c.cut.new.page (omega (arith, c.div_ceil.ensures)) c.drop_pages.ensures.below had
-    (record { here = written.1; others = written.2 }) c.cut.ensures.below
-
-pub returns-in-Some-clause-above : goal.returns-in-Some-clause-above
-returns-in-Some-clause-above c =
-    let mid = c.drop_pages.new.self in
-    let was = c.in-Some.page.now in
-    let had : page_at mid (c.args.from / PAGE_LEN) ≡ Some was = sym c.get_mut.ensures.value ∙ ap option_copied_mut c.in-Some.is in
-    let written = (c.get_mut.follows.holds c.cut.new.page).3 (ap is_some had) in
-    cut_above mid _ c.args.from c.div_ceil.result c.cut.new.page (omega (arith, c.div_ceil.ensures)) c.drop_pages.ensures.above
-    (record { here = written.1; others = written.2 }) c.cut.ensures.above
-
-pub returns-in_default-clause-below : goal.returns-in_default-clause-below
-returns-in_default-clause-below c = λ at low.
-    byte_apart-same c.drop_pages.new.self _ (ap (λ (m : tree.BTreeMap ℕ (List (Option ℕ))). m.entries) c.get_mut.follows.holds-at-none) at
-    ∙ cut_below_none c.args.self.now c.drop_pages.new.self c.args.from c.div_ceil.result (omega (arith, c.div_ceil.ensures)) c.drop_pages.ensures.below at low
-
-pub returns-in_default-clause-above : goal.returns-in_default-clause-above
-returns-in_default-clause-above c = λ at low.
-    byte_apart-same c.drop_pages.new.self _ (ap (λ (m : tree.BTreeMap ℕ (List (Option ℕ))). m.entries) c.get_mut.follows.holds-at-none) at
-    ∙ cut_above_none c.drop_pages.new.self c.args.from c.div_ceil.result (omega (arith, c.div_ceil.ensures)) c.drop_pages.ensures.above
-    (sym c.get_mut.ensures.value ∙ ap option_copied_mut c.in_default.is) at low
+pub invariant_of-self : goal.invariant_of-self
+invariant_of-self c = record {
+  once = λ at low high.
+      let last = c.cut-2.new.self in
+      ⊎_elim
+      (λ below.
+      let there : IsSome (byte_in_stretch last at) = byte_in-within last.at last.bytes.items at low (omega (arith, high, last.bytes.ok.0)) in
+      c.cut.ensures.below at below ∙ one_place c.args.self.now at (sym (ap is_some (c.cut-2.ensures.below at below)) ∙ there))
+      (c.cut.ensures.above at)
+      (cases_lt at c.args.from);
+}

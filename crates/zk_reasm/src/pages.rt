@@ -5,7 +5,7 @@ ghost use Rattle.zk_reasm.specs.PageTable.{AreWithin};
 ghost use Rattle.zk_reasm.specs.Piece.{byte_in};
 ghost use Rattle.zk_base.specs.ByteQueue.{bytes_of, room_of};
 
-use crate::page::{self, PAGE_LEN, Page};
+use crate::page::{PAGE_LEN, Page};
 use crate::place::PLACES;
 use std::alloc::Global;
 use std::collections::BTreeMap;
@@ -50,7 +50,7 @@ impl Pages {
     {
         for key in from / PAGE..to.div_ceil(PAGE) {
             if !self.pages.contains_key(&key) {
-                self.pages.insert(key, [None; PAGE_LEN])?;
+                self.pages.insert(key, Page::new())?;
             }
         }
         Ok(())
@@ -95,7 +95,7 @@ impl Pages {
         ensures pages { (place : ℕ) → IsSome (page_of self.old place) → IsSome (page_of self.new place) }
     {
         match self.pages.get_mut(&(at / PAGE)) {
-            Some(page) => page::fill(page, (at % PAGE) as usize, bytes),
+            Some(page) => page.fill((at % PAGE) as usize, bytes),
             None => unreachable!(),
         }
     }
@@ -127,7 +127,7 @@ impl Pages {
     {
         match self.pages.get(&(from / PAGE)) {
             Some(page) => {
-                from / PAGE * PAGE + page::first_free(page, (from % PAGE) as usize) as u64
+                from / PAGE * PAGE + page.first_free((from % PAGE) as usize) as u64
             }
             None => from,
         }
@@ -142,7 +142,7 @@ impl Pages {
         let mut from = from;
         while let Some((key, page)) = self.next_page(from / PAGE) {
             let start = from.max(key * PAGE) - key * PAGE;
-            if let Some(at) = page::first_held(page, start as usize) {
+            if let Some(at) = page.first_held(start as usize) {
                 return Some(key * PAGE + at as u64);
             }
             from = (key + 1) * PAGE;
@@ -229,7 +229,7 @@ impl Pages {
             return from;
         };
         let end = (to - key * PAGE).min(PAGE) as usize;
-        let at = page::move_run(page, (from % PAGE) as usize, end, run);
+        let at = page.move_run((from % PAGE) as usize, end, run);
         self.drop_if_empty(key);
         key * PAGE + at as u64
     }
@@ -239,7 +239,7 @@ impl Pages {
         ensures { (at : ℕ) → byte_paged self.new at ≡ byte_paged self.old at }
     {
         if let Some(page) = self.pages.get(&key)
-            && page::is_empty(page)
+            && page.is_empty()
         {
             self.pages.remove(&key);
         }
@@ -253,7 +253,7 @@ impl Pages {
     {
         self.drop_pages(from.div_ceil(PAGE));
         if let Some(page) = self.pages.get_mut(&(from / PAGE)) {
-            page::cut(page, (from % PAGE) as usize);
+            page.cut((from % PAGE) as usize);
         }
     }
 

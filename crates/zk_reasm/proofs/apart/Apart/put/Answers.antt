@@ -14,7 +14,6 @@ returns-then-is_empty-clause-count c =
     let none = held_between-none (byte_apart c.args.self.now) c.args.piece.now.at (c.args.piece.now.at + n) (omega (arith, empty)) in
     omega (arith, none, empty)
 
-
 pub returns-then-is_free-clause-count : goal.returns-then-is_free-clause-count
 unfolding byte_apart
 returns-then-is_free-clause-count c =

@@ -1,5 +1,5 @@
 -- A page after one of its places has changed.
-use Rattle.std.proofs.Common.{◌≡◌, ◌≢◌, ℕ, ◌+◌, ◌<◌, ◌≤◌, true, cond, List, [], ◌∷◌, length, take, get_or, Option, Some, None, IsSome, sym, ap, ◌∙◌, ⊎_elim, arith, length-take-le}
+use Rattle.std.proofs.Common.{◌≡◌, ◌≢◌, ℕ, ◌+◌, ◌<◌, ◌≤◌, true, cond, List, [], ◌∷◌, length, take, get_or, Some, None, IsSome, sym, ap, ◌∙◌, ⊎_elim, arith, length-take-le}
 use Rattle.std.specs.Option.{is_some, option_or}
 use Rattle.std.specs.Prelude.{nat_lt, ◌==◌, ◌&&◌, slice_index}
 use Rattle.std.specs.Int.{bit_at}

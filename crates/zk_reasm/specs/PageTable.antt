@@ -1,5 +1,5 @@
 -- The pages of a table.
-use Rattle.std.specs.Prelude.{ℕ, ◌*◌, ◌+◌, ◌≤◌, Option, IsSome}
+use Rattle.std.specs.Prelude.{ℕ, ◌*◌, ◌+◌, ◌≤◌, IsSome}
 use Rattle.std.specs.Ordering.{nat_cmp}
 use Rattle.std.specs.BTreeMap as tree
 use Rattle.zk_reasm.specs.declared.page.Page.{Page}

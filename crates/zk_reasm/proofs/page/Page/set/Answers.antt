@@ -1,4 +1,4 @@
-use Rattle.std.proofs.Common.{Some, ap, ◌∙◌, w8, refl, arith}
+use Rattle.std.proofs.Common.{Some, ap, ◌∙◌, w8, arith}
 use Rattle.std.proofs.lemmas.List.{get_or-set_same, get_or-set_other}
 use Rattle.std.proofs.lemmas.Nat.Bits.{bit_at_set_same, bit_at_set_other}
 use Rattle.zk_reasm.proofs.PageLemmas.{byte_on-held, byte_on-same}

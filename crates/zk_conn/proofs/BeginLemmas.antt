@@ -1,5 +1,5 @@
 -- A packet that begins an instance.
-use Rattle.std.proofs.Common.{◌≡◌, ℕ, ◌+◌, ◌<◌, ◌≤◌, ◌^◌, pos, ◌≤ℤ◌, Bool, true, false, cond, List, [], ◌∷◌, ◌++◌, length, fold, Option, None, Some, is_some, nat_eq, refl, sym, ap, subst, ◌∙◌, arith, ⊎_elim, length-append}
+use Rattle.std.proofs.Common.{◌≡◌, ℕ, ◌+◌, ◌<◌, ◌≤◌, ◌^◌, pos, ◌≤ℤ◌, Bool, true, false, cond, List, [], ◌∷◌, ◌++◌, length, fold, Option, None, Some, is_some, IsSome, nat_eq, refl, sym, ap, subst, ◌∙◌, arith, ⊎_elim, length-append}
 use Rattle.std.specs.BTreeMap as tree
 use Rattle.std.specs.Cmp.{unsigned_ties}
 use Rattle.std.specs.Option.{option_map, option_and_then}
@@ -18,7 +18,7 @@ use Rattle.zk_conn.specs.Holds.{Has, Holds, Follows, removal_of, touched_between
 use Rattle.zk_conn.specs.Instance.{Opening, opening, originator}
 use Rattle.zk_conn.specs.Segment.{key_of, same_key}
 use Rattle.zk_conn.specs.Standing.{StandsFor, IsGone, Keeps}
-use Rattle.zk_conn.specs.Table.{key_cmp, kept, slot_of, instance_at, key_at, number_at, IsTable, Inserts, SameTable}
+use Rattle.zk_conn.specs.Table.{key_cmp, kept, slot_of, slot_numbered, instance_at, key_at, number_at, HasLive, IsTable, Inserts, SameTable}
 use Rattle.zk_conn.specs.Told.{Told, Packet}
 use Rattle.zk_conn.proofs.HoldsLemmas.{has-append}
 use Rattle.zk_conn.proofs.KeyLemmas.{is_eq-key_cmp, same_key_is, same_key-refl}
@@ -106,6 +106,13 @@ pub gone_key : (conns : Conns) (told : List Told) (key : Key) → StandsFor conn
 unfolding instance_at
 gone_key conns told key stands is =
     subst (Keeps told key) (ap (option_and_then (get conns.slots)) (key_absent conns key stands.table is)) (stands.keeps key)
+
+-- an instance that is put into the table is found by its number
+pub live_inserted : (old mid : Conns) (instance : Instance) (number : ℕ) → Inserts old mid instance → HasLive (record mid { begun = number }) (record { 0 = instance.number })
+unfolding slot_numbered
+live_inserted old mid instance number inserts =
+    subst (λ o. IsSome (kept mid.slots o)) (sym inserts.number_found)
+    (subst (λ p. IsSome (cond (is_some p) (Some inserts.slot) None)) (sym inserts.there) refl)
 
 -- a packet that begins an instance
 pub stands_begun : (old mid : Conns) (told : List Told) (t : Moment) (p : L4View) (instance : Instance) (number : ℕ) → StandsFor old told → comes_late (latest (key_of p) told) t ≡ true

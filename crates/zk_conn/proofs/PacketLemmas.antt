@@ -20,11 +20,11 @@ use Rattle.zk_conn.specs.Instance.{Opening, opening, originator, side_of, end_of
 use Rattle.zk_conn.specs.Segment.{key_of}
 use Rattle.zk_conn.specs.Standing.{StandsFor, Keeps}
 use Rattle.zk_conn.specs.State.{are_established, is_fin, is_rst}
-use Rattle.zk_conn.specs.Table.{key_cmp, kept, slot_of, instance_at, Tells}
+use Rattle.zk_conn.specs.Table.{key_cmp, kept, slot_of, instance_at, HasLive, Tells}
 use Rattle.zk_conn.specs.Told.{Told, Packet}
 use Rattle.zk_conn.proofs.HoldsLemmas.{has-append, seen-is}
 use Rattle.zk_conn.proofs.InstanceLemmas.{removal_moment-is}
-use Rattle.zk_conn.proofs.StandingLemmas.{Found, stands_told}
+use Rattle.zk_conn.proofs.StandingLemmas.{Found, table_changed, live_at-slot, stands_told}
 use Rattle.zk_conn.proofs.ToldLemmas.{number_of-quiet}
 
 one : {A : Type 0} {o : Option A} (a b : A) → o ≡ Some a → o ≡ Some b → b ≡ a
@@ -118,6 +118,18 @@ stands_gone_on old new told t p slot stands may is tells early late =
     (subst (λ s. Tells old new s at.0.instance (Packet t p)) (sym at.1) (tells at.0.instance (subst (λ s. get old.slots s ≡ Some at.0.instance) at.1 at.0.there)))
     refl (ap (λ b. cond b (Packet t p ∷ []) (latest (key_of p) told ++ Packet t p ∷ [])) timely)
     (ap (λ b. cond b (key_of p ∷ []) []) timely) refl early late
+
+-- the instance of the packet is live
+pub live_gone_on : (old new : Conns) (told : List Told) (t : Moment) (p : L4View) (slot : ℕ) (touched : Touched) → StandsFor old told
+    → slot_of old (key_of p) ≡ Some slot → ((was : Instance) → get old.slots slot ≡ Some was → Tells old new slot was (Packet t p))
+    → ((was is : Instance) → get old.slots slot ≡ Some was → get new.slots slot ≡ Some is → touched ≡ touched_between was is false p)
+    → HasLive new touched.conn
+live_gone_on old new told t p slot touched stands is tells did =
+    let at = found_by_key old told (key_of p) slot stands is in
+    let there = subst (λ s. get old.slots s ≡ Some at.0.instance) at.1 at.0.there in
+    let told_it = tells at.0.instance there in
+    subst (λ (d : Touched). HasLive new d.conn) (sym (did at.0.instance told_it.is there told_it.changes.is_there))
+    (live_at-slot new slot told_it.is (table_changed old new slot at.0.instance told_it.is there told_it.changes stands.table) told_it.changes.is_there)
 
 pub touched_gone_on : (old new : Conns) (told : List Told) (t : Moment) (p : L4View) (slot : ℕ) (touched : Touched) → StandsFor old told → MayFollow told t
     → slot_of old (key_of p) ≡ Some slot → ((was : Instance) → get old.slots slot ≡ Some was → Tells old new slot was (Packet t p))

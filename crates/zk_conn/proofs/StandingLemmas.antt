@@ -1,5 +1,5 @@
 -- A value behind one more event of what it stands for.
-use Rattle.std.proofs.Common.{◌≡◌, ℕ, ◌^◌, pos, ◌≤ℤ◌, true, false, cond, List, [], ◌∷◌, ◌++◌, length, length-append, get_or, Option, None, Some, is_some, refl, sym, ap, subst, ◌∙◌, arith, ⊎_elim}
+use Rattle.std.proofs.Common.{◌≡◌, ℕ, ◌^◌, pos, ◌≤ℤ◌, true, false, cond, List, [], ◌∷◌, ◌++◌, length, length-append, get_or, Option, None, Some, is_some, IsSome, refl, sym, ap, subst, ◌∙◌, arith, ⊎_elim}
 use Rattle.std.specs.BTreeMap as tree
 use Rattle.std.specs.Option.{option_map, option_and_then}
 use Rattle.std.specs.Ordering.{nat_cmp}
@@ -24,7 +24,7 @@ use Rattle.zk_conn.specs.Instance.{Opening, opening, originator, end_of, moment_
 use Rattle.zk_conn.specs.Removals.{filing_of}
 use Rattle.zk_conn.specs.Segment.{same_key}
 use Rattle.zk_conn.specs.Standing.{StandsFor, IsLatest, Keeps}
-use Rattle.zk_conn.specs.Table.{key_cmp, kept, slot_numbered, instance_at, key_at, number_at, Matches, IsTable, Changes, Tells}
+use Rattle.zk_conn.specs.Table.{key_cmp, kept, slot_numbered, HasLive, instance_at, key_at, number_at, Matches, IsTable, Changes, Tells}
 use Rattle.zk_conn.specs.Told.{Told, key_told}
 use Rattle.zk_conn.proofs.HoldsLemmas.{holds-append, facts_in-is}
 use Rattle.zk_conn.proofs.KeyLemmas.{same_key_is, same_key-refl}
@@ -204,6 +204,50 @@ told_live old new told key conn slot event numbered tells stands live of_key joi
     of_key joined quiet kept
     (subst (λ (m : Moment). pos 0 ≤ℤ m.0) (sym (same found.instance.last)) found.latest.early)
     (subst (λ (m : Moment). m.0 ≤ℤ pos (2 ^ 62)) (sym (same found.instance.last)) found.latest.in_time)
+
+-- what is live stays so where the instance of a slot changed
+pub live_changed : (old new : Conns) (slot : ℕ) (was is : Instance) (conn : ConnNo) → Changes old new slot was is → HasLive old conn → HasLive new conn
+unfolding slot_numbered
+live_changed old new slot was is conn changes live =
+    subst (λ o. IsSome (kept new.slots o)) (sym (changes.numbers_are conn.0)) (by_number (tree.get nat_cmp old.numbers conn.0) live)
+  where
+    there : (o p : Option Instance) (s : ℕ) → is_some o ≡ is_some p → IsSome (cond (is_some p) (Some s) None) → IsSome (cond (is_some o) (Some s) None)
+    there o p s same some = subst (λ b. IsSome (cond b (Some s) None)) (sym same) some
+
+    by_number : (o : Option ℕ) → IsSome (kept old.slots o) → IsSome (kept new.slots o)
+    by_number None some = some
+    by_number (Some s) some = ⊎_elim
+        (λ here. subst (λ b. IsSome (cond b (Some s) None)) (sym (ap (λ n. is_some (get new.slots n)) here ∙ ap is_some changes.is_there)) refl)
+        (λ apart. there (get new.slots s) (get old.slots s) s (ap is_some (changes.others s apart)) some)
+        (cases_eq s slot)
+
+-- a live instance that is told something stays live, as do all others
+pub live_told : (old new : Conns) (slot : ℕ) (conn other : ConnNo) (event : Instance → Told) → slot_numbered old conn ≡ Some slot
+    → ((was : Instance) → get old.slots slot ≡ Some was → Tells old new slot was (event was)) → HasLive old other → HasLive new other
+unfolding slot_numbered
+live_told old new slot conn other event numbered tells live = by_instance (get old.slots slot) refl
+  where
+    held : (o : Option ℕ) → kept old.slots o ≡ Some slot → get old.slots slot ≡ None → ⊥
+    held None is none = cc
+    held (Some s) is none = by_slot (get old.slots s) refl is
+      where
+        by_slot : (p : Option Instance) → get old.slots s ≡ p → cond (is_some (get old.slots s)) (Some s) None ≡ Some slot → ⊥
+        by_slot None gone same = let no : None ≡ Some slot = sym (ap (λ p. cond (is_some p) (Some s) None) gone) ∙ same in cc
+        by_slot (Some instance) found same =
+            let one : Some s ≡ Some slot = sym (ap (λ p. cond (is_some p) (Some s) None) found) ∙ same in
+            let at : s ≡ slot = cc in
+            let no : None ≡ Some instance = sym none ∙ ap (get old.slots) (sym at) ∙ found in cc
+
+    by_instance : (o : Option Instance) → get old.slots slot ≡ o → HasLive new other
+    by_instance None none = absurd (held (tree.get nat_cmp old.numbers conn.0) numbered none)
+    by_instance (Some was) there = let told = tells was there in live_changed old new slot was told.is other told.changes live
+
+-- the number of an instance of the table finds it
+pub live_at-slot : (conns : Conns) (slot : ℕ) (instance : Instance) → IsTable conns → get conns.slots slot ≡ Some instance → HasLive conns (record { 0 = instance.number })
+unfolding slot_numbered
+live_at-slot conns slot instance table there =
+    subst (λ o. IsSome (kept conns.slots o)) (sym (table.numbers.found slot instance.number (ap (option_map (λ (i : Instance). i.number)) there)))
+    (subst (λ p. IsSome (cond (is_some p) (Some slot) None)) (sym there) refl)
 
 -- what a live instance that is found by its number has
 pub has_live : (conns : Conns) (told : List Told) (key : Key) (conn : ConnNo) (slot : ℕ) (now : Instance) (first : Opening) → slot_numbered conns conn ≡ Some slot

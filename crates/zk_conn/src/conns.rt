@@ -139,6 +139,7 @@ impl Conns {
         ensures taken { OnOk result ((told : List Told) → StandsFor self.old told → MayFollow told t
             → StandsFor self.new (told ++ Packet t p.now ∷ [])) }
         ensures memory { OnErr result ((told : List Told) → StandsFor self.old told → StandsFor self.new told) }
+        ensures live { IfOk result (λ touched. (told : List Told) → StandsFor self.old told → HasLive self.new touched.conn) }
     {
         match self.slot_of(&Key::of(p)) {
             Some(slot) => Ok(self.go_on(slot, t, p)),
@@ -149,8 +150,9 @@ impl Conns {
     /// A side's stream has reached its FIN. The instance is live.
     pub fn fin_reached(&mut self, conn: ConnNo, side: Side)
         requires { HasLive self.old conn }
-        ensures { (told : List Told) (key : Key) → StandsFor self.old told → IsLive told key conn.0
+        ensures told { (told : List Told) (key : Key) → StandsFor self.old told → IsLive told key conn.0
             → StandsFor self.new (told ++ Reached key side ∷ []) }
+        ensures live { (other : ConnNo) → HasLive self.old other → HasLive self.new other }
     {
         let Some(slot) = self.slot_numbered(conn) else {
             unreachable!()
@@ -161,8 +163,9 @@ impl Conns {
     /// A side's stream has this front. The instance is live.
     pub fn front(&mut self, conn: ConnNo, side: Side, front: u64)
         requires { HasLive self.old conn }
-        ensures { (told : List Told) (key : Key) → StandsFor self.old told → IsLive told key conn.0
+        ensures told { (told : List Told) (key : Key) → StandsFor self.old told → IsLive told key conn.0
             → StandsFor self.new (told ++ Front key side front ∷ []) }
+        ensures live { (other : ConnNo) → HasLive self.old other → HasLive self.new other }
     {
         let Some(slot) = self.slot_numbered(conn) else {
             unreachable!()
@@ -332,6 +335,7 @@ impl Conns {
         ensures taken { OnOk result ((told : List Told) → StandsFor self.old told → MayFollow told t
             → StandsFor self.new (told ++ Packet t p.now ∷ [])) }
         ensures memory { OnErr result ((told : List Told) → StandsFor self.old told → StandsFor self.new told) }
+        ensures live { IfOk result (λ touched. HasLive self.new touched.conn) }
     {
         let Some(number) = self.begun.checked_add(1) else {
             return Err(Mem);

@@ -13,7 +13,7 @@ use Rattle.zk_reasm.specs.Pages.{byte_paged}
 use Rattle.zk_reasm.specs.Piece.{byte_in}
 use Rattle.zk_reasm.specs.Stretch.{byte_in_stretch, MayExtend}
 use Rattle.zk_reasm.proofs.PieceLemmas.{option_or_held, byte_in-at, byte_in-before, byte_in-behind, byte_in-within, byte_in-drop}
-use Rattle.zk_reasm.proofs.RangeLemmas.{held_at, held_between-more, held_between-none, held_between-split, held_between-full, held_between-empty}
+use Rattle.zk_reasm.proofs.RangeLemmas.{held_between-more, held_between-none, held_between-split, held_between-full, held_between-empty}
 
 -- what is there of the second part is what the first has not
 pub option_or_other : (o p : Option ℕ) → o ≡ None → option_or o p ≡ p

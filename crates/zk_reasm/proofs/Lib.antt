@@ -2,6 +2,7 @@ pub mod AckLemmas
 pub mod AdvanceLemmas
 pub mod ApartLemmas
 pub mod ContentLemmas
+pub mod CutLemmas
 pub mod FrontLemmas
 pub mod HeldLemmas
 pub mod HistoryLemmas

@@ -1,5 +1,5 @@
 -- Bytes in pages: a place by its page, and what a change of one page does.
-use Rattle.std.proofs.Common.{◌≡◌, ◌≢◌, ℕ, ◌+◌, ◌-◌, ◌*◌, ◌/◌, ◌%◌, ◌<◌, ◌≤◌, max, false, List, length, replicate, zero, suc, Option, Some, None, IsSome, refl, sym, ap, ◌∙◌, ⊎_elim, arith}
+use Rattle.std.proofs.Common.{◌≡◌, ◌≢◌, ℕ, ◌+◌, ◌-◌, ◌*◌, ◌/◌, ◌%◌, ◌<◌, ◌≤◌, max, false, List, length, Option, Some, None, IsSome, sym, ap, ◌∙◌, ⊎_elim, arith}
 use Rattle.std.specs.BTreeMap as tree
 use Rattle.std.specs.Ordering.{nat_cmp, is_eq}
 use Rattle.std.specs.List.{slice_get}
@@ -8,6 +8,7 @@ use Rattle.std.specs.Option.{is_some, option_or}
 use Rattle.std.proofs.lemmas.Bool.{cases_eq, cases_lt}
 use Rattle.std.proofs.lemmas.Grind.{common_steps}
 use Rattle.zk_reasm.specs.declared.pages.Pages.{Pages}
+use Rattle.zk_reasm.specs.declared.page.Page.{Page}
 use Rattle.zk_reasm.specs.declared.page.TheConstants.{PAGE_LEN}
 use Rattle.zk_reasm.specs.Pages.{byte_on_any, page_at, page_of, byte_paged}
 use Rattle.zk_reasm.specs.Page.{byte_on}
@@ -18,7 +19,7 @@ use Rattle.zk_reasm.proofs.PieceLemmas.{option_or_none, byte_in-at, byte_in-befo
 pub keys_differ : (k q : ℕ) → k ≢ q → is_eq (nat_cmp k q) ≡ false
 keys_differ k q other = grind (arith, common_steps)
 
-pub byte_paged-on : (table : Pages) (at : ℕ) (page : List (Option ℕ)) → page_of table at ≡ Some page → byte_paged table at ≡ byte_on page (at % PAGE_LEN)
+pub byte_paged-on : (table : Pages) (at : ℕ) (page : Page) → page_of table at ≡ Some page → byte_paged table at ≡ byte_on page (at % PAGE_LEN)
 unfolding byte_paged
 byte_paged-on table at page is = ap (λ o. byte_on_any o (at % PAGE_LEN)) is
 
@@ -27,25 +28,25 @@ unfolding byte_paged
 byte_paged-off table at is = ap (λ o. byte_on_any o (at % PAGE_LEN)) is
 
 -- one page is now this one, and the others stay
-pub record Writes (old new : Pages) (key : ℕ) (page : Option (List (Option ℕ))) : Type 0 where
+pub record Writes (old new : Pages) (key : ℕ) (page : Option Page) : Type 0 where
   pub here : tree.get nat_cmp new.pages key ≡ page
   pub others : (q : ℕ) → is_eq (nat_cmp key q) ≡ false → tree.get nat_cmp new.pages q ≡ tree.get nat_cmp old.pages q
 
-pub page_of-here : (old new : Pages) (key : ℕ) (page : Option (List (Option ℕ))) (at : ℕ) → Writes old new key page → at / PAGE_LEN ≡ key → page_of new at ≡ page
+pub page_of-here : (old new : Pages) (key : ℕ) (page : Option Page) (at : ℕ) → Writes old new key page → at / PAGE_LEN ≡ key → page_of new at ≡ page
 unfolding page_of
 page_of-here old new key page at writes same = ap (tree.get nat_cmp new.pages) same ∙ writes.here
 
-pub page_of-other : (old new : Pages) (key : ℕ) (page : Option (List (Option ℕ))) (at : ℕ) → Writes old new key page → at / PAGE_LEN ≢ key → page_of new at ≡ page_of old at
+pub page_of-other : (old new : Pages) (key : ℕ) (page : Option Page) (at : ℕ) → Writes old new key page → at / PAGE_LEN ≢ key → page_of new at ≡ page_of old at
 unfolding page_of
 page_of-other old new key page at writes other = writes.others (at / PAGE_LEN) (keys_differ key (at / PAGE_LEN) (λ same. other (sym same)))
 
 -- the bytes of another page stay
-pub byte_paged-other : (old new : Pages) (key : ℕ) (page : Option (List (Option ℕ))) (at : ℕ) → Writes old new key page → at / PAGE_LEN ≢ key → byte_paged new at ≡ byte_paged old at
+pub byte_paged-other : (old new : Pages) (key : ℕ) (page : Option Page) (at : ℕ) → Writes old new key page → at / PAGE_LEN ≢ key → byte_paged new at ≡ byte_paged old at
 unfolding byte_paged
 byte_paged-other old new key page at writes other = ap (λ o. byte_on_any o (at % PAGE_LEN)) (page_of-other old new key page at writes other)
 
 -- bytes put on a page
-pub byte_paged-put : (old new : Pages) (key from : ℕ) (was is : List (Option ℕ)) (bytes : List ℕ) → tree.get nat_cmp old.pages key ≡ Some was → Writes old new key (Some is)
+pub byte_paged-put : (old new : Pages) (key from : ℕ) (was is : Page) (bytes : List ℕ) → tree.get nat_cmp old.pages key ≡ Some was → Writes old new key (Some is)
     → from + length bytes ≤ PAGE_LEN
     → ((i : ℕ) → byte_on is i ≡ option_or (byte_on was i) (byte_in from bytes i)) → (at : ℕ)
     → byte_paged new at ≡ option_or (byte_paged old at) (byte_in (key * PAGE_LEN + from) bytes at)
@@ -74,7 +75,7 @@ byte_paged-put old new key from was is bytes old_page writes within put at =
         (cases_lt at (key * PAGE_LEN + from))
 
 -- the places of one page
-pub byte_paged-page : (table : Pages) (at n : ℕ) (page : List (Option ℕ)) → page_of table at ≡ Some page → at % PAGE_LEN + n ≤ PAGE_LEN
+pub byte_paged-page : (table : Pages) (at n : ℕ) (page : Page) → page_of table at ≡ Some page → at % PAGE_LEN + n ≤ PAGE_LEN
     → (k : ℕ) → k < n → byte_paged table (at + k) ≡ byte_on page (at % PAGE_LEN + k)
 unfolding page_of
 byte_paged-page table at n page is within k low =
@@ -82,7 +83,7 @@ byte_paged-page table at n page is within k low =
     ∙ ap (byte_on page) (let e : (at + k) % PAGE_LEN ≡ at % PAGE_LEN + k = omega (arith, low, within) in e)
 
 -- a page that is there stays
-pub page_of-stays : (old new : Pages) (key : ℕ) (page : List (Option ℕ)) (at : ℕ) → Writes old new key (Some page) → IsSome (page_of old at) → IsSome (page_of new at)
+pub page_of-stays : (old new : Pages) (key : ℕ) (page : Page) (at : ℕ) → Writes old new key (Some page) → IsSome (page_of old at) → IsSome (page_of new at)
 page_of-stays old new key page at writes there =
     ⊎_elim
     (λ same. ap is_some (page_of-here old new key (Some page) at writes same))
@@ -94,14 +95,14 @@ pub page_there : (table : Pages) (at : ℕ) → IsSome (page_of table at) → Is
 unfolding page_of
 page_there table at there = there
 
-pub byte_paged-at : (table : Pages) (key i : ℕ) (page : List (Option ℕ)) → page_at table key ≡ Some page → i < PAGE_LEN → byte_paged table (key * PAGE_LEN + i) ≡ byte_on page i
+pub byte_paged-at : (table : Pages) (key i : ℕ) (page : Page) → page_at table key ≡ Some page → i < PAGE_LEN → byte_paged table (key * PAGE_LEN + i) ≡ byte_on page i
 unfolding page_of
 byte_paged-at table key i page is low =
     byte_paged-on table (key * PAGE_LEN + i) page (ap (page_at table) (let e : (key * PAGE_LEN + i) / PAGE_LEN ≡ key = omega (arith, low) in e) ∙ is)
     ∙ ap (byte_on page) (let e : (key * PAGE_LEN + i) % PAGE_LEN ≡ i = omega (arith, low) in e)
 
 -- no byte on the pages up to one, nor on that one up to a place
-pub none_before : (table : Pages) (from key start n : ℕ) (page : List (Option ℕ)) → start + key * PAGE_LEN ≡ max from (key * PAGE_LEN)
+pub none_before : (table : Pages) (from key start n : ℕ) (page : Page) → start + key * PAGE_LEN ≡ max from (key * PAGE_LEN)
     → page_at table key ≡ Some page → ((q : ℕ) → from / PAGE_LEN ≤ q → q < key → page_at table q ≡ None)
     → ((i : ℕ) → start ≤ i → i < n → byte_on page i ≡ None) → n ≤ PAGE_LEN
     → (at : ℕ) → from ≤ at → at < key * PAGE_LEN + n → byte_paged table at ≡ None
@@ -124,23 +125,19 @@ pub byte_paged-same : (old new : Pages) → new.pages.entries ≡ old.pages.entr
 unfolding byte_paged page_of
 byte_paged-same old new same at = ap (λ es. byte_on_any (lookup (tree.is_at (nat_cmp (at / PAGE_LEN))) es) (at % PAGE_LEN)) same
 
-blank_page : (n i : ℕ) → byte_on (replicate n None) i ≡ None
-blank_page zero i = refl
-blank_page (suc n) zero = refl
-blank_page (suc n) (suc i) = blank_page n i
-
 -- a page without a byte where there was none
-pub byte_paged-made : (old new : Pages) (key : ℕ) → page_at old key ≡ None → Writes old new key (Some (replicate PAGE_LEN None)) → (at : ℕ) → byte_paged new at ≡ byte_paged old at
+pub byte_paged-made : (old new : Pages) (key : ℕ) (page : Page) → page_at old key ≡ None → ((i : ℕ) → byte_on page i ≡ None) → Writes old new key (Some page)
+    → (at : ℕ) → byte_paged new at ≡ byte_paged old at
 unfolding page_of
-byte_paged-made old new key none writes at =
+byte_paged-made old new key page none blank writes at =
     ⊎_elim
-    (λ same. byte_paged-on new at (replicate PAGE_LEN None) (page_of-here old new key (Some (replicate PAGE_LEN None)) at writes same)
-    ∙ blank_page PAGE_LEN (at % PAGE_LEN) ∙ sym (byte_paged-off old at (ap (page_at old) same ∙ none)))
-    (byte_paged-other old new key (Some (replicate PAGE_LEN None)) at writes)
+    (λ same. byte_paged-on new at page (page_of-here old new key (Some page) at writes same)
+    ∙ blank (at % PAGE_LEN) ∙ sym (byte_paged-off old at (ap (page_at old) same ∙ none)))
+    (byte_paged-other old new key (Some page) at writes)
     (cases_eq (at / PAGE_LEN) key)
 
 -- a page made at a place
-pub page_of-made : (old new : Pages) (key : ℕ) (page : List (Option ℕ)) (at : ℕ) → Writes old new key (Some page) → at / PAGE_LEN ≡ key → IsSome (page_of new at)
+pub page_of-made : (old new : Pages) (key : ℕ) (page : Page) (at : ℕ) → Writes old new key (Some page) → at / PAGE_LEN ≡ key → IsSome (page_of new at)
 page_of-made old new key page at writes same = ap is_some (page_of-here old new key (Some page) at writes same)
 
 pub page_of-found : (table : Pages) (key at : ℕ) → at / PAGE_LEN ≡ key → IsSome (page_at table key) → IsSome (page_of table at)
@@ -148,7 +145,7 @@ unfolding page_of
 page_of-found table key at same there = ap (λ k. is_some (page_at table k)) same ∙ there
 
 -- the bytes below a place, once what lies from it on is dropped
-pub cut_below : (old mid new : Pages) (from least : ℕ) (was is : List (Option ℕ)) → from ≤ least * PAGE_LEN
+pub cut_below : (old mid new : Pages) (from least : ℕ) (was is : Page) → from ≤ least * PAGE_LEN
     → ((key : ℕ) → key < least → page_at mid key ≡ page_at old key) → page_at mid (from / PAGE_LEN) ≡ Some was → Writes mid new (from / PAGE_LEN) (Some is)
     → ((i : ℕ) → i < from % PAGE_LEN → byte_on is i ≡ byte_on was i) → (at : ℕ) → at < from → byte_paged new at ≡ byte_paged old at
 unfolding page_of byte_paged
@@ -162,7 +159,7 @@ cut_below old mid new from least was is enough below had writes kept at low =
     ∙ ap (λ o. byte_on_any o (at % PAGE_LEN)) (below (at / PAGE_LEN) (omega (arith, low, enough)))
 
 -- and the places from it on
-pub cut_above : (mid new : Pages) (from least : ℕ) (is : List (Option ℕ)) → least * PAGE_LEN < from + PAGE_LEN
+pub cut_above : (mid new : Pages) (from least : ℕ) (is : Page) → least * PAGE_LEN < from + PAGE_LEN
     → ((key : ℕ) → least ≤ key → page_at mid key ≡ None) → Writes mid new (from / PAGE_LEN) (Some is)
     → ((i : ℕ) → from % PAGE_LEN ≤ i → byte_on is i ≡ None) → (at : ℕ) → from ≤ at → byte_paged new at ≡ None
 unfolding page_of
@@ -189,7 +186,7 @@ cut_above_none mid from least enough above none at low =
     (cases_eq (at / PAGE_LEN) (from / PAGE_LEN)))
 
 -- a page without a byte is dropped
-pub byte_paged-dropped : (old new : Pages) (key : ℕ) (page : List (Option ℕ)) → page_at old key ≡ Some page → ((i : ℕ) → byte_on page i ≡ None)
+pub byte_paged-dropped : (old new : Pages) (key : ℕ) (page : Page) → page_at old key ≡ Some page → ((i : ℕ) → byte_on page i ≡ None)
     → Writes old new key None → (at : ℕ) → byte_paged new at ≡ byte_paged old at
 unfolding page_of
 byte_paged-dropped old new key page had none writes at =
@@ -200,7 +197,7 @@ byte_paged-dropped old new key page had none writes at =
     (cases_eq (at / PAGE_LEN) key)
 
 -- bytes moved from a page: the places behind them, on it and on others, stay
-pub byte_paged-behind : (old new : Pages) (from end : ℕ) (was is : List (Option ℕ)) → page_at old (from / PAGE_LEN) ≡ Some was → Writes old new (from / PAGE_LEN) (Some is)
+pub byte_paged-behind : (old new : Pages) (from end : ℕ) (was is : Page) → page_at old (from / PAGE_LEN) ≡ Some was → Writes old new (from / PAGE_LEN) (Some is)
     → end ≤ PAGE_LEN → ((i : ℕ) → end ≤ i → byte_on is i ≡ byte_on was i)
     → (at : ℕ) → from / PAGE_LEN * PAGE_LEN + end ≤ at → byte_paged new at ≡ byte_paged old at
 unfolding page_of

@@ -206,3 +206,16 @@ stopped_not_acked = refl
 stopped_keeps : kept_of 0 wide (holed ++ Stop ∷ []) 0 ≡ 2
 unfolding put_of content kept_of gets_place counted is_over above held_between front run_end byte_at reach steps acked fin_place payload_end places_of byte_of
 stopped_keeps = refl
+
+-- Base 0: a FIN that is told ahead moves the reach at the first part of a segment, so that the second comes too late ----
+
+abbrev fin_ahead : List Told
+fin_ahead = Ack 11 ∷ Fin 11 ∷ []
+
+fin_ahead_whole : run_of (content 0 wide (fin_ahead ++ Segment 1 (codes "AB") ∷ []) 0) ≡ codes "AB"
+unfolding put_of content kept_of gets_place counted is_over above held_between front run_end byte_at reach steps acked fin_place payload_end places_of byte_of
+fin_ahead_whole = refl
+
+fin_ahead_parts : run_of (content 0 wide (fin_ahead ++ Segment 1 (codes "A") ∷ Segment 2 (codes "B") ∷ []) 0) ≡ codes "A"
+unfolding put_of content kept_of gets_place counted is_over above held_between front run_end byte_at reach steps acked fin_place payload_end places_of byte_of
+fin_ahead_parts = refl

@@ -73,7 +73,7 @@ impl Apart {
         ensures { result ≡ true → MayExtend self.now.last piece.now.at (length piece.now.bytes.now) }
     {
         if self.last.is_empty() {
-            return piece.at == self.end || piece.end() == self.start;
+            return self.pages.is_empty() || piece.at == self.end || piece.end() == self.start;
         }
         piece.at == self.last.end() || piece.end() == self.last.start()
     }
@@ -145,6 +145,7 @@ impl Apart {
 
     /// The first place from `from` on with a byte.
     pub fn first_held(&self, from: u64) -> Option<u64>
+        requires { from ≤ PLACES }
         ensures { MatchOption result ((at : ℕ) → from ≤ at → byte_apart self.now at ≡ None) (λ found.
             (from ≤ found) × (found < PLACES) × IsSome (byte_apart self.now found)
             × ((at : ℕ) → from ≤ at → at < found → byte_apart self.now at ≡ None)) }

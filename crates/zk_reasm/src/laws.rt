@@ -1,8 +1,8 @@
-ghost use Rattle.std.specs.Prelude.{◌≡◌, ℕ, ◌+◌, ◌%◌, ◌^◌, ◌<◌, ◌≤◌, min, true, false, List, [], ◌∷◌, ◌++◌, length, Some};
-ghost use Rattle.zk_reasm.specs.Direction.{reach};
+ghost use Rattle.std.specs.Prelude.{◌≡◌, ℕ, ◌+◌, ◌%◌, ◌^◌, ◌<◌, ◌≤◌, true, false, List, [], ◌∷◌, ◌++◌, length, Some};
+ghost use Rattle.zk_reasm.specs.Direction.{above};
 ghost use Rattle.zk_reasm.specs.Histories.{over_of, front_of, byte_of_stream};
-ghost use Rattle.zk_reasm.specs.Told.{Told, Segment, acked, top};
-ghost use Rattle.zk_reasm.specs.Views.{SameView};
+ghost use Rattle.zk_reasm.specs.Told.{Told, Segment};
+ghost use Rattle.zk_reasm.specs.Views.{SameView, ends_in_fin};
 
 /// What a direction put together is, in the subject's own words. There is nothing to run.
 pub fn stream_laws()
@@ -16,10 +16,10 @@ pub fn stream_laws()
     // What is over stays so.
     ensures over { (base limit : ℕ) (told more : List Told) → over_of base limit told ≡ true → over_of base limit (told ++ more) ≡ true }
 
-    // How a run of bytes is cut into segments changes nothing, where it isn't over in between, and no FIN waits for its own segment.
+    // How a run of bytes is cut into segments changes nothing, where nothing gives up in between, and where what was told before
+    // doesn't end in a FIN, which is told ahead of its own segment alone.
     ensures cut { (base limit seq : ℕ) (first rest : List ℕ) (told : List Told) → base < 2 ^ 32 → seq < 2 ^ 32 → length first + length rest ≤ 65535
-        → over_of base limit told ≡ false → over_of base limit (told ++ Segment seq first ∷ []) ≡ false
-        → reach base told ≡ min (acked base told) (top base told)
+        → ends_in_fin told ≡ false → above base (told ++ Segment seq first ∷ []) ≤ limit
         → SameView base limit (told ++ Segment seq (first ++ rest) ∷ [])
         (told ++ Segment seq first ∷ [] ++ Segment ((seq + length first) % 2 ^ 32) rest ∷ []) }
 {}

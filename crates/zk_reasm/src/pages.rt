@@ -5,7 +5,7 @@ ghost use Rattle.zk_reasm.specs.PageTable.{AreWithin};
 ghost use Rattle.zk_reasm.specs.Piece.{byte_in};
 ghost use Rattle.zk_base.specs.ByteQueue.{bytes_of, room_of};
 
-use crate::page::{self, PAGE_LEN, Page};
+use crate::page::{PAGE_LEN, Page};
 use crate::place::PLACES;
 use std::alloc::Global;
 use std::collections::BTreeMap;
@@ -17,7 +17,7 @@ const PAGE: u64 = PAGE_LEN as u64;
 /// Bytes by their places, with holes between them, in pages of neighbouring places.
 #[derive(Debug, Drop)]
 pub struct Pages {
-    pages: BTreeMap<u64, Page>,
+    pages: BTreeMap<u32, Page>,
     ghost within: { AreWithin pages },
 }
 
@@ -44,13 +44,14 @@ impl Pages {
 
     /// Makes the pages of the places from one up to another. At `Mem` the bytes stay too.
     pub fn make_room(&mut self, from: u64, to: u64) -> Result<(), Mem>
-        requires { to ≤ PLACES }
+        requires order { from ≤ to }
+        requires within { to ≤ PLACES }
         ensures same { (at : ℕ) → byte_paged self.new at ≡ byte_paged self.old at }
         ensures ok { OnOk result ((at : ℕ) → from ≤ at → at < to → IsSome (page_of self.new at)) }
     {
-        for key in from / PAGE..to.div_ceil(PAGE) {
+        for key in (from / PAGE) as u32..to.div_ceil(PAGE) as u32 {
             if !self.pages.contains_key(&key) {
-                self.pages.insert(key, [None; PAGE_LEN])?;
+                self.pages.insert(key, Page::new())?;
             }
         }
         Ok(())
@@ -88,14 +89,15 @@ impl Pages {
 
     /// Puts bytes where nothing is yet, on one page that is there.
     fn fill_page(&mut self, at: u64, bytes: &[u8]) -> usize
+        requires place { at ≤ PLACES }
         requires within { at % PAGE_LEN + length bytes.now ≤ PAGE_LEN }
         requires page { IsSome (page_of self.old at) }
         ensures bytes { (place : ℕ) → byte_paged self.new place ≡ option_or (byte_paged self.old place) (byte_in at bytes.now place) }
         ensures count { result + held_between (byte_paged self.old) at (at + length bytes.now) ≡ length bytes.now }
         ensures pages { (place : ℕ) → IsSome (page_of self.old place) → IsSome (page_of self.new place) }
     {
-        match self.pages.get_mut(&(at / PAGE)) {
-            Some(page) => page::fill(page, (at % PAGE) as usize, bytes),
+        match self.pages.get_mut(&((at / PAGE) as u32)) {
+            Some(page) => page.fill((at % PAGE) as usize, bytes),
             None => unreachable!(),
         }
     }
@@ -125,33 +127,33 @@ impl Pages {
         ensures before { (at : ℕ) → from ≤ at → at < result → IsSome (byte_paged self.now at) }
         ensures free { result ≡ from → byte_paged self.now from ≡ None }
     {
-        match self.pages.get(&(from / PAGE)) {
-            Some(page) => {
-                from / PAGE * PAGE + page::first_free(page, (from % PAGE) as usize) as u64
-            }
+        match self.pages.get(&((from / PAGE) as u32)) {
+            Some(page) => { from / PAGE * PAGE + page.first_free((from % PAGE) as usize) as u64 }
             None => from,
         }
     }
 
     /// The first place from `from` on with a byte.
     pub fn first_held(&self, from: u64) -> Option<u64>
+        requires { from ≤ PLACES }
         ensures { MatchOption result ((at : ℕ) → from ≤ at → byte_paged self.now at ≡ None) (λ found.
             (from ≤ found) × (found < PLACES) × IsSome (byte_paged self.now found)
             × ((at : ℕ) → from ≤ at → at < found → byte_paged self.now at ≡ None)) }
     {
         let mut from = from;
-        while let Some((key, page)) = self.next_page(from / PAGE) {
-            let start = from.max(key * PAGE) - key * PAGE;
-            if let Some(at) = page::first_held(page, start as usize) {
-                return Some(key * PAGE + at as u64);
+        while let Some((key, page)) = self.next_page((from / PAGE) as u32) {
+            let first = key as u64 * PAGE;
+            let start = from.max(first) - first;
+            if let Some(at) = page.first_held(start as usize) {
+                return Some(first + at as u64);
             }
-            from = (key + 1) * PAGE;
+            from = first + PAGE;
         }
         None
     }
 
     /// The first page from a number on.
-    fn next_page(&self, least: u64) -> Option<(u64, &Page)>
+    fn next_page(&self, least: u32) -> Option<(u32, &Page)>
         ensures { MatchOption result ((key : ℕ) → least ≤ key → page_at self.now key ≡ None) (λ found.
             (least ≤ found.0) × ((found.0 + 1) * PAGE_LEN ≤ PLACES) × (page_at self.now found.0 ≡ Some found.1.now)
             × ((key : ℕ) → least ≤ key → key < found.0 → page_at self.now key ≡ None)) }
@@ -162,6 +164,7 @@ impl Pages {
 
     /// Whether no place from one up to another has a byte.
     pub fn is_free(&self, from: u64, to: u64) -> bool
+        requires { from ≤ PLACES }
         ensures { result ≡ true → (at : ℕ) → from ≤ at → at < to → byte_paged self.now at ≡ None }
     {
         match self.first_held(from) {
@@ -172,7 +175,8 @@ impl Pages {
 
     /// How many places from one up to another have a byte.
     pub fn count(&self, from: u64, to: u64) -> u64
-        requires { to ≤ PLACES }
+        requires order { from ≤ to }
+        requires within { to ≤ PLACES }
         ensures { result ≡ held_between (byte_paged self.now) from to }
     {
         let mut count = 0;
@@ -224,22 +228,23 @@ impl Pages {
         ensures behind { (at : ℕ) → result ≤ at → byte_paged self.new at ≡ byte_paged self.old at }
         ensures stop { result ≡ from → from < to → byte_paged self.old from ≡ None }
     {
-        let key = from / PAGE;
+        let key = (from / PAGE) as u32;
         let Some(page) = self.pages.get_mut(&key) else {
             return from;
         };
-        let end = (to - key * PAGE).min(PAGE) as usize;
-        let at = page::move_run(page, (from % PAGE) as usize, end, run);
+        let first = from / PAGE * PAGE;
+        let end = (to - first).min(PAGE) as usize;
+        let at = page.move_run((from % PAGE) as usize, end, run);
         self.drop_if_empty(key);
-        key * PAGE + at as u64
+        first + at as u64
     }
 
     /// Drops a page that has no byte.
-    fn drop_if_empty(&mut self, key: u64)
+    fn drop_if_empty(&mut self, key: u32)
         ensures { (at : ℕ) → byte_paged self.new at ≡ byte_paged self.old at }
     {
         if let Some(page) = self.pages.get(&key)
-            && page::is_empty(page)
+            && page.is_empty()
         {
             self.pages.remove(&key);
         }
@@ -251,14 +256,14 @@ impl Pages {
         ensures below { (at : ℕ) → at < from → byte_paged self.new at ≡ byte_paged self.old at }
         ensures above { (at : ℕ) → from ≤ at → byte_paged self.new at ≡ None }
     {
-        self.drop_pages(from.div_ceil(PAGE));
-        if let Some(page) = self.pages.get_mut(&(from / PAGE)) {
-            page::cut(page, (from % PAGE) as usize);
+        self.drop_pages(from.div_ceil(PAGE) as u32);
+        if let Some(page) = self.pages.get_mut(&((from / PAGE) as u32)) {
+            page.cut((from % PAGE) as usize);
         }
     }
 
     /// Drops the pages from a number on.
-    fn drop_pages(&mut self, least: u64)
+    fn drop_pages(&mut self, least: u32)
         ensures below { (key : ℕ) → key < least → page_at self.new key ≡ page_at self.old key }
         ensures above { (key : ℕ) → least ≤ key → page_at self.new key ≡ None }
     {

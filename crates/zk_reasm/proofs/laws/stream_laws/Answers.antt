@@ -1,4 +1,5 @@
-use Rattle.zk_reasm.proofs.LawLemmas.{front_never_falls, first_stands, over_stays_so, cut_freely}
+use Rattle.zk_reasm.proofs.CutLemmas.{cut_freely}
+use Rattle.zk_reasm.proofs.LawLemmas.{front_never_falls, first_stands, over_stays_so}
 use Rattle.zk_reasm.proofs.laws.stream_laws.Goals as goal
 
 pub returns : goal.returns

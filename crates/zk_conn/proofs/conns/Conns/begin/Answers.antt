@@ -1,9 +1,11 @@
-use Rattle.std.proofs.Common.{◌∙◌, arith}
+use Rattle.std.proofs.Common.{sym, subst, ◌∙◌, arith}
 use Rattle.std.proofs.lemmas.Result.{err_from_is_err_and}
 use Rattle.zk_conn.specs.Holds.{removal_of}
 use Rattle.zk_conn.specs.Instance.{Opening}
 use Rattle.zk_conn.specs.Segment.{key_of}
-use Rattle.zk_conn.proofs.BeginLemmas.{gone_key, number_absent, stands_begun, stands_same, touched_begun}
+use Rattle.zk_conn.specs.Table.{HasLive}
+use Rattle.zk_conn.specs.declared.conns.Touched.{Touched}
+use Rattle.zk_conn.proofs.BeginLemmas.{gone_key, live_inserted, number_absent, stands_begun, stands_same, touched_begun}
 use Rattle.zk_conn.proofs.HoldsLemmas.{holds-begun}
 use Rattle.zk_conn.proofs.conns.Conns.begin.Goals as goal
 
@@ -43,3 +45,8 @@ returns-clause-taken c = λ told stands may.
     }))
     (follows.key_is ∙ c.before-instance.ensures.has.key_is) follows.last_is
     (follows.number_is ∙ c.before-instance.ensures.number) (omega (arith, c.in-Some.ensures)) c.removal-instance.ensures c.requires.early c.requires.late
+
+pub returns-clause-live : goal.returns-clause-live
+returns-clause-live c =
+    subst (λ (d : Touched). HasLive (record c.insert.new.self { begun = c.in-Some.number }) d.conn) (sym c.touch-touched.ensures.touched)
+    (live_inserted c.args.self.now c.insert.new.self _ c.in-Some.number c.in_ok-insert.ensures.ok)

@@ -1,9 +1,15 @@
 use Rattle.std.proofs.Common.{refl, sym, ◌∙◌}
+use Rattle.zk_conn.specs.declared.instance.Instance.{Instance}
 use Rattle.zk_conn.specs.Told.{Reached}
-use Rattle.zk_conn.proofs.StandingLemmas.{told_live}
+use Rattle.zk_conn.proofs.StandingLemmas.{told_live, live_told}
 use Rattle.zk_conn.proofs.conns.Conns.fin_reached.Goals as goal
 
-pub returns : goal.returns
-returns c = λ told key stands live.
+pub returns-clause-told : goal.returns-clause-told
+returns-clause-told c = λ told key stands live.
     told_live c.args.self.now c.tell_fin.new.self told key c.args.conn c.in-Some.slot (λ k. Reached k c.args.side)
     (sym c.slot_numbered.ensures.slot ∙ c.in-Some.is) c.tell_fin.ensures stands live refl refl refl refl (λ m. refl)
+
+pub returns-clause-live : goal.returns-clause-live
+returns-clause-live c = λ other live.
+    live_told c.args.self.now c.tell_fin.new.self c.in-Some.slot c.args.conn other (λ (was : Instance). Reached was.key c.args.side)
+    (sym c.slot_numbered.ensures.slot ∙ c.in-Some.is) c.tell_fin.ensures live

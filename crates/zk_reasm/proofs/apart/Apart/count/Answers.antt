@@ -1,4 +1,4 @@
-use Rattle.std.proofs.Common.{◌+◌, sym, arith}
+use Rattle.std.proofs.Common.{sym, arith}
 use Rattle.zk_reasm.specs.Apart.{byte_apart}
 use Rattle.zk_reasm.proofs.ApartLemmas.{held_apart}
 use Rattle.zk_reasm.proofs.RangeLemmas.{held_between-none, held_between-le}

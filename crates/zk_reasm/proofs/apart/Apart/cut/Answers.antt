@@ -1,4 +1,4 @@
-use Rattle.std.proofs.Common.{◌≡◌, ◌<◌, None, IsSome, sym, ap, ◌∙◌, ⊎_elim, arith}
+use Rattle.std.proofs.Common.{IsSome, sym, ap, ◌∙◌, ⊎_elim, arith}
 use Rattle.std.specs.Option.{is_some}
 use Rattle.std.proofs.lemmas.Bool.{cases_lt}
 use Rattle.zk_reasm.specs.Stretch.{byte_in_stretch}

@@ -1,9 +1,9 @@
-use Rattle.std.proofs.Common.{◌≡◌, ℕ, ◌+◌, ◌-◌, ◌<◌, ◌≤◌, ◌++◌, None, IsSome, sym, ap, ◌∙◌, ⊎_elim, arith, append-nil, append_assoc}
+use Rattle.std.proofs.Common.{◌≡◌, ◌<◌, ◌≤◌, ◌++◌, None, IsSome, sym, ap, ◌∙◌, ⊎_elim, arith, append-nil, append_assoc}
 use Rattle.std.specs.Option.{is_some}
 use Rattle.std.specs.VecDeque.{deque_len}
 use Rattle.std.proofs.lemmas.Bool.{cases_lt}
 use Rattle.zk_reasm.specs.Apart.{byte_apart}
-use Rattle.zk_reasm.specs.Between.{held_between, bytes_between}
+use Rattle.zk_reasm.specs.Between.{bytes_between}
 use Rattle.zk_reasm.specs.Pages.{byte_paged}
 use Rattle.zk_reasm.specs.Stretch.{byte_in_stretch}
 use Rattle.zk_base.specs.ByteQueue.{bytes_of}

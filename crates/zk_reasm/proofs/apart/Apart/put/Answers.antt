@@ -1,4 +1,4 @@
-use Rattle.std.proofs.Common.{◌≡◌, ◌+◌, length, sym, ap, ◌∙◌, arith}
+use Rattle.std.proofs.Common.{◌+◌, length, sym, ap, ◌∙◌, arith}
 use Rattle.std.specs.Option.{option_or}
 use Rattle.zk_reasm.specs.Apart.{byte_apart}
 use Rattle.zk_reasm.specs.Stretch.{byte_in_stretch}
@@ -13,7 +13,6 @@ returns-then-is_empty-clause-count c =
     let empty = eqb-true n 0 (sym c.if-is_empty.ensures) in
     let none = held_between-none (byte_apart c.args.self.now) c.args.piece.now.at (c.args.piece.now.at + n) (omega (arith, empty)) in
     omega (arith, none, empty)
-
 
 pub returns-then-is_free-clause-count : goal.returns-then-is_free-clause-count
 unfolding byte_apart

@@ -21,8 +21,8 @@ returns-clause-bytes c = λ place.
     let old = c.args.self.now in
     let was = c.in-Some.page.now in
     let had : page_of old c.args.at ≡ Some was = sym c.get_mut.ensures.value ∙ ap option_copied_mut c.in-Some.is in
-    let written = (c.get_mut.follows.holds c.fill.new.page).3 c.requires.page in
-    byte_paged-put old _ (c.args.at / PAGE_LEN) (c.args.at % PAGE_LEN) was c.fill.new.page c.args.bytes.now had
+    let written = (c.get_mut.follows.holds c.fill.new.self).3 c.requires.page in
+    byte_paged-put old _ (c.args.at / PAGE_LEN) (c.args.at % PAGE_LEN) was c.fill.new.self c.args.bytes.now had
     (record { here = written.1; others = written.2 }) c.requires.within c.fill.ensures.first place
     ∙ ap (λ from. option_or (byte_paged old place) (byte_in from c.args.bytes.now place))
     (let e : c.args.at / PAGE_LEN * PAGE_LEN + c.args.at % PAGE_LEN ≡ c.args.at = omega arith in e)
@@ -41,5 +41,5 @@ returns-clause-count c =
 pub returns-clause-pages : goal.returns-clause-pages
 returns-clause-pages c = λ place there.
     let old = c.args.self.now in
-    let written = (c.get_mut.follows.holds c.fill.new.page).3 (page_there old c.args.at c.requires.page) in
-    page_of-stays old _ (c.args.at / PAGE_LEN) c.fill.new.page place (record { here = written.1; others = written.2 }) there
+    let written = (c.get_mut.follows.holds c.fill.new.self).3 (page_there old c.args.at c.requires.page) in
+    page_of-stays old _ (c.args.at / PAGE_LEN) c.fill.new.self place (record { here = written.1; others = written.2 }) there

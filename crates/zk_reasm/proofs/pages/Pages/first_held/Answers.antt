@@ -31,6 +31,7 @@ loop-key-preserved c =
     let next = c.in-Some.ensures in
     record {
       order = omega (arith, next.0, c.loop-key.invariant.order);
+      within = omega (arith, next.1);
       before = λ at low high. ⊎_elim
           (c.loop-key.invariant.before at low)
           (λ behind. none_before table c.loop-key.from key (c.max.result - key * PAGE_LEN) PAGE_LEN page (omega (arith, c.max.ensures)) next.2 next.3

@@ -7,6 +7,7 @@ use Rattle.zk_reasm.proofs.pages.Pages.first_held.Given as goal
 abbrev pub invariant-loop-key : goal.invariant-loop-key
 invariant-loop-key l = record {
   order : l.initial.from ≤ l.from;
+  within : l.from ≤ PLACES;
   before : (at : ℕ) → l.initial.from ≤ at → at < l.from → byte_paged l.self at ≡ None;
 }
 

@@ -1,4 +1,4 @@
-use Rattle.std.proofs.Common.{◌≡◌, ◌/◌, replicate, None, Some, sym, ap, ◌∙◌, ⊎_elim, arith}
+use Rattle.std.proofs.Common.{◌≡◌, ◌/◌, None, Some, sym, ap, ◌∙◌, ⊎_elim, arith}
 use Rattle.std.specs.BTreeMap as tree
 use Rattle.std.specs.Ordering.{nat_cmp}
 use Rattle.std.proofs.lemmas.Bool.{cases_eq}
@@ -21,16 +21,16 @@ loop-key-preserved c = elim c.if-not-contains_key.branch [
       let key = c.loop-key.key-counter in
       let pages : new.pages ≡ w.insert.new.self = ap (λ (a : Pages). a.pages) w.self-is in
       let updates = w.in_ok-insert.ensures.updates in
-      let writes : Writes old new key (Some (replicate PAGE_LEN None)) = record {
+      let writes : Writes old new key (Some w.new.result) = record {
         here = ap (λ m. tree.get nat_cmp m key) pages ∙ updates.1;
         others = λ q other. ap (λ m. tree.get nat_cmp m q) pages ∙ updates.2 q other;
       } in
       let none : page_at old key ≡ None = none_from (page_at old key) (sym c.contains_key.ensures ∙ w.if-not-contains_key.true) in
       record {
-        same = λ at. byte_paged-made old new key none writes at ∙ c.loop-key.invariant.same at;
+        same = λ at. byte_paged-made old new key w.new.result none w.new.ensures writes at ∙ c.loop-key.invariant.same at;
         made = λ at low high. ⊎_elim
-            (λ here. page_of-made old new key (replicate PAGE_LEN None) at writes here)
-            (λ other. page_of-stays old new key (replicate PAGE_LEN None) at writes (c.loop-key.invariant.made at low (omega (arith, high, other))))
+            (λ here. page_of-made old new key w.new.result at writes here)
+            (λ other. page_of-stays old new key w.new.result at writes (c.loop-key.invariant.made at low (omega (arith, high, other))))
             (cases_eq (at / PAGE_LEN) key);
       })
   | else-not-contains_key w ↦ rw w.self-is (record {

@@ -67,9 +67,9 @@ returns-clause-behind c = λ at low.
     let old = c.args.self.now in
     let was = c.in-Some.page.now in
     let had : page_at old (c.args.from / PAGE_LEN) ≡ Some was = sym c.get_mut.ensures.value ∙ ap option_copied_mut c.in-Some.is in
-    let written = (c.get_mut.follows.holds c.move_run-at.new.page).3 (ap is_some had) in
+    let written = (c.get_mut.follows.holds c.move_run-at.new.self).3 (ap is_some had) in
     c.drop_if_empty.ensures at
-    ∙ byte_paged-behind old _ c.args.from c.move_run-at.result was c.move_run-at.new.page had
+    ∙ byte_paged-behind old _ c.args.from c.move_run-at.result was c.move_run-at.new.self had
     (record { here = written.1; others = written.2 }) (omega (arith, c.move_run-at.ensures.within, c.min-end.ensures)) c.move_run-at.ensures.behind at low
 
 pub returns-clause-stop : goal.returns-clause-stop

@@ -1,4 +1,4 @@
-use Rattle.std.proofs.Common.{◌+◌, arith}
+use Rattle.std.proofs.Common.{arith}
 use Rattle.zk_reasm.proofs.ApartLemmas.{held_between-bytes}
 use Rattle.zk_reasm.proofs.stretch.Stretch.count.Goals as goal
 

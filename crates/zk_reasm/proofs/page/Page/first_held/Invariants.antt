@@ -1,7 +1,7 @@
 use Rattle.std.proofs.Common.{◌≡◌, ℕ, ◌<◌, ◌≤◌, None}
 use Rattle.zk_reasm.specs.Page.{byte_on}
-use Rattle.zk_reasm.proofs.page.first_held.Given as goal
+use Rattle.zk_reasm.proofs.page.Page.first_held.Given as goal
 
 -- no place passed has a byte
 abbrev pub invariant-loop-at : goal.invariant-loop-at
-invariant-loop-at l = (at : ℕ) → l.from ≤ at → at < l.at → byte_on l.page at ≡ None
+invariant-loop-at l = (at : ℕ) → l.from ≤ at → at < l.at → byte_on l.self at ≡ None

@@ -46,7 +46,7 @@ pub instance_last : (events : List Told) → (before : List Told) × (events ≡
 instance_last events = last_from [] [] events
 
 -- an instance with one more event is timely
-timely_push : (current : List Told) (event : Told) → IsTimely current → ((moment : Moment) (p : L4View) → event ≡ Packet moment p → comes_late current moment ≡ false)
+pub timely_push : (current : List Told) (event : Told) → IsTimely current → ((moment : Moment) (p : L4View) → event ≡ Packet moment p → comes_late current moment ≡ false)
     → IsTimely (current ++ event ∷ [])
 timely_push current event timely last = λ n moment p some is. ⊎_elim
     (λ within.
@@ -68,13 +68,20 @@ timely_push current event timely last = λ n moment p some is. ⊎_elim
     no_some : {a : Told} → None ≡ Some a → ⊥
     no_some same = cc
 
-timely_alone : (event : Told) → IsTimely (event ∷ [])
+-- no event, and one
+pub timely_none : IsTimely []
+timely_none = λ n moment p some is. absurd (no_some (sym (slice_get_past [] n (omega arith)) ∙ is))
+  where
+    no_some : {a : Told} → None ≡ Some a → ⊥
+    no_some same = cc
+
+pub timely_alone : (event : Told) → IsTimely (event ∷ [])
 timely_alone event = λ n moment p some is. absurd (no_some (sym (slice_get_past (event ∷ []) n (omega (arith, some))) ∙ is))
   where
     no_some : {a : Told} → None ≡ Some a → ⊥
     no_some same = cc
 
-timely_joined : (current : List Told) (event : Told) → IsTimely current → IsTimely (joined_by current event)
+pub timely_joined : (current : List Told) (event : Told) → IsTimely current → IsTimely (joined_by current event)
 timely_joined current (Packet moment p) timely = by_cases (comes_late current moment) refl
   where
     by_cases : (b : Bool) → comes_late current moment ≡ b → IsTimely (cond (comes_late current moment) (Packet moment p ∷ []) (current ++ Packet moment p ∷ []))
@@ -95,10 +102,7 @@ timely_from current (event ∷ events) timely = timely_from (joined_by current e
 
 -- no packet of an instance comes too late for what stands before it
 pub instance_timely : (events : List Told) → IsTimely (instance_of events)
-instance_timely events = timely_from [] events (λ n moment p some is. absurd (no_some (sym (slice_get_past [] n (omega arith)) ∙ is)))
-  where
-    no_some : {a : Told} → None ≡ Some a → ⊥
-    no_some same = cc
+instance_timely events = timely_from [] events timely_none
 
 -- a live number is that of a key's latest instance
 pub live_told : (conns : Conns) (told : List Told) (conn : ConnNo) → StandsFor conns told → HasLive conns conn → (key : Key) × IsLive told key conn.0

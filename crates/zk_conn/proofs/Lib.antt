@@ -1,4 +1,5 @@
 pub mod BeginLemmas
+pub mod CutLaws
 pub mod DueLemmas
 pub mod HalfLemmas
 pub mod HistoryLemmas

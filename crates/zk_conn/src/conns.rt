@@ -2,7 +2,7 @@ ghost use Rattle.std.specs.Prelude.{◌≡◌, ◌↔◌, ◌≤ℤ◌, ◌^◌,
 ghost use Rattle.slab.specs.Slab.{ContainsKey, HasRoomFor, get};
 ghost use Rattle.std.specs.BTreeMap as tree;
 ghost use Rattle.std.specs.Ordering.{nat_cmp};
-ghost use Rattle.zk_conn.specs.Instances.{IsTimely};
+ghost use Rattle.zk_conn.specs.Instances.{IsTimely, AreCutInto};
 ghost use Rattle.zk_conn.specs.Histories.{instance_of, latest, IsEnding, IsFirstDue, IsLive, IsRemoval, MayFollow, NoneDue, NoneLive, touched_of};
 ghost use Rattle.zk_conn.specs.Segment.{key_of, same_key};
 ghost use Rattle.zk_conn.specs.Standing.{StandsFor};
@@ -55,6 +55,15 @@ pub fn instances_of_a_key()
 
     // No packet of it comes at or after the removal moment of what stands before it.
     ensures timely { (events : List Told) → IsTimely (instance_of events) }
+
+    // What is told of a key can be cut into instances that end since the next packet comes at or after their removal moment, and
+    // the latest one behind them, and each such cutting leaves the same latest one.
+    ensures cut { (events latest : List Told) → (instance_of events ≡ latest)
+        ↔ ((instances : List (List Told)) × AreCutInto events instances latest) }
+
+    // There is no other such cutting.
+    ensures one { (events latest : List Told) (instances others : List (List Told))
+        → AreCutInto events instances latest → AreCutInto events others latest → instances ≡ others }
 
     // What is told of other keys changes nothing of a key's latest instance.
     ensures alone { (key : Key) (before after : List Told) (event : Told) → same_key (key_told event) key ≡ false

@@ -7,7 +7,7 @@ use Rattle.std.proofs.lemmas.List.{append-nil}
 use Rattle.std.proofs.Math.Seq.{take-append_seam}
 use Rattle.zk_top.specs.declared.command.Slot.{Slot}
 use Rattle.zk_top.specs.declared.command.Slot.TheVariants as slot
-use Rattle.zk_top.specs.Command.{Command, ListItems, RunScript, IsCommand, IsFirstNotUnderstood, is_file_name, fits, list_slots, run_slots, begins_with, command_of, begins, first_not_understood}
+use Rattle.zk_top.specs.Command.{Command, ListItems, RunScript, Help, Version, IsCommand, IsFirstNotUnderstood, is_file_name, fits, list_slots, run_slots, help_slots, version_slots, begins_with, command_of, begins, first_not_understood}
 
 both : (a b : Bool) → (a && b) ≡ true → (a ≡ true) × (b ≡ true)
 both true b h = (refl, h)
@@ -47,6 +47,8 @@ sample slot.List = codes "list"
 sample slot.Run = codes "run"
 sample slot.Bare = codes "-b"
 sample slot.Read = codes "-r"
+sample slot.Help = codes "--help"
+sample slot.Version = codes "--version"
 sample slot.File = codes "a"
 
 sample_fits : (s : Slot) → fits s (sample s) ≡ true
@@ -55,6 +57,8 @@ sample_fits slot.List = refl
 sample_fits slot.Run = refl
 sample_fits slot.Bare = refl
 sample_fits slot.Read = refl
+sample_fits slot.Help = refl
+sample_fits slot.Version = refl
 sample_fits slot.File = refl
 
 samples_fill : (slots : List Slot) → Fill slots (map sample slots)
@@ -95,6 +99,8 @@ filled (s ∷ slots) (word ∷ words) same h =
 slots_of : Command → List Slot
 slots_of (ListItems file) = list_slots
 slots_of (RunScript file script) = run_slots
+slots_of Help = help_slots
+slots_of Version = version_slots
 
 is_listing : (verb file : List ℕ) → Fill list_slots (verb ∷ file ∷ []) → IsCommand (verb ∷ file ∷ []) (ListItems file)
 unfolding Fill
@@ -129,6 +135,26 @@ run_of (verb ∷ bare ∷ read ∷ file ∷ []) h = absurd h.1.1.1.1
 run_of (verb ∷ bare ∷ read ∷ file ∷ script ∷ []) h = (RunScript file script, is_run verb bare read file script h)
 run_of (verb ∷ bare ∷ read ∷ file ∷ script ∷ more ∷ others) h = absurd h.1.1.1.1.1
 
+is_help : (word : List ℕ) → Fill help_slots (word ∷ []) → IsCommand (word ∷ []) Help
+unfolding Fill
+is_help word h = (ap (λ w. w ∷ []) (same_word word (codes "--help") h.0), refl)
+
+is_version : (word : List ℕ) → Fill version_slots (word ∷ []) → IsCommand (word ∷ []) Version
+unfolding Fill
+is_version word h = (ap (λ w. w ∷ []) (same_word word (codes "--version") h.0), refl)
+
+help_of : (words : List (List ℕ)) → Fill help_slots words → (command : Command) × IsCommand words command
+unfolding Fill
+help_of [] h = absurd h
+help_of (word ∷ []) h = (Help, is_help word h)
+help_of (word ∷ more ∷ others) h = absurd h.1
+
+version_of : (words : List (List ℕ)) → Fill version_slots words → (command : Command) × IsCommand words command
+unfolding Fill
+version_of [] h = absurd h
+version_of (word ∷ []) h = (Version, is_version word h)
+version_of (word ∷ more ∷ others) h = absurd h.1
+
 -- the words of a command fill its slots
 fill_of : (words : List (List ℕ)) (command : Command) → IsCommand words command → Fill (slots_of command) words
 unfolding Fill slots_of
@@ -136,6 +162,8 @@ fill_of words (ListItems file) is = subst (Fill list_slots) (sym is.0) (refl, (i
 fill_of words (RunScript file script) is =
     let names = both (is_file_name file) (is_file_name script) is.1 in
     subst (Fill run_slots) (sym is.0) (refl, (refl, (refl, (names.0, (names.1, tt)))))
+fill_of words Help is = subst (Fill help_slots) (sym is.0) (refl, tt)
+fill_of words Version is = subst (Fill version_slots) (sym is.0) (refl, tt)
 
 if_filled : (slots : List Slot) (words : List (List ℕ)) (it command : Command) → length words ≡ length slots → (Fill slots words → IsCommand words it)
     → cond (begins_with slots words) (Some it) None ≡ Some command → IsCommand words command
@@ -145,9 +173,18 @@ if_filled slots words it command size give =
       | false ↦ λ is h. absurd (let never : ⊥ = cc in never)
     ] refl
 
+-- a word alone is one of two commands, or none
+if_alone : (word : List ℕ) (command : Command) (help version : Bool) → (help ≡ true → IsCommand (word ∷ []) Help) → (version ≡ true → IsCommand (word ∷ []) Version)
+    → cond help (Some Help) (cond version (Some Version) None) ≡ Some command → IsCommand (word ∷ []) command
+if_alone word command true version is_first is_second h = let same : Help ≡ command = cc in subst (IsCommand (word ∷ [])) same (is_first refl)
+if_alone word command false true is_first is_second h = let same : Version ≡ command = cc in subst (IsCommand (word ∷ [])) same (is_second refl)
+if_alone word command false false is_first is_second h = absurd (let never : ⊥ = cc in never)
+
 spelled_by : (words : List (List ℕ)) (command : Command) → command_of words ≡ Some command → IsCommand words command
 spelled_by [] command h = absurd (let never : ⊥ = cc in never)
-spelled_by (verb ∷ []) command h = absurd (let never : ⊥ = cc in never)
+spelled_by (word ∷ []) command h =
+    if_alone word command (begins_with help_slots (word ∷ [])) (begins_with version_slots (word ∷ []))
+    (λ is. is_help word (filled help_slots (word ∷ []) refl is)) (λ is. is_version word (filled version_slots (word ∷ []) refl is)) h
 spelled_by (verb ∷ file ∷ []) command h = if_filled list_slots (verb ∷ file ∷ []) (ListItems file) command refl (is_listing verb file) h
 spelled_by (verb ∷ bare ∷ read ∷ []) command h = absurd (let never : ⊥ = cc in never)
 spelled_by (verb ∷ bare ∷ read ∷ file ∷ []) command h = absurd (let never : ⊥ = cc in never)
@@ -163,6 +200,8 @@ read_as words (RunScript file script) is =
     ap command_of is.0
     ∙ (ap (λ b. cond (b && (is_file_name script && true)) (Some (RunScript file script)) None) names.0
     ∙ ap (λ b. cond (b && true) (Some (RunScript file script)) None) names.1)
+read_as words Help is = ap command_of is.0
+read_as words Version is = ap command_of is.0
 
 pub spelled : (words : List (List ℕ)) (command : Command) → (command_of words ≡ Some command) ↔ IsCommand words command
 spelled words command = (spelled_by words command, read_as words command)
@@ -175,17 +214,34 @@ Begun words = (more : List (List ℕ)) × (command : Command) × IsCommand (word
 begun_by : (words : List (List ℕ)) → IsTrue (begins words) → Begun words
 unfolding Begun
 begun_by words h =
-    elim (one_of (begins_with list_slots words) (begins_with run_slots words) h) [
-      | inl list ↦ let found = completed list_slots words list in let is = listing_of (words ++ found.0) found.1 in (found.0, is.0, is.1)
-      | inr run ↦ let found = completed run_slots words run in let is = run_of (words ++ found.0) found.1 in (found.0, is.0, is.1)
+    let four = one_of (begins_with list_slots words || begins_with run_slots words || begins_with help_slots words) (begins_with version_slots words) h in
+    elim four [
+      | inr version ↦ let found = completed version_slots words version in let is = version_of (words ++ found.0) found.1 in (found.0, is.0, is.1)
+      | inl three ↦ elim (one_of (begins_with list_slots words || begins_with run_slots words) (begins_with help_slots words) three) [
+        | inr help ↦ let found = completed help_slots words help in let is = help_of (words ++ found.0) found.1 in (found.0, is.0, is.1)
+        | inl two ↦ elim (one_of (begins_with list_slots words) (begins_with run_slots words) two) [
+          | inl list ↦ let found = completed list_slots words list in let is = listing_of (words ++ found.0) found.1 in (found.0, is.0, is.1)
+          | inr run ↦ let found = completed run_slots words run in let is = run_of (words ++ found.0) found.1 in (found.0, is.0, is.1)
+        ]
+      ]
     ]
 
 begins_by : (words more : List (List ℕ)) (command : Command) → IsCommand (words ++ more) command → IsTrue (begins words)
 unfolding slots_of
 begins_by words more (ListItems file) is =
-    or_left (begins_with list_slots words) (begins_with run_slots words) (begun_of list_slots words more (fill_of (words ++ more) (ListItems file) is))
+    or_left (begins_with list_slots words || begins_with run_slots words || begins_with help_slots words) (begins_with version_slots words)
+    (or_left (begins_with list_slots words || begins_with run_slots words) (begins_with help_slots words)
+    (or_left (begins_with list_slots words) (begins_with run_slots words) (begun_of list_slots words more (fill_of (words ++ more) (ListItems file) is))))
 begins_by words more (RunScript file script) is =
-    or_right (begins_with list_slots words) (begins_with run_slots words) (begun_of run_slots words more (fill_of (words ++ more) (RunScript file script) is))
+    or_left (begins_with list_slots words || begins_with run_slots words || begins_with help_slots words) (begins_with version_slots words)
+    (or_left (begins_with list_slots words || begins_with run_slots words) (begins_with help_slots words)
+    (or_right (begins_with list_slots words) (begins_with run_slots words) (begun_of run_slots words more (fill_of (words ++ more) (RunScript file script) is))))
+begins_by words more Help is =
+    or_left (begins_with list_slots words || begins_with run_slots words || begins_with help_slots words) (begins_with version_slots words)
+    (or_right (begins_with list_slots words || begins_with run_slots words) (begins_with help_slots words) (begun_of help_slots words more (fill_of (words ++ more) Help is)))
+begins_by words more Version is =
+    or_right (begins_with list_slots words || begins_with run_slots words || begins_with help_slots words) (begins_with version_slots words)
+    (begun_of version_slots words more (fill_of (words ++ more) Version is))
 
 pub begun : (words : List (List ℕ)) → IsTrue (begins words) ↔ ((more : List (List ℕ)) × (command : Command) × IsCommand (words ++ more) command)
 unfolding Begun

@@ -35,7 +35,7 @@ prefix_of_none (x ∷ xs) prefix = let is : [] ≡ x ∷ (xs ++ prefix.rest) = p
 
 -- What is told, after nothing and after two parts ----------------------------------------------------------
 
-none_appended : (o : Option (List ℕ)) → o ≡ appended o []
+pub none_appended : (o : Option (List ℕ)) → o ≡ appended o []
 none_appended None = refl
 none_appended (Some bytes) = ap Some (sym (append-nil bytes))
 

@@ -3,16 +3,16 @@ use Rattle.std.proofs.Common.{◌≡◌, ℕ, List, [], ◌∷◌, ◌++◌, Opt
 use Rattle.std.specs.Option.{option_map}
 use Rattle.std.proofs.lemmas.List.{append-nil}
 use Rattle.zk_base.specs.declared.endings.Ending.{Ending}
-use Rattle.zk_base.specs.declared.endings.Ending.TheVariants.{Usage}
+use Rattle.zk_base.specs.declared.endings.Ending.TheVariants.{Done, Usage}
 use Rattle.zk_base.specs.Shelf.{Files, Outside, HasRisen, appended}
 use Rattle.zk_pcap.specs.declared.captures.Capture.{Capture}
 use Rattle.zk_typed.specs.declared.program.Program.{Program}
 use Rattle.zk_top.specs.declared.found.Found.{Found}
 use Rattle.zk_top.specs.declared.found.Found.TheVariants.{Accepted, Refused}
 use Rattle.zk_top.specs.declared.stop.Stop.{Stop}
-use Rattle.zk_top.specs.Command.{Command, ListItems, RunScript, understand}
+use Rattle.zk_top.specs.Command.{Command, ListItems, RunScript, Help, Version, understand}
 use Rattle.zk_top.specs.Complaint.{complaint_of}
-use Rattle.zk_top.specs.Outcome.{Outcome, Report, no_files, opened, loaded, over_capture, list_report, run_report, running, outcome_of, outcome}
+use Rattle.zk_top.specs.Outcome.{Outcome, Report, no_files, ending_so, opened, loaded, over_capture, list_report, run_report, running, outcome_of, outcome}
 use Rattle.zk_top.specs.Parts.{DoesAll, DoesPart, Fulfils, BreaksOff}
 use Rattle.zk_top.specs.Run.{IsPrefix, files_over, IsDone, OutputsBegun, StaysWithin}
 use Rattle.zk_top.proofs.Doing.{prefix_of_none, prefix_all, does_nothing_without_fault, does_both, without_fault_both, cause_since}
@@ -36,6 +36,8 @@ plain_of : (asked : Result Command ℕ) (inputs : Files) → IsPlain (outcome_of
 plain_of (Err word) inputs = record { files = refl; complained = refl }
 plain_of (Ok (ListItems file)) inputs = plain_over (list_report file) (file ∷ []) (opened file (inputs file))
 plain_of (Ok (RunScript file script)) inputs = plain_running file script (loaded script (inputs script)) inputs
+plain_of (Ok Help) inputs = record { files = refl; complained = refl }
+plain_of (Ok Version) inputs = record { files = refl; complained = refl }
 
 plain : (words : List (List ℕ)) (inputs : Files) → IsPlain (outcome words inputs)
 plain words inputs = plain_of (understand words) inputs
@@ -151,4 +153,33 @@ not_understood words word old is = record {
   ends = λ inputs told. ap (λ asked. (outcome_of asked inputs).ending) (sym is);
   names_are = λ inputs told. ap (λ asked. (outcome_of asked inputs).asked) (sym is);
   said_is = λ inputs told. ap (λ asked. (outcome_of asked inputs).said) (sym is);
+}
+
+-- A text alone ---------------------------------------------------------------------------------------------------
+
+pub answered : (text : List ℕ) (old new : Outside) → DoesAll [] text [] old new → Fulfils (λ _. ending_so Done text []) [] old Done new
+answered text old new says = record {
+  names = [];
+  said = text;
+  does = says.all;
+  whole = tt;
+  absent = λ name same. absurd (let never : ⊥ = cc in never);
+  present = λ other. says.present;
+  ends = λ inputs told. refl;
+  names_are = λ inputs told. refl;
+  said_is = λ inputs told. refl;
+}
+
+pub answer_broken : (text : List ℕ) (old : Outside) (stop : Stop) (new : Outside) → DoesPart [] text [] old stop new → BreaksOff (λ _. ending_so Done text []) old stop new
+answer_broken text old stop new part = record {
+  names = part.names_part;
+  said = part.said_part;
+  complained = part.complained_part;
+  does = part.does;
+  cause = part.cause;
+  quiet = part.quiet;
+  names_prefix = λ inputs told. part.names_prefix;
+  said_prefix = λ inputs told. part.said_prefix;
+  complained_prefix = λ inputs told. part.complained_prefix;
+  complaint_last = λ inputs told. inl (prefix_of_none part.complained_part part.complained_prefix);
 }

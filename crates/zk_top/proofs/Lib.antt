@@ -1,10 +1,12 @@
 mod BodyLaws
+mod CaptureReading
 mod CommandLaws
 mod CommandLemmas
 mod Dispatching
 mod Doing
 mod EntryLemmas
 mod Growth
+mod OpenCapture
 mod OverCapture
 mod OverScript
 mod Packets

@@ -1,7 +1,6 @@
 -- What is done over a capture, or over none.
 use Rattle.std.proofs.Common.{◌≡◌, ◌≢◌, ℕ, ◌^◌, ◌<◌, inl, inr, cond, length, length-append, arith, List, [], ◌∷◌, Option, Some, None, Result, Ok, Err, IfSome, refl, sym, ap, subst, ◌∙◌}
 use Rattle.std.proofs.lemmas.Bool.{lt-ltb}
-use Rattle.std.proofs.lemmas.List.{take-append-le}
 use Rattle.zk_base.specs.declared.endings.Ending.{Ending}
 use Rattle.zk_base.specs.declared.endings.Ending.TheVariants as ending
 use Rattle.zk_base.specs.Shelf.{Files, Outside, HasRisen}
@@ -11,17 +10,14 @@ use Rattle.zk_pcap.specs.declared.captures.CaptureEnding.TheVariants.{Whole, Cut
 use Rattle.zk_pcap.specs.declared.faults.CaptureFault.{CaptureFault}
 use Rattle.zk_pcap.specs.declared.faults.CaptureFault.TheVariants as fault
 use Rattle.zk_base.specs.declared.endings.ScriptKind.TheVariants.{TooLarge}
-use Rattle.zk_pcap.specs.CaptureFault.{place_of}
-use Rattle.zk_pcap.specs.Capture.{capture_of, capture_after, UnlessNoMemory}
-use Rattle.zk_pcap.specs.Header.{counted, header_of}
+use Rattle.zk_pcap.specs.Capture.{UnlessNoMemory}
 use Rattle.zk_typed.specs.declared.program.Program.{Program}
 use Rattle.zk_top.specs.declared.found.Found.{Found}
 use Rattle.zk_top.specs.declared.found.Found.TheVariants.{Accepted, Refused}
 use Rattle.zk_top.specs.declared.stop.Stop.{Stop}
-use Rattle.zk_parse.specs.Reading.{tree_of}
 use Rattle.zk_top.specs.Script.{Refusal, script_max, program_read, script_of}
 use Rattle.zk_token.specs.Tokens.{tokens_of}
-use Rattle.zk_top.specs.Outcome.{Report, over_capture, judged, opened, accepted, loaded, end_of_capture}
+use Rattle.zk_top.specs.Outcome.{Report, over_capture, opened, accepted, loaded, end_of_capture}
 use Rattle.zk_top.specs.Parts.{IsRefusal, IsOfCommand, IsReadBeyond, IsReadOf, DoesWithoutFault, DoesAll, DoesPart, Finds, Fulfils, BreaksOff}
 use Rattle.zk_top.specs.Run.{IsNotStopped, IsPrefix, SameAbsences}
 use Rattle.zk_top.proofs.Doing.{prefix_none, prefix_of_none, prefix_trans, without_fault_both, does_both_part}
@@ -147,39 +143,6 @@ fulfilled_refused report file old e new found = record {
 -- what is read of the input that is told under a name
 pub told : (inputs : Option Files) (files : Files) (name : List ℕ) (found : Option (List ℕ)) (most : ℕ) → inputs ≡ Some files → IfSome inputs (λ fs. IsReadOf most (fs name) found) → IsReadOf most (files name) found
 told inputs files name found most is given = subst (λ o. IfSome o (λ fs. IsReadOf most (fs name) found)) is given
-
-judged_refusal : (file : List ℕ) (read : Result Capture CaptureFault) (e : Ending) → judged file read ≡ Refused e → IsRefusal e
-judged_refusal file (Ok capture) e same = absurd (let never : ⊥ = cc in never)
-judged_refusal file (Err why) e same = let is : ending.CaptureRefused file (place_of why) ≡ e = cc in subst IsRefusal is tt
-
-judged_there : (file : List ℕ) (read : Result Capture CaptureFault) (name : List ℕ) → judged file read ≡ Refused (ending.NoInput name) → ⊥
-judged_there file (Ok capture) name same = let never : ⊥ = cc in never
-judged_there file (Err why) name same = let never : ⊥ = cc in never
-
--- of a capture that is read beyond the bytes that count, those that count are read
-counted_read : (whole bytes : List ℕ) → IsReadBeyond (2 ^ 40) whole bytes → counted bytes ≡ counted whole
-counted_read whole bytes read = elim read.enough [
-  | inl same ↦ ap counted same
-  | inr long ↦ sym (ap counted read.prefix.joined ∙ take-append-le (2 ^ 40) bytes read.prefix.rest (omega arith))
-]
-
-capture_read : (whole bytes : List ℕ) → IsReadBeyond (2 ^ 40) whole bytes → capture_of bytes ≡ capture_of whole
-capture_read whole bytes read = ap (λ bs. capture_after (header_of bs) bs) (counted_read whole bytes read)
-
-opened_as : (file bytes : List ℕ) (input : Option (List ℕ)) → IsReadOf (2 ^ 40) input (Some bytes) → judged file (capture_of bytes) ≡ opened file input
-opened_as file bytes None read = absurd read
-opened_as file bytes (Some whole) read = ap (judged file) (capture_read whole bytes read)
-
--- a capture was read
-pub found_capture : (file bytes : List ℕ) (old : Outside) (found : Found Capture) (new : Outside) → DoesWithoutFault (file ∷ []) [] [] old new → SameAbsences old new
-    → IfSome old.inputs (λ files. IsReadOf (2 ^ 40) (files file) (Some bytes)) → found ≡ judged file (capture_of bytes) → Finds file (opened file) old found new
-found_capture file bytes old found new read present holds is = record {
-  does = read;
-  told = λ inputs t. is ∙ opened_as file bytes (inputs file) (told old.inputs inputs file (Some bytes) (2 ^ 40) t holds);
-  refusal = λ e same. judged_refusal file (capture_of bytes) e (sym is ∙ same);
-  absent = λ name same. absurd (judged_there file (capture_of bytes) name (sym is ∙ same));
-  present = λ other. present;
-}
 
 -- there is no capture
 lacks_capture : (file : List ℕ) (input : Option (List ℕ)) → IsReadOf (2 ^ 40) input None → Refused (ending.NoInput file) ≡ opened file input

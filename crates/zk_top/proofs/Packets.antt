@@ -1,32 +1,41 @@
 -- Packets one after another, and their items.
-use Rattle.std.proofs.Common.{◌≡◌, ℕ, ◌+◌, ◌<◌, List, [], ◌∷◌, ◌++◌, take, drop, length, get_or, sym, ap, ◌∙◌, add-one, drop-cons}
-use Rattle.std.proofs.lemmas.List.{take_more}
+use Rattle.std.proofs.Common.{◌≡◌, List, [], ◌∷◌, ◌++◌, sym, ap, ◌∙◌, append_assoc, append-nil}
+use Rattle.std.proofs.lemmas.List.Concat.{flat_map-append}
 use Rattle.zk_base.specs.declared.time.Moment.{Moment}
 use Rattle.zk_pcap.specs.declared.records.Packet.{Packet}
 use Rattle.zk_pcap.specs.NetworkTime.{later, now, now-append}
-use Rattle.zk_top.specs.Item.{items_after, seen_at}
+use Rattle.zk_top.specs.Item.{Item, items_of, items_after, seen_at}
+use Rattle.zk_top.specs.Line.{line_of, lines_of, packet_lines}
+use Rattle.zk_top.specs.Run.{IsPrefix}
 
--- the packets before, and one more
-pub next_taken : (packets : List Packet) (index : ℕ) (packet : Packet) → index < length packets → packet ≡ get_or packets index packet
-    → take (index + 1) packets ≡ take index packets ++ packet ∷ []
-next_taken packets index packet within is = take_more packets index packet within ∙ ap (λ p. take index packets ++ p ∷ []) (sym is)
+-- network time at one more packet
+pub next_now : (packets : List Packet) (time after : Moment) (packet : Packet) → time ≡ now packets → after ≡ later time packet.moment → after ≡ now (packets ++ packet ∷ [])
+next_now packets time after packet is when = when ∙ ap (λ t. later t packet.moment) is ∙ sym (now-append packets packet)
 
--- network time at the next packet
-pub next_now : (packets : List Packet) (index : ℕ) (time after : Moment) (packet : Packet) → index < length packets → packet ≡ get_or packets index packet
-    → time ≡ now (take index packets) → after ≡ later time packet.moment → after ≡ now (take (index + 1) packets)
-next_now packets index time after packet within is is_now when =
-    when ∙ (ap (λ t. later t packet.moment) is_now ∙ (sym (now-append (take index packets) packet) ∙ ap now (sym (next_taken packets index packet within is))))
+-- the items of packets, and then those of the packets behind them
+pub items_after-append : (before packets others : List Packet) → items_after before (packets ++ others) ≡ items_after before packets ++ items_after (before ++ packets) others
+items_after-append before [] others = ap (λ ps. items_after ps others) (sym (append-nil before))
+items_after-append before (packet ∷ packets) others =
+    let longer : List Packet = before ++ packet ∷ [] in
+    ap (λ (items : List Item). seen_at (now longer) packet ∷ items)
+    (items_after-append longer packets others ∙ ap (λ ps. items_after longer packets ++ items_after ps others) (append_assoc before (packet ∷ []) packets))
 
--- the item of the next packet, and those of the packets behind it
-pub next_item : (packets : List Packet) (index : ℕ) (time after : Moment) (packet : Packet) → index < length packets → packet ≡ get_or packets index packet
-    → time ≡ now (take index packets) → after ≡ later time packet.moment
-    → items_after (take index packets) (drop index packets) ≡ seen_at after packet ∷ items_after (take (index + 1) packets) (drop (index + 1) packets)
-next_item packets index time after packet within is is_now when =
-    let before : List Packet = take index packets in
-    let others : List Packet = drop (index + 1) packets in
-    let next : take (index + 1) packets ≡ before ++ packet ∷ [] = next_taken packets index packet within is in
-    let rest : drop index packets ≡ packet ∷ others = rw add-one (drop-cons packets index packet within) ∙ ap (λ p. p ∷ others) (sym is) in
-    let moment : after ≡ now (before ++ packet ∷ []) = next_now packets index time after packet within is is_now when ∙ ap now next in
-    ap (items_after before) rest
-    ∙ (ap (λ t. seen_at t packet ∷ items_after (before ++ packet ∷ []) others) (sym moment)
-    ∙ ap (λ ps. seen_at after packet ∷ items_after ps others) (sym next))
+pub items_of-append : (packets others : List Packet) → items_of (packets ++ others) ≡ items_of packets ++ items_after packets others
+items_of-append packets others = items_after-append [] packets others
+
+-- the item of one more packet
+pub next_item : (packets : List Packet) (time : Moment) (packet : Packet) → time ≡ now (packets ++ packet ∷ []) → items_of (packets ++ packet ∷ []) ≡ items_of packets ++ seen_at time packet ∷ []
+next_item packets time packet is = items_of-append packets (packet ∷ []) ∙ ap (λ t. items_of packets ++ seen_at t packet ∷ []) (sym is)
+
+-- the lines so far are the first ones of more packets
+pub lines_begin : (packets others : List Packet) → IsPrefix (packet_lines packets) (packet_lines (packets ++ others))
+lines_begin packets others = record {
+  rest = lines_of (items_after packets others);
+  joined = ap lines_of (items_of-append packets others) ∙ flat_map-append line_of (items_of packets) (items_after packets others);
+}
+
+-- the line of one more packet
+pub next_line : (packets : List Packet) (time : Moment) (packet : Packet) → time ≡ now (packets ++ packet ∷ []) → packet_lines (packets ++ packet ∷ []) ≡ packet_lines packets ++ line_of (seen_at time packet)
+next_line packets time packet is =
+    ap lines_of (next_item packets time packet is) ∙ flat_map-append line_of (items_of packets) (seen_at time packet ∷ [])
+    ∙ ap (λ text. packet_lines packets ++ text) (append-nil (line_of (seen_at time packet)))

@@ -1,5 +1,5 @@
 -- How far a program has come.
-use Rattle.std.proofs.Common.{◌≡◌, ℕ, ◌<◌, List, [], ◌∷◌, ◌++◌, length, fold, slice_get, Some, inl, inr, arith, refl, sym, ap, subst, ◌∙◌, append_assoc}
+use Rattle.std.proofs.Common.{◌≡◌, ℕ, ◌<◌, List, [], ◌∷◌, ◌++◌, length, fold, slice_get, Option, Some, inl, inr, arith, refl, sym, ap, subst, ◌∙◌, append_assoc}
 use Rattle.std.specs.List.{cons_option}
 use Rattle.std.proofs.lemmas.List.{append-nil, length-map}
 use Rattle.std.proofs.lemmas.List.Elements.{filter_map-append}
@@ -20,14 +20,23 @@ use Rattle.zk_typed.specs.World.{World, at_time, at_end}
 use Rattle.zk_top.specs.declared.replay.Replay.{Replay}
 use Rattle.zk_top.specs.declared.stop.Stop.{Stop}
 use Rattle.zk_top.specs.declared.stop.Stop.TheVariants.{NoMemory}
-use Rattle.zk_top.specs.Item.{Item}
+use Rattle.zk_pcap.specs.declared.headers.Header.{Header}
+use Rattle.zk_pcap.specs.declared.records.Packet.{Packet}
+use Rattle.zk_pcap.specs.Capture.{end_from}
+use Rattle.zk_pcap.specs.Record.{record_at}
+use Rattle.zk_pcap.specs.NetworkTime.{now}
+use Rattle.zk_top.specs.declared.capture.CaptureReader.{CaptureReader}
+use Rattle.zk_top.specs.Item.{Item, items_of, items_after, seen_at}
+use Rattle.zk_top.specs.Reading.{IsReading}
 use Rattle.zk_top.specs.Line.{line_end}
 use Rattle.zk_top.specs.Named.{named}
-use Rattle.zk_top.specs.Replay.{HasCome, after_item}
+use Rattle.zk_top.specs.Replay.{HasCome, ReplaysPart, StopsBefore, after_item}
 use Rattle.zk_top.specs.Printed.{budget, event_of, with_line_ends}
 use Rattle.zk_top.specs.Parts.{DoesAll, DoesPart, HandsOver}
 use Rattle.zk_top.specs.Run.{IsPrefix}
-use Rattle.zk_top.proofs.Doing.{prefix_all, does_both_all, does_both_part, does_part_of, out_of_memory}
+use Rattle.zk_top.proofs.Doing.{prefix_none, prefix_all, does_both_all, does_both_part, does_part_of, out_of_memory}
+use Rattle.zk_top.proofs.CaptureReading.{capture_begun, capture_begun_next}
+use Rattle.zk_top.proofs.Packets.{next_item, items_of-append}
 use Rattle.zk_top.proofs.Growth.{GoesOn, goes_on_same, goes_on_trans, bodies_add, with_line_ends-append, text_prefix}
 
 -- stopped while a prefix of what is to be said waits
@@ -167,3 +176,66 @@ pub all_said : (first : Outside) (program : Program) (world : World) (replay : R
     → DoesAll [] replay.piece.items [] mid new → DoesAll [] (with_line_ends world.lines) [] first new
 all_said first program world replay mid new come says =
     subst (λ text. DoesAll [] text [] first new) (sym come.joined) (does_both_all [] [] come.said replay.piece.items [] [] first mid new come.does says)
+
+-- Packets one after another ---------------------------------------------------------------------------------------
+
+-- one packet more
+pub fold-item : (handlers : List Handler) (world : World) (packets : List Packet) (time : Moment) (packet : Packet) → time ≡ now (packets ++ packet ∷ [])
+    → fold (after_item handlers) world (items_of (packets ++ packet ∷ [])) ≡ after_item handlers (fold (after_item handlers) world (items_of packets)) (seen_at time packet)
+fold-item handlers world packets time packet is =
+    ap (fold (after_item handlers) world) (next_item packets time packet is) ∙ fold-append (after_item handlers) world (items_of packets) (seen_at time packet ∷ [])
+
+-- the lines after the packets so far are the first ones after more
+pub packets_add : (handlers : List Handler) (world : World) (packets others : List Packet)
+    → IsPrefix (with_line_ends (fold (after_item handlers) world (items_of packets)).lines) (with_line_ends (fold (after_item handlers) world (items_of (packets ++ others))).lines)
+packets_add handlers world packets others =
+    let here : World = fold (after_item handlers) world (items_of packets) in
+    let rest : List Item = items_after packets others in
+    let comes : fold (after_item handlers) here rest ≡ fold (after_item handlers) world (items_of (packets ++ others)) =
+    sym (ap (fold (after_item handlers) world) (items_of-append packets others) ∙ fold-append (after_item handlers) world (items_of packets) rest) in
+    subst (λ (w : World). IsPrefix (with_line_ends here.lines) (with_line_ends w.lines)) comes (text_prefix here.lines (fold (after_item handlers) here rest).lines (items_add handlers here rest).prefix)
+
+-- something was done that says nothing
+pub come_on : (first : Outside) (program : Program) (world : World) (replay : Replay) (old new : Outside) → HasCome first program world.lines world replay old → DoesAll [] [] [] old new
+    → HasCome first program world.lines world replay new
+come_on first program world replay old new come does = record {
+  stands = come.stands;
+  said = come.said;
+  does = subst (λ text. DoesAll [] text [] first new) (append-nil come.said) (does_both_all [] [] come.said [] [] [] first old new come.does does);
+  joined = come.joined;
+}
+
+-- stopped where nothing is said
+pub stopped_silently : (first : Outside) (program : Program) (world : World) (replay : Replay) (old : Outside) (text : List ℕ) (stop : Stop) (new : Outside)
+    → HasCome first program world.lines world replay old → IsPrefix (with_line_ends world.lines) text → DoesPart [] [] [] old stop new → DoesPart [] text [] first stop new
+stopped_silently first program world replay old text stop new come prefix part =
+    stopped_in first program world.lines world replay old text stop new come prefix
+    (does_part_of [] [] [] replay.piece.items [] [] old stop new (prefix_all []) (prefix_none replay.piece.items) (prefix_all []) part)
+
+-- stopped on the way, behind some packets of a capture
+pub replays_part : (whole : Option (List ℕ)) (header : Header) (bytes : List ℕ) (packets : List Packet) (reader : CaptureReader) (at : Outside) (handlers : List HandlerNo)
+    (old : Replay) (before : Outside) (stop : Stop) (now : Outside) → IsReading whole header bytes packets reader at
+    → ((others : List Packet) → StopsBefore (λ program world. fold (after_item (named handlers program)) world (items_of (packets ++ others))) old before stop now)
+    → ReplaysPart whole handlers old before stop now
+replays_part whole header bytes packets reader at handlers old before stop now is stops =
+    let (all, others, ending, capture, same) = capture_begun whole header bytes packets reader at is in
+    record {
+      packets = all;
+      ending = ending;
+      all = capture;
+      stops = subst (λ ps. StopsBefore (λ program world. fold (after_item (named handlers program)) world (items_of ps)) old before stop now) (sym same) (stops others);
+    }
+
+-- stopped while the packet that stands next is replayed
+pub replays_part_next : (whole : Option (List ℕ)) (header : Header) (bytes : List ℕ) (packets : List Packet) (packet : Packet) (reader : CaptureReader) (at : Outside) (handlers : List HandlerNo)
+    (old : Replay) (before : Outside) (stop : Stop) (now : Outside) → IsReading whole header bytes packets reader at → record_at header bytes (end_from 24 packets) ≡ Some packet
+    → ((others : List Packet) → StopsBefore (λ program world. fold (after_item (named handlers program)) world (items_of ((packets ++ packet ∷ []) ++ others))) old before stop now)
+    → ReplaysPart whole handlers old before stop now
+replays_part_next whole header bytes packets packet reader at handlers old before stop now is next stops =
+    let (all, others, ending, capture, same) = capture_begun_next whole header bytes packets packet reader at is next in
+    record {
+      packets = all;
+      ending = ending;
+      all = capture;
+      stops = subst (λ ps. StopsBefore (λ program world. fold (after_item (named handlers program)) world (items_of ps)) old before stop now) (sym same) (stops others);
+    }

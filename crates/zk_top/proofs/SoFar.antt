@@ -62,7 +62,7 @@ read_more first now new bytes longer before after n far given joined =
     }
 
 -- what a read of a part has done
-does_read : (first now : Outside) (bytes : List ℕ) → IsReadSoFar first bytes now → Does [] [] [] first now
+pub does_read : (first now : Outside) (bytes : List ℕ) → IsReadSoFar first bytes now → Does [] [] [] first now
 does_read first now bytes far =
     let same : (o : Outside) → Outside = λ o. record first { reading = o.reading } in
     subst (λ o. Does [] [] [] first o) (sym far.same) (record {
@@ -73,7 +73,7 @@ does_read first now bytes far =
       starts = (does_nothing first).starts;
     })
 
-same_faults_read : (first now : Outside) (bytes : List ℕ) → IsReadSoFar first bytes now → SameFaults first now
+pub same_faults_read : (first now : Outside) (bytes : List ℕ) → IsReadSoFar first bytes now → SameFaults first now
 same_faults_read first now bytes far = record { read = ap (λ (o : Outside). o.read_faults) far.same; write = ap (λ (o : Outside). o.write_faults) far.same }
 
 -- memory ran out, or the outside failed, behind some bytes

@@ -12,6 +12,10 @@ pub data Command : Type 0 where
   ListItems : (file : List ℕ) → Command
   -- run a script over a capture
   RunScript : (file script : List ℕ) → Command
+  -- say what commands there are
+  Help : Command
+  -- say the name and the version
+  Version : Command
 
 -- the name of a file is neither empty nor like an option
 abbrev pub is_file_name : List ℕ → Bool
@@ -22,11 +26,15 @@ is_file_name (first ∷ others) = not (first == 45)
 abbrev pub words_of : Command → List (List ℕ)
 words_of (ListItems file) = codes "list" ∷ file ∷ []
 words_of (RunScript file script) = codes "run" ∷ codes "-b" ∷ codes "-r" ∷ file ∷ script ∷ []
+words_of Help = codes "--help" ∷ []
+words_of Version = codes "--version" ∷ []
 
 -- the files that it names are named so
 abbrev pub is_well_named : Command → Bool
 is_well_named (ListItems file) = is_file_name file
 is_well_named (RunScript file script) = is_file_name file && is_file_name script
+is_well_named Help = true
+is_well_named Version = true
 
 -- the words are those of this command
 abbrev pub IsCommand : List (List ℕ) → Command → Type 0
@@ -38,6 +46,8 @@ fits slot.List word = bytes_eq word (codes "list")
 fits slot.Run word = bytes_eq word (codes "run")
 fits slot.Bare word = bytes_eq word (codes "-b")
 fits slot.Read word = bytes_eq word (codes "-r")
+fits slot.Help word = bytes_eq word (codes "--help")
+fits slot.Version word = bytes_eq word (codes "--version")
 fits slot.File word = is_file_name word
 
 abbrev pub list_slots : List Slot
@@ -45,6 +55,12 @@ list_slots = slot.List ∷ slot.File ∷ []
 
 abbrev pub run_slots : List Slot
 run_slots = slot.Run ∷ slot.Bare ∷ slot.Read ∷ slot.File ∷ slot.File ∷ []
+
+abbrev pub help_slots : List Slot
+help_slots = slot.Help ∷ []
+
+abbrev pub version_slots : List Slot
+version_slots = slot.Version ∷ []
 
 -- the words are the first ones of a command with these slots
 abbrev pub begins_with : List Slot → List (List ℕ) → Bool
@@ -54,10 +70,12 @@ begins_with (slot ∷ slots) (word ∷ words) = fits slot word && begins_with sl
 
 -- the words are the first ones of some command
 abbrev pub begins : List (List ℕ) → Bool
-begins words = begins_with list_slots words || begins_with run_slots words
+begins words = begins_with list_slots words || begins_with run_slots words || begins_with help_slots words || begins_with version_slots words
 
 -- the command that the words are, if they are one
 abbrev pub command_of : List (List ℕ) → Option Command
+command_of (word ∷ []) =
+    if begins_with help_slots (word ∷ []) then Some Help else (if begins_with version_slots (word ∷ []) then Some Version else None)
 command_of (verb ∷ file ∷ []) =
     if begins_with list_slots (verb ∷ file ∷ []) then Some (ListItems file) else None
 command_of (verb ∷ bare ∷ read ∷ file ∷ script ∷ []) =
@@ -88,3 +106,5 @@ pub record IsFirstNotUnderstood (words : List (List ℕ)) (place : ℕ) : Type 0
 abbrev pub command_seen : code.Command → Command
 command_seen (variants.List file) = ListItems file.now
 command_seen (variants.Run file script) = RunScript file.now script.now
+command_seen variants.Help = Help
+command_seen variants.Version = Version

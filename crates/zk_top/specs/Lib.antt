@@ -1,3 +1,4 @@
+pub mod About
 pub mod Command
 pub mod Item
 pub mod Line
@@ -13,3 +14,4 @@ pub mod Run
 pub mod Parts
 pub mod Stop
 pub mod Bodies
+pub mod Reading

@@ -13,10 +13,10 @@ use Rattle.zk_typed.specs.declared.program.Program.{Program}
 use Rattle.zk_typed.specs.Run.{Progress, Goes, Floods}
 use Rattle.zk_top.specs.declared.found.Found.{Found}
 use Rattle.zk_top.specs.declared.found.Found.TheVariants.{Accepted, Refused}
-use Rattle.zk_top.specs.Command.{Command, ListItems, RunScript, understand}
+use Rattle.zk_top.specs.About.{help_text, version_text}
+use Rattle.zk_top.specs.Command.{Command, ListItems, RunScript, Help, Version, understand}
 use Rattle.zk_top.specs.Complaint.{complaint_of}
-use Rattle.zk_top.specs.Item.{items_of}
-use Rattle.zk_top.specs.Line.{lines_of}
+use Rattle.zk_top.specs.Line.{packet_lines}
 use Rattle.zk_top.specs.Printed.{progress_of, printed}
 use Rattle.zk_top.specs.Script.{Refusal, script_of}
 
@@ -87,7 +87,7 @@ over_capture report asked (Accepted capture) = ending_so (report capture).ending
 
 -- what a listing reports over a capture
 abbrev pub list_report : List ℕ → Capture → Report
-list_report file capture = record { ending = end_of_capture file capture.ending; said = lines_of (items_of capture.packets) }
+list_report file capture = record { ending = end_of_capture file capture.ending; said = packet_lines capture.packets }
 
 -- a listing of a file with these bytes, or of none
 abbrev pub listing : List ℕ → Option (List ℕ) → Outcome
@@ -110,6 +110,8 @@ abbrev pub outcome_of : Result Command ℕ → Files → Outcome
 outcome_of (Err word) inputs = ending_so (Usage word) [] []
 outcome_of (Ok (ListItems file)) inputs = listing file (inputs file)
 outcome_of (Ok (RunScript file script)) inputs = running file script (loaded script (inputs script)) inputs
+outcome_of (Ok Help) inputs = ending_so Done help_text []
+outcome_of (Ok Version) inputs = ending_so Done version_text []
 
 abbrev pub outcome : List (List ℕ) → Files → Outcome
 outcome words inputs = outcome_of (understand words) inputs

@@ -10,6 +10,10 @@ pub enum Command<'a> {
     List { file: &'a [u8] },
     /// `run -b -r FILE SCRIPT`: a script over a capture, without the default scripts.
     Run { file: &'a [u8], script: &'a [u8] },
+    /// `--help`: what commands there are.
+    Help,
+    /// `--version`: the name and the version.
+    Version,
 }
 
 /// A word of a command.
@@ -23,6 +27,10 @@ enum Slot {
     Bare,
     /// `-r`
     Read,
+    /// `--help`
+    Help,
+    /// `--version`
+    Version,
     /// The name of a file.
     File,
 }
@@ -33,6 +41,12 @@ const LIST: [Slot; 2] = [Slot::List, Slot::File];
 /// The words of `run -b -r FILE SCRIPT`.
 const RUN: [Slot; 5] = [Slot::Run, Slot::Bare, Slot::Read, Slot::File, Slot::File];
 
+/// The word of `--help`.
+const HELP: [Slot; 1] = [Slot::Help];
+
+/// The word of `--version`.
+const VERSION: [Slot; 1] = [Slot::Version];
+
 /// The command that the words are, or the number of the first word that isn't understood: the least
 /// n such that words 0 to n begin no command, or the number of words.
 pub fn read_command(words: &[Word]) -> Result<Command<'_>, usize>
@@ -41,6 +55,8 @@ pub fn read_command(words: &[Word]) -> Result<Command<'_>, usize>
         (λ word. understand words.now ≡ Err word) }
 {
     match words {
+        [_] if begin_with(&HELP, words) => Ok(Command::Help),
+        [_] if begin_with(&VERSION, words) => Ok(Command::Version),
         [_, file] if begin_with(&LIST, words) => Ok(Command::List {
             file: file.as_slice(),
         }),
@@ -67,7 +83,10 @@ fn first_not_understood(words: &[Word]) -> usize
 fn begin(words: &[Word]) -> bool
     ensures { result ≡ begins words.now }
 {
-    begin_with(&LIST, words) || begin_with(&RUN, words)
+    begin_with(&LIST, words)
+        || begin_with(&RUN, words)
+        || begin_with(&HELP, words)
+        || begin_with(&VERSION, words)
 }
 
 /// Whether words are the first ones of a command with these slots.
@@ -91,6 +110,8 @@ fn is_for(word: &Word, slot: Slot) -> bool
         Slot::Run => word.as_slice() == b"run".as_slice(),
         Slot::Bare => word.as_slice() == b"-b".as_slice(),
         Slot::Read => word.as_slice() == b"-r".as_slice(),
+        Slot::Help => word.as_slice() == b"--help".as_slice(),
+        Slot::Version => word.as_slice() == b"--version".as_slice(),
         Slot::File => is_file_name(word),
     }
 }

@@ -6,6 +6,7 @@ ghost use Rattle.zk_top.specs.Outcome.{outcome, outcome_of};
 ghost use Rattle.zk_top.specs.Parts.{IsOfCommand, Fulfils, BreaksOff};
 ghost use Rattle.zk_top.specs.Run.{IsNotStopped, IsDone, StaysWithin, SameFaults, SameAbsences, SameComplaints};
 
+use crate::about::{help, version};
 use crate::command::{Command, read_command};
 use crate::complaint::complain;
 use crate::listing::list;
@@ -89,5 +90,7 @@ fn perform<S: Shelf>(alloc: Global, command: Command<'_>, shelf: &mut S) -> Resu
     match command {
         Command::List { file } => list(alloc, shelf, file),
         Command::Run { file, script } => run_script(alloc, shelf, file, script),
+        Command::Help => help(shelf),
+        Command::Version => version(shelf),
     }
 }

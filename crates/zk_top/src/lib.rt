@@ -1,12 +1,14 @@
 //! The whole of zeekoff, over any outside: from the words of the command line to the ending.
 #![tactic(auto)]
 
+mod about;
 mod bodies;
 mod capture;
 mod command;
 mod complaint;
 mod entry;
 mod found;
+mod front;
 mod line;
 mod listing;
 mod lowering;

@@ -1,10 +1,11 @@
 ghost use Rattle.std.specs.Prelude.{◌≡◌, ◌++◌, decimal, OnOk};
 ghost use Rattle.zk_top.specs.Line.{line_of, fields_of, tab};
+ghost use Rattle.zk_pcap.specs.View.{packet_of};
 ghost use Rattle.zk_top.specs.Item.{seen_at, what_seen};
 
 use std::alloc::AllocError;
 use zk_base::Moment;
-use zk_pcap::Packet;
+use zk_pcap::PacketView;
 use zk_value::{push_count, push_span};
 
 /// Adds a tab and the decimal digits of a number.
@@ -16,8 +17,8 @@ fn push_count_field(out: &mut Vec<u8>, n: u64) -> Result<(), AllocError>
 }
 
 /// Adds what is seen of a packet, each field with a tab before it.
-fn push_packet_fields(out: &mut Vec<u8>, packet: &Packet) -> Result<(), AllocError>
-    ensures ok { OnOk result (out.new.items ≡ out.old.items ++ fields_of (what_seen packet.now)) }
+fn push_packet_fields(out: &mut Vec<u8>, packet: PacketView<'_>) -> Result<(), AllocError>
+    ensures ok { OnOk result (out.new.items ≡ out.old.items ++ fields_of (what_seen (packet_of packet.entry))) }
 {
     out.extend_from_slice(b"\tpacket\t")?;
     push_span(out, packet.moment.0)?;
@@ -26,8 +27,12 @@ fn push_packet_fields(out: &mut Vec<u8>, packet: &Packet) -> Result<(), AllocErr
 }
 
 /// Adds the line of a packet that is seen at a network time.
-pub fn push_packet_line(out: &mut Vec<u8>, now: Moment, packet: &Packet) -> Result<(), AllocError>
-    ensures ok { OnOk result (out.new.items ≡ out.old.items ++ line_of (seen_at now packet.now)) }
+pub fn push_packet_line(
+    out: &mut Vec<u8>,
+    now: Moment,
+    packet: PacketView<'_>,
+) -> Result<(), AllocError>
+    ensures ok { OnOk result (out.new.items ≡ out.old.items ++ line_of (seen_at now (packet_of packet.entry))) }
 {
     push_span(out, now.0)?;
     push_packet_fields(out, packet)?;

@@ -1,5 +1,6 @@
 ghost use Rattle.std.specs.Prelude.{◌≡◌, ◌≤◌, ◌+◌, [], ◌++◌, length, OnOk, IfErr};
 ghost use Rattle.zk_top.specs.Line.{line_end};
+ghost use Rattle.zk_top.specs.Reading.{SameInput};
 ghost use Rattle.zk_top.specs.Parts.{DoesAll, DoesPart, HandsOver};
 
 use crate::stop::{Stop, written};
@@ -16,6 +17,7 @@ const ROOM: usize = 128;
 pub fn make_room<S: Shelf>(shelf: &mut S, piece: &mut Vec<u8>) -> Result<(), Stop>
     ensures room { OnOk result (length piece.new.items + ROOM ≤ PIECE) }
     ensures said { OnOk result (HandsOver (S.outside shelf.old) piece.old.items (S.outside shelf.new) piece.new.items) }
+    ensures input { OnOk result (SameInput (S.outside shelf.old) (S.outside shelf.new)) }
     ensures stopped { IfErr result (λ stop. DoesPart [] piece.old.items [] (S.outside shelf.old) stop (S.outside shelf.new)) }
 {
     if PIECE - ROOM < piece.len() {
@@ -28,6 +30,7 @@ pub fn make_room<S: Shelf>(shelf: &mut S, piece: &mut Vec<u8>) -> Result<(), Sto
 /// Adds a line and its end to a piece, which is said before where it is nearly full.
 pub fn push_line<S: Shelf>(shelf: &mut S, piece: &mut Vec<u8>, line: &[u8]) -> Result<(), Stop>
     ensures said { OnOk result (HandsOver (S.outside shelf.old) (piece.old.items ++ (line.now ++ line_end)) (S.outside shelf.new) piece.new.items) }
+    ensures input { OnOk result (SameInput (S.outside shelf.old) (S.outside shelf.new)) }
     ensures stopped { IfErr result (λ stop. DoesPart [] piece.old.items [] (S.outside shelf.old) stop (S.outside shelf.new)) }
 {
     make_room(shelf, piece)?;
@@ -47,6 +50,7 @@ fn append_line(piece: &mut Vec<u8>, line: &[u8]) -> Result<(), AllocError>
 /// Says a piece on standard output, where there is anything to say.
 pub fn say<S: Shelf>(shelf: &mut S, piece: &[u8]) -> Result<(), Stop>
     ensures said { OnOk result (DoesAll [] piece.now [] (S.outside shelf.old) (S.outside shelf.new)) }
+    ensures input { OnOk result (SameInput (S.outside shelf.old) (S.outside shelf.new)) }
     ensures stopped { IfErr result (λ stop. DoesPart [] piece.now [] (S.outside shelf.old) stop (S.outside shelf.new)) }
 {
     if piece.is_empty() {

@@ -1,24 +1,26 @@
-ghost use Rattle.std.specs.Prelude.{◌≡◌, ◌<◌, ℕ, List, [], ◌∷◌, map, fold, length, IfOk, OnOk, IfErr};
+ghost use Rattle.std.specs.Prelude.{◌≡◌, ◌<◌, ℕ, List, Option, [], ◌∷◌, map, length, IfOk, OnOk, IfErr};
 ghost use Rattle.zk_base.specs.Shelf.{Outside};
 ghost use Rattle.zk_machine.specs.Lowered.{lowered};
 ghost use Rattle.zk_machine.specs.Standing.{code_of};
-ghost use Rattle.zk_pcap.specs.NetworkTime.{now as network_time};
+ghost use Rattle.zk_pcap.specs.View.{packet_of};
 ghost use Rattle.zk_typed.specs.declared.program.Program.{Program};
 ghost use Rattle.zk_typed.specs.Run.{handlers_of, bodies};
 ghost use Rattle.zk_typed.specs.World.{World, first_world, at_time};
 ghost use Rattle.zk_value.specs.Plain.{value_of, line_in};
-ghost use Rattle.zk_top.specs.Item.{seen_at, items_of};
+ghost use Rattle.zk_pcap.specs.declared.headers.Header.{Header as HeaderData};
+ghost use Rattle.zk_top.specs.Item.{seen_at};
+ghost use Rattle.zk_top.specs.Reading.{IsReading, IsUnderWay, SameInput, SaysAll, SaysPart};
 ghost use Rattle.zk_top.specs.Named.{named, AreIn};
 ghost use Rattle.zk_top.specs.Printed.{budget, printed, with_line_ends};
-ghost use Rattle.zk_top.specs.Parts.{DoesAll, DoesPart};
+ghost use Rattle.zk_top.specs.Parts.{DoesPart};
 
-use crate::capture::later;
+use crate::capture::{CaptureReader, later};
 use crate::output::{PIECE, push_line, say};
 use crate::stop::Stop;
 use std::alloc::Global;
 use zk_base::{EventNo, HandlerNo, Mem, Moment, Shelf};
 use zk_machine::Machine;
-use zk_pcap::Packet;
+use zk_pcap::PacketView;
 use zk_typed::{PACKET_SEEN, ZEEK_DONE, ZEEK_INIT};
 use zk_value::{Code, Out, Value};
 
@@ -34,7 +36,7 @@ pub struct Replay {
 
 impl Replay {
     ghost use Rattle.zk_top.specs.Handlers.{AreHandlers, AreWithin};
-    ghost use Rattle.zk_top.specs.Replay.{HasCome, GoesTo, StopsBefore, after_item};
+    ghost use Rattle.zk_top.specs.Replay.{HasCome, GoesTo, ReplaysAll, ReplaysPart, StopsBefore, after_item};
 
     /// A program at its beginning.
     fn new(alloc: Global, code: Code) -> Result<Replay, Mem>
@@ -53,6 +55,7 @@ impl Replay {
             → HasCome first program world.lines world self.new (S.outside shelf.new)) }
         ensures stopped { IfErr result (λ stop. (first : Outside) (program : Program) (taken : List (List ℕ)) (world : World) → HasCome first program taken world self.old (S.outside shelf.old)
             → DoesPart [] (with_line_ends world.lines) [] first stop (S.outside shelf.new)) }
+        ensures input { OnOk result (SameInput (S.outside shelf.old) (S.outside shelf.new)) }
         ensures code { code_of self.new.machine ≡ code_of self.old.machine }
     {
         while let Some(out) = self.machine.out() {
@@ -73,6 +76,7 @@ impl Replay {
             self.old (S.outside shelf.old) self.new (S.outside shelf.new)) }
         ensures stopped { IfErr result (λ stop. StopsBefore (λ program world. bodies (map value_of args.now) budget world (named (handler ∷ []) program))
             self.old (S.outside shelf.old) stop (S.outside shelf.new)) }
+        ensures input { OnOk result (SameInput (S.outside shelf.old) (S.outside shelf.new)) }
         ensures code { code_of self.new.machine ≡ code_of self.old.machine }
     {
         self.machine.body(handler, args, BUDGET)?;
@@ -91,6 +95,7 @@ impl Replay {
             self.old (S.outside shelf.old) self.new (S.outside shelf.new)) }
         ensures stopped { IfErr result (λ stop. StopsBefore (λ program world. bodies (map value_of args.now) budget world (named handlers.now program))
             self.old (S.outside shelf.old) stop (S.outside shelf.new)) }
+        ensures input { OnOk result (SameInput (S.outside shelf.old) (S.outside shelf.new)) }
         ensures code { code_of self.new.machine ≡ code_of self.old.machine }
     {
         for handler in handlers {
@@ -113,13 +118,14 @@ impl Replay {
         shelf: &mut S,
         handlers: &[HandlerNo],
         time: Moment,
-        packet: &Packet,
+        packet: PacketView<'_>,
     ) -> Result<(), Stop>
         requires { AreIn (code_of self.old.machine) handlers.now }
-        ensures came { OnOk result (GoesTo (λ program world. after_item (named handlers.now program) world (seen_at time packet.now))
+        ensures came { OnOk result (GoesTo (λ program world. after_item (named handlers.now program) world (seen_at time (packet_of packet.entry)))
             self.old (S.outside shelf.old) self.new (S.outside shelf.new)) }
-        ensures stopped { IfErr result (λ stop. StopsBefore (λ program world. after_item (named handlers.now program) world (seen_at time packet.now))
+        ensures stopped { IfErr result (λ stop. StopsBefore (λ program world. after_item (named handlers.now program) world (seen_at time (packet_of packet.entry)))
             self.old (S.outside shelf.old) stop (S.outside shelf.new)) }
+        ensures input { OnOk result (SameInput (S.outside shelf.old) (S.outside shelf.new)) }
         ensures code { code_of self.new.machine ≡ code_of self.old.machine }
     {
         let args = [
@@ -136,20 +142,24 @@ impl Replay {
         &mut self,
         shelf: &mut S,
         handlers: &[HandlerNo],
-        packets: &[Packet],
+        chunk: &mut [u8],
+        reader: &mut CaptureReader,
     ) -> Result<Moment, Stop>
-        requires { AreIn (code_of self.old.machine) handlers.now }
-        ensures last { IfOk result (λ last. last ≡ network_time packets.now) }
-        ensures came { OnOk result (GoesTo (λ program world. fold (after_item (named handlers.now program)) world (items_of packets.now))
-            self.old (S.outside shelf.old) self.new (S.outside shelf.new)) }
-        ensures stopped { IfErr result (λ stop. StopsBefore (λ program world. fold (after_item (named handlers.now program)) world (items_of packets.now))
-            self.old (S.outside shelf.old) stop (S.outside shelf.new)) }
+        requires handlers { AreIn (code_of self.old.machine) handlers.now }
+        requires room { 0 < length chunk.old }
+        requires under_way { IsUnderWay reader.old (S.outside shelf.old) }
+        ensures came { IfOk result (λ last. (whole : Option (List ℕ)) (header : HeaderData) (bytes : List ℕ) → IsReading whole header bytes [] reader.old (S.outside shelf.old)
+            → ReplaysAll whole header handlers.now self.old (S.outside shelf.old) last self.new reader.new (S.outside shelf.new)) }
+        ensures stopped { IfErr result (λ stop. (whole : Option (List ℕ)) (header : HeaderData) (bytes : List ℕ) → IsReading whole header bytes [] reader.old (S.outside shelf.old)
+            → ReplaysPart whole handlers.now self.old (S.outside shelf.old) stop (S.outside shelf.new)) }
         ensures code { code_of self.new.machine ≡ code_of self.old.machine }
     {
         let mut now = Moment(0);
-        for packet in packets {
+        'packets: while reader.fill(shelf, chunk)? {
+            let packet = reader.packet();
             now = later(now, packet.moment);
             self.handle_packet(shelf, handlers, now, packet)?;
+            reader.advance();
         }
         Ok(now)
     }
@@ -159,16 +169,21 @@ impl Replay {
         &mut self,
         shelf: &mut S,
         handlers: &Handlers,
-        packets: &[Packet],
+        chunk: &mut [u8],
+        reader: &mut CaptureReader,
     ) -> Result<(), Stop>
-        requires { AreWithin (code_of self.old.machine) handlers.now }
-        ensures said { OnOk result ((first : Outside) (program : Program) → AreHandlers program handlers.now → HasCome first program [] first_world self.old (S.outside shelf.old)
-            → DoesAll [] (printed program packets.now) [] first (S.outside shelf.new)) }
-        ensures stopped { IfErr result (λ stop. (first : Outside) (program : Program) → AreHandlers program handlers.now → HasCome first program [] first_world self.old (S.outside shelf.old)
-            → DoesPart [] (printed program packets.now) [] first stop (S.outside shelf.new)) }
+        requires handlers { AreWithin (code_of self.old.machine) handlers.now }
+        requires room { 0 < length chunk.old }
+        requires under_way { IsUnderWay reader.old (S.outside shelf.old) }
+        ensures said { OnOk result ((first : Outside) (program : Program) (whole : Option (List ℕ)) (header : HeaderData) (bytes : List ℕ) → AreHandlers program handlers.now
+            → HasCome first program [] first_world self.old (S.outside shelf.old) → IsReading whole header bytes [] reader.old (S.outside shelf.old)
+            → SaysAll whole header (printed program) first reader.new (S.outside shelf.new)) }
+        ensures stopped { IfErr result (λ stop. (first : Outside) (program : Program) (whole : Option (List ℕ)) (header : HeaderData) (bytes : List ℕ) → AreHandlers program handlers.now
+            → HasCome first program [] first_world self.old (S.outside shelf.old) → IsReading whole header bytes [] reader.old (S.outside shelf.old)
+            → SaysPart whole (printed program) first stop (S.outside shelf.new)) }
     {
         self.dispatch(shelf, &handlers.init, &[])?;
-        let last = self.handle_packets(shelf, &handlers.seen, packets)?;
+        let last = self.handle_packets(shelf, &handlers.seen, chunk, reader)?;
         self.set_time(last);
         self.dispatch(shelf, &handlers.done, &[])?;
         say(shelf, &self.piece)
@@ -236,15 +251,18 @@ fn handler_number(n: usize) -> Result<HandlerNo, Mem>
 pub fn replay_packets<S: Shelf>(
     alloc: Global,
     shelf: &mut S,
+    chunk: &mut [u8],
     code: Code,
-    packets: &[Packet],
+    reader: &mut CaptureReader,
 ) -> Result<(), Stop>
-    ensures said { OnOk result ((program : Program) → code ≡ lowered program
-        → DoesAll [] (printed program packets.now) [] (S.outside shelf.old) (S.outside shelf.new)) }
-    ensures stopped { IfErr result (λ stop. (program : Program) → code ≡ lowered program
-        → DoesPart [] (printed program packets.now) [] (S.outside shelf.old) stop (S.outside shelf.new)) }
+    requires room { 0 < length chunk.old }
+    requires under_way { IsUnderWay reader.old (S.outside shelf.old) }
+    ensures said { OnOk result ((program : Program) (whole : Option (List ℕ)) (header : HeaderData) (bytes : List ℕ) → code ≡ lowered program
+        → IsReading whole header bytes [] reader.old (S.outside shelf.old) → SaysAll whole header (printed program) (S.outside shelf.old) reader.new (S.outside shelf.new)) }
+    ensures stopped { IfErr result (λ stop. (program : Program) (whole : Option (List ℕ)) (header : HeaderData) (bytes : List ℕ) → code ≡ lowered program
+        → IsReading whole header bytes [] reader.old (S.outside shelf.old) → SaysPart whole (printed program) (S.outside shelf.old) stop (S.outside shelf.new)) }
 {
     let handlers = Handlers::of(alloc, &code)?;
     let mut replay = Replay::new(alloc, code)?;
-    replay.run(shelf, &handlers, packets)
+    replay.run(shelf, &handlers, chunk, reader)
 }

@@ -54,7 +54,7 @@ const RUN: &[u8] = b"run -b -r c.pcap s.zeek";
 
 /// A command line, the bytes of `c.pcap`, the text of `s.zeek`, the status, and what is said and
 /// complained.
-const ROWS: [(&[u8], &[u8], &[u8], u8, &[u8], &[u8]); 30] = [
+const ROWS: [(&[u8], &[u8], &[u8], u8, &[u8], &[u8]); 33] = [
     (b"list c.pcap", &HEADER, b"", 0, b"", b""),
     (
         b"list c.pcap",
@@ -282,6 +282,23 @@ const ROWS: [(&[u8], &[u8], &[u8], u8, &[u8], &[u8]); 30] = [
         b"",
         b"zeekoff: word 1 is not understood\n",
     ),
+    (b"--version", b"", b"", 0, b"zeekoff 0.1.0\n", b""),
+    (
+        b"--help x",
+        b"",
+        b"",
+        1,
+        b"",
+        b"zeekoff: word 1 is not understood\n",
+    ),
+    (
+        b"list --help",
+        b"",
+        b"",
+        1,
+        b"",
+        b"zeekoff: word 1 is not understood\n",
+    ),
     (
         b"run -b -r c.pcap s.zeek t.zeek",
         &HEADER,
@@ -340,9 +357,9 @@ fn a_run_over_a_failing_shelf_stops_with_the_fault_of_the_failed_call(
         many.extend_from_slice(&[0; 16])?;
     }
     let rows: [(&[u8], &[u8], &[u8]); 4] = [
-        // start, two reads, and then a piece at a time; a script is started and read twice before
-        (b"list c.pcap", &many, &[5, 5, 5, 6, 6, 6, 0]),
-        (RUN, &many, &[5, 5, 5, 5, 5, 5, 6, 6, 6, 6, 0]),
+        // a start, and then a piece at a time is read, and said; a script is started and read twice before
+        (b"list c.pcap", &many, &[5, 5, 6, 5, 6, 5, 6, 0]),
+        (RUN, &many, &[5, 5, 5, 5, 5, 6, 6, 5, 6, 5, 6, 0]),
         // a piece, and then the complaint
         (b"list c.pcap", &CUT, &[5, 5, 5, 6, 6, 4]),
         // nothing is said or complained
@@ -366,7 +383,10 @@ fn a_run_over_a_failing_shelf_stops_with_the_fault_of_the_failed_call(
                 "call {call} fails"
             );
             let written = shelf.said().len() + shelf.complained().len();
-            assert!(rt; *status != 5 || written == 0, "call {call} fails");
+            assert!(rt;
+                *status != 5 || shelf.complained().is_empty(),
+                "call {call} fails"
+            );
             assert!(rt; *status != 6 || written < all, "call {call} fails");
         }
         assert_eq!(rt; statuses.last(), Some(&whole));

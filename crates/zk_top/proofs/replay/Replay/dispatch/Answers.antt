@@ -27,6 +27,7 @@ loop-handler-preserved g c =
             left_more args program number (drop index numbers) (drop (index + 1) numbers) far.0 whole rest far.2,
           );
       code = c.run_body.ensures.code ∙ c.loop-handler.invariant.code;
+      input = (c.in_ok-run_body.ensures.input.0 ∙ c.loop-handler.invariant.input.0, c.in_ok-run_body.ensures.input.1 ∙ c.loop-handler.invariant.input.1);
     }
 
 pub returns-in_err-run_body-clause-stopped : goal.returns-in_err-run_body-clause-stopped

@@ -6,6 +6,7 @@ use Rattle.zk_typed.specs.Run.{bodies}
 use Rattle.zk_typed.specs.World.{World}
 use Rattle.zk_value.specs.Plain.{value_of}
 use Rattle.zk_top.specs.Named.{named}
+use Rattle.zk_top.specs.Reading.{SameInput}
 use Rattle.zk_top.specs.Replay.{HasCome}
 use Rattle.zk_top.specs.Printed.{budget}
 use Rattle.zk_top.proofs.ReplayLemmas.{IsLeft}
@@ -18,4 +19,5 @@ invariant-loop-handler g l = record {
       → (at : World) × HasCome first program at.lines at l.self (g.S.Shelf.outside l.shelf)
       × IsLeft (map value_of l.args) program (drop l.handler-index l.handlers) at (bodies (map value_of l.args) budget world (named l.handlers program));
   code : code_of l.self.machine ≡ code_of l.initial.self.machine;
+  input : SameInput (g.S.Shelf.outside l.initial.shelf) (g.S.Shelf.outside l.shelf);
 }

@@ -1,21 +1,25 @@
-use Rattle.std.proofs.Common.{◌≡◌, fold, take, drop}
-use Rattle.zk_base.specs.Shelf.{Outside}
+use Rattle.std.proofs.Common.{◌≡◌, ◌-◌, ◌^◌, ℕ, List, [], Option, fold}
 use Rattle.zk_machine.specs.Standing.{code_of}
+use Rattle.zk_pcap.specs.declared.headers.Header.{Header}
+use Rattle.zk_pcap.specs.declared.records.Packet.{Packet}
 use Rattle.zk_pcap.specs.NetworkTime.{now}
-use Rattle.zk_typed.specs.declared.program.Program.{Program}
-use Rattle.zk_typed.specs.World.{World}
-use Rattle.zk_top.specs.Item.{items_of, items_after}
+use Rattle.zk_top.specs.Item.{items_of}
 use Rattle.zk_top.specs.Named.{named}
-use Rattle.zk_top.specs.Replay.{HasCome, after_item}
+use Rattle.zk_top.specs.Reading.{IsReading, IsUnderWay}
+use Rattle.zk_top.specs.Replay.{GoesTo, after_item}
 use Rattle.zk_top.proofs.replay.Replay.handle_packets.Given as goal
 
--- what the packets that are left do from here is what all of them do
-abbrev pub invariant-loop-packet : goal.invariant-loop-packet
-invariant-loop-packet g l = record {
-  is_now : l.now ≡ now (take l.packet-index l.packets);
-  came : (first : Outside) (program : Program) (world : World) → HasCome first program world.lines world l.initial.self (g.S.Shelf.outside l.initial.shelf)
-      → (at : World) × HasCome first program at.lines at l.self (g.S.Shelf.outside l.shelf)
-      × (fold (after_item (named l.handlers program)) at (items_after (take l.packet-index l.packets) (drop l.packet-index l.packets))
-      ≡ fold (after_item (named l.handlers program)) world (items_of l.packets));
+-- the packets so far were replayed
+abbrev pub invariant-packets : goal.invariant-packets
+invariant-packets g l = record {
+  under_way : IsUnderWay l.reader (g.S.Shelf.outside l.shelf);
+  goes_on : (whole : Option (List ℕ)) (header : Header) (bytes : List ℕ) → IsReading whole header bytes [] l.initial.reader (g.S.Shelf.outside l.initial.shelf)
+      → (longer : List ℕ) × (packets : List Packet) × IsReading whole header longer packets l.reader (g.S.Shelf.outside l.shelf) × (l.now ≡ now packets)
+      × GoesTo (λ program world. fold (after_item (named l.handlers program)) world (items_of packets))
+      l.initial.self (g.S.Shelf.outside l.initial.shelf) l.self (g.S.Shelf.outside l.shelf);
   code : code_of l.self.machine ≡ code_of l.initial.self.machine;
 }
+
+-- the bytes that count and aren't passed become fewer
+abbrev pub decreases-packets : goal.decreases-packets
+decreases-packets g l = 2 ^ 41 - l.reader.feed.place

@@ -29,6 +29,7 @@ loop-out-preserved g c =
           subst (λ l. StandsFor c.out.new.self program (far.0 ++ l ∷ []) world) (sym c.line_in.ensures) (c.in-Some.ensures.some program far.0 world far.1.stands) in
           (far.0 ++ line ∷ [], line_taken first program far.0 world c.loop-out.self after mid new line far.1 stands c.in_ok-push_line.ensures.said);
       code = c.out.ensures.code ∙ c.loop-out.invariant.code;
+      input = (c.in_ok-push_line.ensures.input.0 ∙ c.loop-out.invariant.input.0, c.in_ok-push_line.ensures.input.1 ∙ c.loop-out.invariant.input.1);
     }
 
 pub returns-clause-came : goal.returns-clause-came

@@ -1,0 +1,40 @@
+ghost use Rattle.std.specs.Prelude.{[], IfOk, IfErr};
+ghost use Rattle.zk_base.specs.declared.endings.Ending.TheVariants.{Done};
+ghost use Rattle.zk_top.specs.About.{help_text, version_text};
+ghost use Rattle.zk_top.specs.Outcome.{ending_so};
+ghost use Rattle.zk_top.specs.Parts.{BreaksOff, Fulfils, IsOfCommand};
+
+use crate::output::say;
+use crate::stop::Stop;
+use zk_base::{Ending, Shelf};
+
+/// Says what commands there are.
+pub fn help<S: Shelf>(shelf: &mut S) -> Result<Ending, Stop>
+    ensures done { IfOk result (λ ending. Fulfils (λ _. ending_so Done help_text []) [] (S.outside shelf.old) ending (S.outside shelf.new)) }
+    ensures command { IfOk result IsOfCommand }
+    ensures stopped { IfErr result (λ stop. BreaksOff (λ _. ending_so Done help_text []) (S.outside shelf.old) stop (S.outside shelf.new)) }
+{
+    answer(
+        shelf,
+        b"zeekoff list FILE: a line for each item of the capture FILE\nzeekoff run -b -r FILE SCRIPT: runs SCRIPT over the capture FILE (-r), without the default scripts (-b)\nzeekoff --help: this text\nzeekoff --version: the name and the version\n",
+    )
+}
+
+/// Says the name and the version.
+pub fn version<S: Shelf>(shelf: &mut S) -> Result<Ending, Stop>
+    ensures done { IfOk result (λ ending. Fulfils (λ _. ending_so Done version_text []) [] (S.outside shelf.old) ending (S.outside shelf.new)) }
+    ensures command { IfOk result IsOfCommand }
+    ensures stopped { IfErr result (λ stop. BreaksOff (λ _. ending_so Done version_text []) (S.outside shelf.old) stop (S.outside shelf.new)) }
+{
+    answer(shelf, b"zeekoff 0.1.0\n")
+}
+
+/// Says a text, and that is all.
+fn answer<S: Shelf>(shelf: &mut S, text: &[u8]) -> Result<Ending, Stop>
+    ensures done { IfOk result (λ ending. Fulfils (λ _. ending_so Done text.now []) [] (S.outside shelf.old) ending (S.outside shelf.new)) }
+    ensures command { IfOk result IsOfCommand }
+    ensures stopped { IfErr result (λ stop. BreaksOff (λ _. ending_so Done text.now []) (S.outside shelf.old) stop (S.outside shelf.new)) }
+{
+    say(shelf, text)?;
+    Ok(Ending::Done)
+}

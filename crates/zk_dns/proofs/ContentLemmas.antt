@@ -19,7 +19,7 @@ use Rattle.zk_dns.specs.declared.parts.AnswerPart.{AnswerPart}
 use Rattle.zk_dns.specs.declared.record.Answer.{Answer}
 use Rattle.zk_dns.specs.Parts.{answer_part, parts_of, question_part}
 use Rattle.zk_dns.specs.Record.{answer_of}
-use Rattle.zk_dns.specs.Text.{HasName, text_at}
+use Rattle.zk_dns.specs.Text.{HasDataNames, HasName, text_at}
 use Rattle.zk_dns.proofs.TextLemmas.{has-run, run-inside}
 use Rattle.std.proofs.lemmas.Bool.{true≢false}
 use Rattle.zk_dns.proofs.DataLaws.{passed}
@@ -423,3 +423,28 @@ answers-named bytes n place =
     (λ at resource next found.
     let (name, what, name_read, within, said, resource_is, next_is) = resource-read bytes.now at resource next found in
     subst (λ (r : Resource). HasName bytes.now r.name) (sym resource_is) (rw name_read refl)) n place)
+
+-- where data of class 1 can be read, its type says what it is
+data-inside : (bytes : List ℕ) (type class at len : ℕ) (what : AnswerKind) → class ≡ 1 → data_at bytes type class at len ≡ Ok what → IsOk (data_of bytes type at len)
+unfolding data_at
+data-inside bytes type class at len what is said =
+    let same : data_at bytes type class at len ≡ data_of bytes type at len = rw is refl in
+    rw (sym same ∙ said) refl
+
+-- the names in the data of each answer can be read
+pub answers-data-named : (bytes : Bor (List ℕ)) (n place : ℕ)
+    → All (HasDataNames bytes.now) (map (answer_part bytes) (parts_of (several (resource_at bytes.now) n place)))
+answers-data-named bytes n place =
+    All-from_recursion (HasDataNames bytes.now) (map (answer_part bytes) (parts_of (several (resource_at bytes.now) n place)))
+    (several-each (resource_at bytes.now) (answer_part bytes) (HasDataNames bytes.now)
+    (λ at resource next found.
+    let (inside, said, len_is) = resource-says bytes.now at resource next found in
+    let ok : resource.rclass ≡ 1 → IsOk (data_of bytes.now resource.rtype resource.at resource.len) =
+    λ is. data-inside bytes.now resource.rtype resource.rclass resource.at resource.len resource.what is said in
+    record {
+      alone = λ class type. (kind-name bytes.now resource.rtype resource.at resource.len type inside (ok class)).0;
+      exchange = λ class type. (kind-mx bytes.now resource.rtype resource.at resource.len type inside (ok class)).0;
+      primary = λ class type. soa-first bytes.now resource.at (resource.at + resource.len) inside (kind-soa bytes.now resource.rtype resource.at resource.len type (ok class)).0;
+      mailbox = λ class type behind ends. soa-second bytes.now resource.at (resource.at + resource.len) behind inside
+          (kind-soa bytes.now resource.rtype resource.at resource.len type (ok class)).0 ends;
+    }) n place)

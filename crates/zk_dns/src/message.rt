@@ -60,7 +60,7 @@ impl<'a> Message<'a> {
     ghost use Rattle.zk_dns.specs.Parts.{answers_in, questions_in};
     ghost use Rattle.zk_dns.specs.Record.{IsMessage, record_of};
     ghost use Rattle.zk_dns.specs.Sections.{answer_count, question_count, sections_of};
-    ghost use Rattle.zk_dns.specs.Text.{HasName, text_at};
+    ghost use Rattle.zk_dns.specs.Text.{HasDataNames, HasName, text_at};
     ghost use Rattle.zk_dns.specs.Views.{message_bytes};
 
     /// Reads a message (RFC 1035, section 4.1; RFC 3596): a header of 12 bytes, the questions, and the
@@ -88,12 +88,13 @@ impl<'a> Message<'a> {
     pub fn answers(&self) -> Answers<'a>
         ensures parts { answers_left result ≡ answers_in (message_bytes self.now) (sections_of (message_bytes self.now).now) }
         ensures names { All (λ part. HasName (message_bytes self.now).now part.name) (answers_left result) }
+        ensures data_names { All (HasDataNames (message_bytes self.now).now) (answers_left result) }
     {
         Answers::new(self.bytes, self.answers, self.answer_count())
     }
 
     /// The name at a place as text: its labels in ASCII lower case, joined by dots; the root is a dot.
-    /// A part's `name` is such a place.
+    /// A part's `name` is such a place, and so is the place of a name in its data.
     pub fn name_out(&self, alloc: Global, place: usize) -> Result<Bytes, Mem>
         requires { HasName (message_bytes self.now).now place }
         ensures { IfOk result (λ text. text_at (message_bytes self.now).now place ≡ Ok text) }

@@ -1,4 +1,4 @@
-ghost use Rattle.std.specs.Prelude.{◌≡◌, ℕ, ◌+◌, ◌-◌, ◌*◌, ◌%◌, ◌<◌, ◌≤◌, true, ◌++◌, length, None, IsSome, MatchOption, IfOk, OnOk, OnErr};
+ghost use Rattle.std.specs.Prelude.{◌≡◌, ℕ, ◌+◌, ◌-◌, ◌*◌, ◌%◌, ◌<◌, ◌≤◌, true, ◌++◌, length, None, IsSome, MatchOption, IfOk, IfSome, IfNone, OnSome, OnOk, OnErr};
 ghost use Rattle.std.specs.Option.{option_or};
 ghost use Rattle.zk_reasm.specs.Between.{held_between, bytes_between};
 ghost use Rattle.zk_reasm.specs.PageTable.{AreWithin};
@@ -64,6 +64,11 @@ impl Pages {
         ensures count { IfOk result (λ count. count + held_between (byte_paged self.old) at (at + length bytes.now) ≡ length bytes.now) }
         ensures err { OnErr result ((place : ℕ) → byte_paged self.new place ≡ byte_paged self.old place) }
     {
+        if at % PAGE + bytes.len() as u64 <= PAGE
+            && let Some(count) = self.try_fill_page(at, bytes)
+        {
+            return Ok(count);
+        }
         self.make_room(at, at + bytes.len() as u64)?;
         Ok(self.fill(at, bytes))
     }
@@ -96,9 +101,25 @@ impl Pages {
         ensures count { result + held_between (byte_paged self.old) at (at + length bytes.now) ≡ length bytes.now }
         ensures pages { (place : ℕ) → IsSome (page_of self.old place) → IsSome (page_of self.new place) }
     {
-        match self.pages.get_mut(&((at / PAGE) as u32)) {
-            Some(page) => page.fill((at % PAGE) as usize, bytes),
+        match self.try_fill_page(at, bytes) {
+            Some(count) => count,
             None => unreachable!(),
+        }
+    }
+
+    /// Puts bytes where nothing is yet, on one page, if it is there.
+    fn try_fill_page(&mut self, at: u64, bytes: &[u8]) -> Option<usize>
+        requires place { at ≤ PLACES }
+        requires within { at % PAGE_LEN + length bytes.now ≤ PAGE_LEN }
+        ensures bytes { OnSome result ((place : ℕ) → byte_paged self.new place ≡ option_or (byte_paged self.old place) (byte_in at bytes.now place)) }
+        ensures count { IfSome result (λ count. count + held_between (byte_paged self.old) at (at + length bytes.now) ≡ length bytes.now) }
+        ensures pages { OnSome result ((place : ℕ) → IsSome (page_of self.old place) → IsSome (page_of self.new place)) }
+        ensures none { IfNone result (page_of self.old at ≡ None) }
+        ensures same { IfNone result ((place : ℕ) → byte_paged self.new place ≡ byte_paged self.old place) }
+    {
+        match self.pages.get_mut(&((at / PAGE) as u32)) {
+            Some(page) => Some(page.fill((at % PAGE) as usize, bytes)),
+            None => None,
         }
     }
 

@@ -1,6 +1,6 @@
 use Rattle.std.proofs.Common.{◌∙◌, ap, sym, map, is_ok}
 use Rattle.zk_dns.specs.Parts.{answer_part, answers_in, parts_of}
-use Rattle.zk_dns.proofs.ContentLemmas.{answers-named}
+use Rattle.zk_dns.proofs.ContentLemmas.{answers-named, answers-data-named}
 use Rattle.zk_dns.proofs.MessageLaws.{sections-read}
 use Rattle.zk_dns.proofs.message.Message.answers.Goals as goal
 
@@ -16,3 +16,6 @@ returns-clause-parts c =
 
 pub returns-clause-names : goal.returns-clause-names
 returns-clause-names c = rw c.new.ensures (answers-named _ c.answer_count.result _)
+
+pub returns-clause-data_names : goal.returns-clause-data_names
+returns-clause-data_names c = rw c.new.ensures (answers-data-named _ c.answer_count.result _)

@@ -9,7 +9,7 @@ use Rattle.zk_pcap.specs.declared.headers.Header.{Header}
 use Rattle.zk_pcap.specs.declared.records.Packet.{Packet}
 use Rattle.zk_pcap.specs.Capture.{StandBetween}
 use Rattle.zk_pcap.specs.Header.{number_of}
-use Rattle.zk_pcap.specs.Record.{record_by, record_at, is_too_long_by, is_too_long}
+use Rattle.zk_pcap.specs.Record.{IsBounded, record_by, record_at, is_too_long_by, is_too_long}
 use Rattle.zk_pcap.specs.View.{packet_of}
 
 -- The feed is one of a file with this header, has got these bytes of it, and has gone on behind these packets: it holds
@@ -30,6 +30,12 @@ abbrev pub is_packet : Next → Bool
 is_packet (next.Packet view) = true
 is_packet next.NeedMore = false
 is_packet (next.Bad place) = false
+
+-- a packet that stands next keeps to the limits
+abbrev pub NextIsBounded : Next → Type 0
+NextIsBounded (next.Packet view) = IsBounded (packet_of view)
+NextIsBounded next.NeedMore = Unit {0}
+NextIsBounded (next.Bad place) = Unit {0}
 
 -- what stands at a place of a file: a record that is whole, the front of one, or one that is too long
 abbrev pub IsNext : Header → List ℕ → ℕ → Next → Type 0

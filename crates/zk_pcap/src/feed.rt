@@ -49,7 +49,7 @@ pub struct Feed {
 
 impl Feed {
     ghost use Rattle.zk_base.specs.ByteQueue.{bytes_of};
-    ghost use Rattle.zk_pcap.specs.Standing.{StandsFor, IsNext, first_record, is_packet, RestIs};
+    ghost use Rattle.zk_pcap.specs.Standing.{StandsFor, IsNext, NextIsBounded, first_record, is_packet, RestIs};
 
     /// The records of a file with this header, of which no byte behind the header has come yet. No
     /// memory is taken.
@@ -80,6 +80,7 @@ impl Feed {
     pub fn next(&self) -> Next<'_>
         ensures next { (header : HeaderData) (file : List ℕ) (packets : List PacketData) → StandsFor self.now header file packets
             → IsNext header file (end_from 24 packets) result }
+        ensures limits { NextIsBounded result }
         ensures packet { is_packet result ≡ true ↔ IsSome (first_record self.now) }
     {
         if self.big {
@@ -116,11 +117,12 @@ impl Feed {
 
 impl Feed {
     ghost use Rattle.zk_base.specs.ByteQueue.{bytes_of};
-    ghost use Rattle.zk_pcap.specs.Standing.{first_record, IsFirst};
+    ghost use Rattle.zk_pcap.specs.Standing.{first_record, IsFirst, NextIsBounded};
 
     /// What stands next where the numbers of the file stand in the order `T`.
     fn next_in<T: ByteOrder>(&self) -> Next<'_>
-        ensures { IsFirst T.number_of self.now.nano (bytes_of self.now.held) self.now.place result }
+        ensures first { IsFirst T.number_of self.now.nano (bytes_of self.now.held) self.now.place result }
+        ensures limits { NextIsBounded result }
     {
         let held = self.held.as_slice();
         match PacketView::read::<T>(held, 0, self.nano) {

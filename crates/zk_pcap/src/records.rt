@@ -1,6 +1,6 @@
-ghost use Rattle.std.specs.Prelude.{◌≡◌, ◌+◌, ◌<◌, ◌≤◌, ◌^◌, length, drop, IfOk, IfSome};
+ghost use Rattle.std.specs.Prelude.{◌≡◌, ◌+◌, ◌<◌, ◌≤◌, ◌^◌, ℕ, pos, length, drop, IfOk, IfSome};
 ghost use Rattle.std.specs.Option.{option_map};
-ghost use Rattle.zk_pcap.specs.Record.{end_of, is_too_long_by, moment_of, record_by};
+ghost use Rattle.zk_pcap.specs.Record.{IsBounded, end_of, is_too_long_by, moment_of, record_by};
 ghost use Rattle.zk_pcap.specs.View.{packet_of};
 
 use byteorder::ByteOrder;
@@ -67,6 +67,7 @@ impl<'a> PacketView<'a> {
         ensures record { option_map packet_of result ≡ record_by T.number_of nano file.now place }
         ensures place { IfSome result (λ view. (packet_of view).place ≡ place) }
         ensures within { IfSome result (λ view. end_of (packet_of view) ≤ length file.now) }
+        ensures limits { IfSome result (λ view. IsBounded (packet_of view)) }
     {
         if file.len() - place < RECORD_HEADER_LEN {
             return None;
@@ -112,7 +113,8 @@ impl<'a> PacketView<'a> {
 
 /// The moment of a second and a fraction of it.
 fn moment_of(nano: bool, seconds: u32, fraction: u32) -> Moment
-    ensures { result ≡ moment_of nano seconds fraction }
+    ensures moment { result ≡ moment_of nano seconds fraction }
+    ensures bound { (micros : ℕ) × (micros < 2 ^ 62) × (result ≡ record { 0 = pos micros }) }
 {
     let microseconds = if nano { fraction / 1_000 } else { fraction };
     Moment((u64::from(seconds) * 1_000_000 + u64::from(microseconds)) as i64)

@@ -43,3 +43,15 @@ def seconds(program, folder, told, rounds):
         if status:
             sys.exit(f"{sys.argv[0]}: the program ended with status {status}")
     return statistics.median(times)
+
+
+def peak(program, folder, told):
+    """The most memory that the program held, in bytes."""
+    with open(os.path.join(folder, "told"), "wb") as file:
+        file.write(told)
+    running = subprocess.Popen([program], cwd=folder)
+    _, status, used = os.wait4(running.pid, 0)
+    running.returncode = os.waitstatus_to_exitcode(status)
+    if status:
+        sys.exit(f"{sys.argv[0]}: the program ended with status {running.returncode}")
+    return used.ru_maxrss * 1024

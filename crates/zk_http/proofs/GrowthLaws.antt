@@ -26,7 +26,7 @@ unit_at_stays from (Gives used what) late unit stays is = ap (unit_at from) stay
 unit_at_stays from (Refuses used why) late unit stays is = ap (unit_at from) stays ∙ is
 
 -- the head before a place that was reached has the length that it had
-header_stays : (early late : Stream) (units : List MessageUnit) → Grows early late → place units ≤ length early.places
+pub header_stays : (early late : Stream) (units : List MessageUnit) → Grows early late → place units ≤ length early.places
     → header_length late units ≡ header_length early units
 header_stays early late units grows reached =
     ap (λ places. text_length (bytes_before_gap (drop (place (take (length units - 1) units)) (take (place units) places)))) grows.places

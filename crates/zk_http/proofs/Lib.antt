@@ -10,3 +10,14 @@ pub mod ReadLaws
 pub mod Rows
 pub mod SearchLaws
 pub mod UnitLaws
+pub mod FollowLaws
+pub mod TurnLaws
+pub mod UntilLaws
+pub mod ChunkedLaws
+pub mod GapLaws
+pub mod HeadTurnLaws
+pub mod HalfLaws
+pub mod PairLaws
+pub mod AnswerLaws
+pub mod StepLaws
+pub mod StandingLaws

@@ -190,7 +190,7 @@ shortest_stays ends bytes more n found =
     (λ k below. ap ends (take-append-le k bytes more (omega arith))) found)
 
 -- of bytes that go on, as many are taken from the front, and others behind them where there is room
-take_grows : (limit : ℕ) (bytes more : List ℕ) → (others : List ℕ) × (take limit (bytes ++ more) ≡ take limit bytes ++ others)
+pub take_grows : (limit : ℕ) (bytes more : List ℕ) → (others : List ℕ) × (take limit (bytes ++ more) ≡ take limit bytes ++ others)
 take_grows zero bytes more = ([], refl)
 take_grows (suc limit) [] more = (take (suc limit) more, refl)
 take_grows (suc limit) (first ∷ bytes) more =

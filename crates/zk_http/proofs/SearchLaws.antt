@@ -350,10 +350,11 @@ feed_ahead search ending bytes ahead knows first passes =
     )
 
 -- a search that found none has looked through all
-pub knows_all : (search : Search) (ending : Ending) (bytes : List ℕ) → Knows search ending bytes
+pub knows_all : (search passed : Search) (ending : Ending) (bytes : List ℕ) → Knows search ending bytes
     → Nowhere (Passes (is_byte line_feed) (unseen bytes search.seen)) 0 (length (unseen bytes search.seen))
-    → Knows (record { seen = length bytes; line = search.line; lines = search.lines; text = search.text }) ending bytes
-knows_all search ending bytes knows nowhere =
+    → passed.seen ≡ length bytes → passed.line ≡ search.line → passed.lines ≡ search.lines → passed.text ≡ search.text
+    → Knows passed ending bytes
+knows_all search passed ending bytes knows nowhere seen_is line_is lines_is text_is =
     let up : UpTo search ending bytes (length bytes) = record {
       knows = knows;
       from = knows.seen;
@@ -366,15 +367,15 @@ knows_all search ending bytes knows nowhere =
     record {
       seen = omega arith;
       line = omega (arith, knows.line, knows.seen);
-      counts = record {
+      counts = subst (λ line. Counts passed (take line bytes)) (sym line_is) (record {
         whole = knows.counts.whole;
-        lines = knows.counts.lines;
-        text = knows.counts.text;
-        few_lines = knows.counts.few_lines;
-        short = knows.counts.short;
-      };
-      no_end = λ k low high. no_end_up_to search ending bytes (length bytes) up (omega arith) k low high;
-      none = λ k le. by_place k le (le_or k search.seen) up;
+        lines = lines_is ∙ knows.counts.lines;
+        text = text_is ∙ knows.counts.text;
+        few_lines = omega (arith, knows.counts.few_lines);
+        short = omega (arith, knows.counts.short);
+      });
+      no_end = λ k low high. no_end_up_to search ending bytes (length bytes) up (omega arith) k (omega arith) (omega arith);
+      none = λ k le. by_place k (omega arith) (le_or k search.seen) up;
     }
   where
     le_or : (a b : ℕ) → (a ≤ b) ⊎ (b < a)

@@ -31,7 +31,7 @@ judge_decides side text =
     either_decides (nat_lt 100 (header_lines text)) (refuses TooManyHeaders) (head_or_bad (head_of side text))
     (refuses_decides TooManyHeaders) (head_or_bad_decides (head_of side text))
 
-head_decides : (side : Side) → Decides (head side)
+pub head_decides : (side : Side) → Decides (head side)
 head_decides side = then_decides (until ends_head head_limit HeadTooLong) (judge side) (until_decides ends_head head_limit HeadTooLong) (judge_decides side)
 
 -- ---- chunks
@@ -40,17 +40,17 @@ size_or_bad_decides : (found : Option ℕ) → Decides (size_or_bad found)
 size_or_bad_decides None = refuses_decides ChunkBad
 size_or_bad_decides (Some size) = gives_decides size
 
-chunk_line_decides : Decides chunk_line
+pub chunk_line_decides : Decides chunk_line
 chunk_line_decides =
     then_decides (until ends_line chunk_line_limit ChunkBad) (λ text. size_or_bad (size_of text))
     (until_decides ends_line chunk_line_limit ChunkBad) (λ text. size_or_bad_decides (size_of text))
 
-line_break_decides : Decides line_break
+pub line_break_decides : Decides line_break
 line_break_decides =
     then_decides (exactly carriage_return ChunkBad) (λ _. exactly line_feed ChunkBad) (exactly_decides carriage_return ChunkBad)
     (λ _. exactly_decides line_feed ChunkBad)
 
-trailer_decides : Decides trailer
+pub trailer_decides : Decides trailer
 trailer_decides = until_decides ends_section head_limit ChunkBad
 
 chunk_decides : (others : Amount → Reads Amount) → ((amount : Amount) → Decides (others amount))

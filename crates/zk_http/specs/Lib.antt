@@ -9,3 +9,12 @@ pub mod Cases
 pub mod Units
 pub mod Growth
 pub mod Grammar
+pub mod Reading
+pub mod HalfStanding
+pub mod HalfTurns
+pub mod Standing
+pub mod Found
+pub mod Turns
+pub mod Starts
+pub mod HeadTurns
+pub mod Pairing

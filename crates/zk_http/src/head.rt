@@ -1,9 +1,13 @@
-ghost use Rattle.std.specs.Prelude.{◌≡◌, ◌≤◌, length, map, All, IfOk};
+ghost use Rattle.std.specs.Prelude.{◌≡◌, ◌<◌, ◌≤◌, length, map, take, All, IfOk};
 ghost use Rattle.httparse.specs.Spans.{IsHeaderWithin, header_bytes};
 ghost use Rattle.zk_base.specs.declared.network.Side.TheVariants.{Orig, Resp};
-ghost use Rattle.zk_http.specs.Heads.{head_of, header_lines};
+ghost use Rattle.zk_http.specs.HeadTurns.{IsTold, IsToldWithin, judged};
+ghost use Rattle.zk_http.specs.Heads.{from_start, head_limit, head_of, header_lines};
+ghost use Rattle.zk_http.specs.Lines.{before_feeds};
+ghost use Rattle.zk_http.specs.Search.{Knows};
 
-use crate::{Head, Start};
+use crate::search::{Ending, Found, Search};
+use crate::{Head, Reason, Start, UnitKind};
 use httparse::Status;
 use httparse::spans::{EMPTY_HEADER_SPAN, HeaderSpan, parse_request, parse_response};
 use std::alloc::Global;
@@ -32,8 +36,7 @@ fn headers_of(
 
 /// The head of a request that a whole text is, if it is one.
 fn request_of(alloc: Global, text: &[u8]) -> Result<Option<Head>, Mem>
-    requires { header_lines text.now ≤ 100 }
-    ensures { IfOk result (λ head. head ≡ head_of Side.Orig text.now) }
+    ensures { header_lines text.now ≤ 100 → IfOk result (λ head. head ≡ head_of Side.Orig text.now) }
 {
     let mut spans = [EMPTY_HEADER_SPAN; HEADERS_MAX];
     let Ok(status) = parse_request(text, &mut spans) else {
@@ -58,8 +61,7 @@ fn request_of(alloc: Global, text: &[u8]) -> Result<Option<Head>, Mem>
 
 /// The head of a response that a whole text is, if it is one.
 fn response_of(alloc: Global, text: &[u8]) -> Result<Option<Head>, Mem>
-    requires { header_lines text.now ≤ 100 }
-    ensures { IfOk result (λ head. head ≡ head_of Side.Resp text.now) }
+    ensures { header_lines text.now ≤ 100 → IfOk result (λ head. head ≡ head_of Side.Resp text.now) }
 {
     let mut spans = [EMPTY_HEADER_SPAN; HEADERS_MAX];
     let Ok(status) = parse_response(text, &mut spans) else {
@@ -83,11 +85,63 @@ fn response_of(alloc: Global, text: &[u8]) -> Result<Option<Head>, Mem>
 
 /// The head of a request or of a response that a whole text is, if it is one (RFC 9112, sections 2 to 5).
 pub fn head_of(alloc: Global, side: Side, text: &[u8]) -> Result<Option<Head>, Mem>
-    requires { header_lines text.now ≤ 100 }
-    ensures { IfOk result (λ head. head ≡ head_of side text.now) }
+    ensures { header_lines text.now ≤ 100 → IfOk result (λ head. head ≡ head_of side text.now) }
 {
     match side {
         Side::Orig => request_of(alloc, text),
         Side::Resp => response_of(alloc, text),
+    }
+}
+
+/// What the bytes of a head come to.
+#[derive(Debug, Drop)]
+pub enum Told {
+    /// The first of them, so many, whose lines have so many bytes, show this.
+    Is {
+        len: usize,
+        text: usize,
+        what: UnitKind,
+    },
+    /// More have to come.
+    Waits {
+        search: Search,
+    },
+}
+
+/// What a whole candidate of a head is, by what a search counted of it.
+fn judge(alloc: Global, side: Side, search: Search, text: &[u8]) -> Result<UnitKind, Mem>
+    ensures { search.lines ≡ length (from_start (before_feeds text.now)) → IfOk result (λ what. what ≡ judged side text.now) }
+{
+    if search.lines > HEADERS_MAX + 2 {
+        return Ok(UnitKind::Violation(Reason::TooManyHeaders));
+    }
+    match head_of(alloc, side, text)? {
+        Some(head) => Ok(UnitKind::Head(head)),
+        None => Ok(UnitKind::Violation(Reason::HeadBad)),
+    }
+}
+
+/// Reads a head with the empty lines before it, which was looked through so far.
+pub fn read_head(alloc: Global, side: Side, search: Search, bytes: &[u8]) -> Result<Told, Mem>
+    requires seen { search.seen ≤ length bytes.now }
+    requires most { search.seen < head_limit }
+    ensures told { Knows search Ending.Head (take head_limit bytes.now) → IfOk result (λ told. IsTold side bytes.now told) }
+    ensures counts { IfOk result (λ told. IsToldWithin (length bytes.now) told) }
+{
+    match search.find_within(Ending::Head, bytes) {
+        Found::Ends { search, len } => {
+            let what = judge(alloc, side, search, &bytes[..len])?;
+            Ok(Told::Is {
+                len,
+                text: search.text,
+                what,
+            })
+        }
+        Found::TooLong { limit } => Ok(Told::Is {
+            len: limit,
+            text: 0,
+            what: UnitKind::Violation(Reason::HeadTooLong),
+        }),
+        Found::Waits { search } => Ok(Told::Waits { search }),
     }
 }

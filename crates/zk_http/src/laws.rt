@@ -1,5 +1,6 @@
 ghost use Rattle.zk_http.specs.Grammar.{AreRequests, AreResponses, AreSizes};
 ghost use Rattle.zk_http.specs.Growth.{AreFirstUnits, ArePatient, IsGivenAgain, IsInStream};
+ghost use Rattle.zk_http.specs.Standing.{LookWithin, StandAsTheyGrow};
 
 /// What heads and chunk lines are, by the grammar that `httparse` states (RFC 9112, sections 2 to 5 and
 /// 7.1). There is nothing to run.
@@ -30,4 +31,13 @@ pub fn units_stay()
 
     // Where no unit is Unpaired, the units are those where sides may wait.
     ensures patient { ArePatient }
+{}
+
+/// What a reader stands for as streams come, in the subject's own words. There is nothing to run.
+pub fn readers_stand()
+    // A reader that stands for streams stands for them when they have grown.
+    ensures grows { StandAsTheyGrow }
+
+    // A reader uses and looks at places that are there, and was told to have ended what has.
+    ensures within { LookWithin }
 {}

@@ -3,12 +3,17 @@
 
 mod body;
 mod chunk;
+mod half;
 mod head;
+mod http;
 mod laws;
 mod search;
+mod state;
 #[cfg(test)]
 mod tests;
+mod turn;
 mod units;
 
-pub use laws::{heads_and_chunk_lines, units_stay};
-pub use units::{Head, Reason, Start, Unit, UnitKind};
+pub use http::Http;
+pub use laws::{heads_and_chunk_lines, readers_stand, units_stay};
+pub use units::{Head, Reason, Start, Step, Unit, UnitKind};

@@ -70,3 +70,12 @@ pub enum Reason {
     /// A place that a head, a chunk line, the line end behind a chunk or a trailer needs is a gap.
     Gap = 8,
 }
+
+/// What a call has read.
+#[derive(Debug, Drop)]
+pub struct Step {
+    /// How many of the bytes and places that it was given it has used.
+    pub used: usize,
+    /// The side's next unit, if there is one.
+    pub unit: Option<Unit>,
+}

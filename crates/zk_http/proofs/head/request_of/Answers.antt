@@ -5,26 +5,26 @@ use Rattle.zk_http.proofs.HeadLaws.{nothing_found, request_answered, request_par
 use Rattle.zk_http.proofs.head.request_of.Goals as goal
 
 pub returns-in_default : goal.returns-in_default
-returns-in_default c =
+returns-in_default c few =
     let text = c.args.text.now in
     let over = failed (RequestOverflows 100 text) c.parse_request.result c.in_default.field-0 c.in_default.is c.parse_request.ensures.no_room in
-    nothing_found _ (request_overflows text over c.requires)
+    nothing_found _ (request_overflows text over few)
 
 pub returns-in_default-status : goal.returns-in_default-status
-returns-in_default-status c =
+returns-in_default-status c few =
     let text = c.args.text.now in
     let none = partly (HasNoRequest text) c.parse_request.result c.in-Ok.status c.in-Ok.is c.in_default-status.is c.parse_request.ensures.partial in
     nothing_found _ (request_nowhere text none)
 
 pub returns-then-request-text : goal.returns-then-request-text
-returns-then-request-text c =
+returns-then-request-text c few =
     let text = c.args.text.now in
     let spans = c.parse_request.new.headers in
     let is = completed (IsRequestOf text spans) c.parse_request.result c.in-Ok.status c.in-Complete.request c.in-Ok.is c.in-Complete.is c.parse_request.ensures.complete in
     nothing_found _ (request_partly text spans c.in-Complete.request is (omega arith) (λ same. omega arith))
 
 pub returns : goal.returns
-returns c =
+returns c few =
     let text = c.args.text.now in
     let spans = c.parse_request.new.headers in
     let is = completed (IsRequestOf text spans) c.parse_request.result c.in-Ok.status c.in-Complete.request c.in-Ok.is c.in-Complete.is c.parse_request.ensures.complete in

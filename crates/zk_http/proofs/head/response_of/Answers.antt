@@ -5,26 +5,26 @@ use Rattle.zk_http.proofs.HeadLaws.{nothing_found, response_answered, response_p
 use Rattle.zk_http.proofs.head.response_of.Goals as goal
 
 pub returns-in_default : goal.returns-in_default
-returns-in_default c =
+returns-in_default c few =
     let text = c.args.text.now in
     let over = failed (ResponseOverflows 100 text) c.parse_response.result c.in_default.field-0 c.in_default.is c.parse_response.ensures.no_room in
-    nothing_found _ (response_overflows text over c.requires)
+    nothing_found _ (response_overflows text over few)
 
 pub returns-in_default-status : goal.returns-in_default-status
-returns-in_default-status c =
+returns-in_default-status c few =
     let text = c.args.text.now in
     let none = partly (HasNoResponse text) c.parse_response.result c.in-Ok.status c.in-Ok.is c.in_default-status.is c.parse_response.ensures.partial in
     nothing_found _ (response_nowhere text none)
 
 pub returns-then-response-text : goal.returns-then-response-text
-returns-then-response-text c =
+returns-then-response-text c few =
     let text = c.args.text.now in
     let spans = c.parse_response.new.headers in
     let is = completed (IsResponseOf text spans) c.parse_response.result c.in-Ok.status c.in-Complete.response c.in-Ok.is c.in-Complete.is c.parse_response.ensures.complete in
     nothing_found _ (response_partly text spans c.in-Complete.response is (omega arith) (λ same. omega arith))
 
 pub returns : goal.returns
-returns c =
+returns c few =
     let text = c.args.text.now in
     let spans = c.parse_response.new.headers in
     let is = completed (IsResponseOf text spans) c.parse_response.result c.in-Ok.status c.in-Complete.response c.in-Ok.is c.in-Complete.is c.parse_response.ensures.complete in

@@ -1,0 +1,8 @@
+use Rattle.zk_http.proofs.StandingLaws.{look_within, stand_as_they_grow}
+use Rattle.zk_http.proofs.laws.readers_stand.Goals as goal
+
+pub returns-clause-grows : goal.returns-clause-grows
+returns-clause-grows c = stand_as_they_grow
+
+pub returns-clause-within : goal.returns-clause-within
+returns-clause-within c = look_within

@@ -3,10 +3,11 @@ ghost use Rattle.zk_machine.specs.Meant.{world_of, evaluated, evaluated_all, exe
 ghost use Rattle.zk_machine.specs.Steps.{with_units, Gives, GivesLine, Stops, gone_on, Halts, Ends};
 
 use crate::halt::Halt;
-use crate::texts::{push_bool, push_separator, push_value};
+use crate::texts::{push_bool, push_separator};
 use std::alloc::Global;
 use std::collections::VecDeque;
 use zk_base::{Bytes, Mem, Moment};
+use zk_builtin::push_value;
 use zk_typed::{BodyEnd, FaultKind};
 use zk_value::{Operand, Print, Value, push_count, push_span};
 

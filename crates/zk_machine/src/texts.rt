@@ -1,10 +1,8 @@
 ghost use Rattle.std.specs.Prelude.{◌≡◌, ◌==◌, ◌++◌, [], codes, OnOk, if◌then◌else◌};
 ghost use Rattle.zk_tree.specs.Value.{Bool};
 ghost use Rattle.zk_typed.specs.Text.{text_of};
-ghost use Rattle.zk_value.specs.Plain.{value_of};
 
 use std::alloc::AllocError;
-use zk_value::{Value, push_count, push_span};
 
 /// Adds what stands before a value of a line: nothing before the first, and `, ` before another.
 pub fn push_separator(line: &mut Vec<u8>, number: usize) -> Result<(), AllocError>
@@ -21,16 +19,4 @@ pub fn push_bool(line: &mut Vec<u8>, truth: bool) -> Result<(), AllocError>
     ensures { OnOk result (line.new.items ≡ line.old.items ++ text_of (Bool truth)) }
 {
     line.extend_from_slice(if truth { b"T" } else { b"F" })
-}
-
-/// Adds the text of a value as `print` writes it (Zeek manual, Statements, print).
-pub fn push_value(line: &mut Vec<u8>, value: &Value) -> Result<(), AllocError>
-    ensures { OnOk result (line.new.items ≡ line.old.items ++ text_of (value_of value.now)) }
-{
-    match value {
-        Value::Bool(truth) => push_bool(line, *truth),
-        Value::Count(count) => push_count(line, *count),
-        Value::String(bytes) => line.extend_from_slice(bytes.as_slice()),
-        Value::Time(moment) => push_span(line, moment.0),
-    }
 }

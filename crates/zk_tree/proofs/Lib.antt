@@ -1,1 +1,4 @@
 mod Rows
+mod TableRows
+pub mod TurnLaws
+pub mod ValueLaws

@@ -4,3 +4,4 @@ pub mod Log
 pub mod World
 pub mod Exec
 pub mod Run
+pub mod BuiltIns

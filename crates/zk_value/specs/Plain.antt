@@ -1,16 +1,27 @@
 -- Values without where they lie in memory.
-use Rattle.std.specs.Prelude.{List, ℕ}
+use Rattle.std.specs.Prelude.{List, ℕ, map}
 use Rattle.zk_tree.specs.Value as plain
 use Rattle.zk_value.specs.declared.value.Value.{Value}
-use Rattle.zk_value.specs.declared.value.Value.TheVariants.{Bool, Count, String, Time}
+use Rattle.zk_value.specs.declared.value.Value.TheVariants.{Bool, Count, Int, String, Time, Interval, Addr, Port, Subnet, Enum, Object}
 use Rattle.zk_value.specs.declared.out.Out.{Out}
 use Rattle.zk_value.specs.declared.out.Out.TheVariants.{Line}
 
 abbrev pub value_of : Value → plain.Value
 value_of (Bool truth) = plain.Bool truth
 value_of (Count count) = plain.Count count
+value_of (Int int) = plain.Int int
 value_of (String bytes) = plain.String bytes
 value_of (Time moment) = plain.Time moment
+value_of (Interval span) = plain.Interval span
+value_of (Addr address) = plain.Addr address
+value_of (Port port proto) = plain.Port port proto
+value_of (Subnet prefix width) = plain.Subnet prefix width
+value_of (Enum word) = plain.Enum word
+value_of (Object number) = plain.Object number
+
+-- the plain values of a key
+abbrev pub key_of : List Value → List plain.Value
+key_of key = map value_of key
 
 -- the line that is given out
 abbrev pub line_in : Out → List ℕ

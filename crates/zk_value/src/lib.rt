@@ -2,13 +2,19 @@
 #![tactic(auto)]
 
 mod code;
+mod key;
+mod laws;
 mod out;
+mod shared;
 mod texts;
 mod value;
 
 pub use code::{Code, HandlerCode, Operand, Print};
+pub use key::Key;
+pub use laws::equal_keys;
 pub use out::Out;
-pub use texts::{push_count, push_span};
+pub use shared::SharedBytes;
+pub use texts::{push_addr, push_count, push_int, push_port, push_span, push_subnet};
 pub use value::Value;
 
 #[cfg(test)]

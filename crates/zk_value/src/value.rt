@@ -1,4 +1,6 @@
-use zk_base::{Bytes, Moment};
+use crate::shared::SharedBytes;
+use std::hash::{Hash, Hasher};
+use zk_base::{Addr, Moment, ObjectNo, Proto, Span};
 
 /// A value that a script computes with (Zeek manual, Types).
 #[derive(Debug, PartialEq, Eq, Drop)]
@@ -7,8 +9,55 @@ pub enum Value {
     Bool(bool),
     /// A number from 0 to 2^64 - 1.
     Count(u64),
+    /// A number from -2^63 to 2^63 - 1.
+    Int(i64),
     /// Bytes of any kind.
-    String(Bytes),
+    String(SharedBytes),
     /// A point in time, in microseconds since the epoch.
     Time(Moment),
+    /// A length of time, in microseconds.
+    Interval(Span),
+    /// An address of an internet host.
+    Addr(Addr),
+    /// A port of a transport protocol.
+    Port { port: u16, proto: Proto },
+    /// An IPv4 prefix, as the number that its bytes make in network order, and its width in bits.
+    Subnet { prefix: u32, width: u8 },
+    /// A word of an enum, by its name as `print` writes it.
+    Enum(SharedBytes),
+    /// A record, a vector, a set or a table.
+    Object(ObjectNo),
+}
+
+impl Hash for Value {
+    ghost use Rattle.std.specs.Hash.{same_Alike};
+    ghost use Rattle.std.specs.Cmp.Rules.{hashing};
+    ghost use Rattle.std.proofs.Common.{rules};
+    ghost use Rattle.zk_value.specs.Hashed.{hashed};
+
+    ghost hash_input = { hashed };
+
+    ghost respects_eq = { Prim.search (hashing, rules) };
+
+    fn hash<H: Hasher>(&self, state: &mut H) {
+        match self {
+            Value::Bool(truth) => truth.hash(state),
+            Value::Count(count) => count.hash(state),
+            Value::Int(int) => int.hash(state),
+            Value::String(bytes) => state.write(bytes.as_slice()),
+            Value::Time(moment) => moment.0.hash(state),
+            Value::Interval(span) => span.0.hash(state),
+            Value::Addr(address) => address.hash(state),
+            Value::Port { port, proto } => {
+                port.hash(state);
+                proto.hash(state);
+            }
+            Value::Subnet { prefix, width } => {
+                prefix.hash(state);
+                width.hash(state);
+            }
+            Value::Enum(word) => state.write(word.as_slice()),
+            Value::Object(number) => number.0.hash(state),
+        }
+    }
 }

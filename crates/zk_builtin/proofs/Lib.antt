@@ -1,0 +1,4 @@
+pub mod FindLemmas
+pub mod FormatLemmas
+pub mod JoinLemmas
+pub mod NumberLemmas

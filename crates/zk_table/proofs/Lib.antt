@@ -1,0 +1,11 @@
+pub mod ChangeLemmas
+pub mod EntryLemmas
+pub mod FindLemmas
+pub mod IndexLemmas
+pub mod KeptLemmas
+pub mod MomentLemmas
+pub mod OperationLemmas
+pub mod SearchLemmas
+pub mod SlotLemmas
+pub mod TableLemmas
+pub mod TurnLemmas

@@ -1,0 +1,17 @@
+use Rattle.std.proofs.Common.{length, ◌-◌, ◌/◌, ◌<◌, arith}
+use Rattle.zk_table.proofs.IndexLemmas.{refreshed_up, refreshed_top, same_length}
+use Rattle.zk_table.proofs.index.reorder.Goals as goal
+
+pub loop-at-preserved : goal.loop-at-preserved
+loop-at-preserved c =
+    let kept = same_length c.args.slots.now c.loop-at.firsts c.loop-at.at c.loop-at.invariant.0 in
+    let long : (c.loop-at.at - 1) / 2 < length c.refresh.new.firsts = rw c.refresh.ensures (omega (arith, kept, c.loop-at.invariant.0)) in (
+      long,
+      λ all. rw c.refresh.ensures
+          (refreshed_up c.args.slots.now c.loop-at.firsts c.loop-at.at c.loop-at.invariant.0 (omega arith) (c.loop-at.invariant.1 all)),
+    )
+
+pub returns : goal.returns
+returns c = λ all.
+    rw c.refresh-2.ensures
+    (refreshed_top c.args.slots.now c.loop-at.firsts c.loop-at.at c.loop-at.invariant.0 (omega arith) (c.loop-at.invariant.1 all))

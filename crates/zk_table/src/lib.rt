@@ -1,0 +1,14 @@
+//! The tables and sets of scripts: entries in the order of insertion, found by key and by the moment at
+//! which they expire.
+#![tactic(auto)]
+
+mod entries;
+mod index;
+mod slot;
+mod table;
+
+pub use table::Table;
+pub use zk_tree::Expiry;
+
+#[cfg(test)]
+mod tests;

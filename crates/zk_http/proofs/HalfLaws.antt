@@ -1,6 +1,6 @@
 -- What the places that follow come to on a side.
 use Rattle.std.proofs.Common.{◌≡◌, ℕ, zero, suc, ◌+◌, ◌-◌, ◌<◌, ◌≤◌, Bool, true, false, cond, List, [], ◌∷◌, ◌++◌, length, take, drop, replicate, Option, None, Some, refl, sym, ap, subst, ◌∙◌, arith, append_assoc, length-append, length-take, length-drop}
-use Rattle.std.specs.Prelude.{◌↔◌, nat_le, IfNone}
+use Rattle.std.specs.Prelude.{◌↔◌, nat_le}
 use Rattle.std.specs.List.{last_or}
 use Rattle.std.proofs.lemmas.Bool.{le-leb}
 use Rattle.std.proofs.lemmas.List.{append-nil, drop-append-le, drop-drop, drop-take, length-replicate, take-append-drop, take-append-le}
@@ -23,7 +23,7 @@ use Rattle.zk_http.specs.Cases.{Case, Before, Held, Over}
 use Rattle.zk_http.specs.Chunks.{chunk_line_limit}
 use Rattle.zk_http.specs.HalfStanding.{HalfStands, HeadBegins, HowStands, IsAtHead, IsInside, TellsAs}
 use Rattle.zk_http.specs.Heads.{head_limit}
-use Rattle.zk_http.specs.HalfTurns.{EndsAt, Gave, HasGapIn, IsLentTo, Moves, MovesOver, MovesWaiting}
+use Rattle.zk_http.specs.HalfTurns.{EndsAt, Gave, HasGapIn, IsLentTo, Moves, MovesWaiting}
 use Rattle.zk_http.specs.Found.{EndsNowhere}
 use Rattle.zk_http.specs.HeadTurns.{HeadShows}
 use Rattle.zk_http.specs.declared.units.Reason.TheVariants.{Gap}
@@ -466,11 +466,3 @@ passes_over side new stream case units used over within told then some = (
   (λ zero. absurd (omega arith), λ held. absurd cc),
   λ zero. absurd (omega arith),
 )
-
--- all that wait are the places up to the front
-pub waiting_over : (side : Side) (old new : Half) (stream : Stream) (case : Case) (units : List MessageUnit) (places used : ℕ) (found : Option MessageUnit) → case ≡ Held
-    → old.used + places ≡ length stream.places → IfNone found (used ≡ 0) → MovesWaiting side old new stream case units places found
-    → MovesOver side new stream case units used found
-waiting_over side old new stream case units places used None held all none moves =
-    (moves.0, (λ zero. held, λ held. none), λ zero. moves.1 all)
-waiting_over side old new stream case units places used (Some unit) held all none gave = gave

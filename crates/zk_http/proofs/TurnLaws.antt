@@ -1,6 +1,6 @@
 -- What the places that follow a head come to, part by part.
 use Rattle.std.proofs.Common.{◌≡◌, ℕ, zero, suc, ◌+◌, ◌-◌, ◌<◌, ◌≤◌, Bool, true, false, cond, List, [], ◌∷◌, ◌++◌, length, take, drop, replicate, None, Some, refl, sym, ap, subst, ◌∙◌, arith, length-append, length-drop}
-use Rattle.std.proofs.lemmas.List.{append-nil, drop-drop}
+use Rattle.std.proofs.lemmas.List.{drop-drop}
 use Rattle.std.proofs.Math.Seq.{take-length, drop-length}
 use Rattle.zk_base.specs.Places.{Place, gaps}
 use Rattle.zk_http.specs.declared.state.Part.{Part}
@@ -15,7 +15,7 @@ use Rattle.zk_http.specs.Reading.{KnowsIn, amount_of, done, done_behind, means, 
 use Rattle.zk_http.specs.Reads.{Answer, Waits, Gives, Refuses, Reads, later, ◌>>=◌, gives, any_places}
 use Rattle.zk_http.specs.Turns.{AreAlike, Goes, Shows, ShowsNothing, places_of}
 use Rattle.zk_http.specs.Units.{unit_at}
-use Rattle.zk_http.proofs.FollowLaws.{gaps-append, later_none, later_later, goes_then, given_then, refused_then, waits_then, places_pass, places_there, places_wait, no_gaps, take-places}
+use Rattle.zk_http.proofs.FollowLaws.{gaps-append, later_later, goes_then, given_then, refused_then, waits_then, places_pass, places_there, places_wait, no_gaps, take-places}
 
 -- ---- forms of what a reading means
 
@@ -152,20 +152,6 @@ to_end_turn old new told n is_gap places is alike count going new_is = (
     waits false ends = refl
     waits true ends = let both = ends refl in absurd cc
 
-pub to_end_shows : (reading : Reading) (told : Bool) (n : ℕ) (is_gap : Bool) (places : List Place) → reading.part ≡ ToEnd
-    → AreAlike is_gap places → length places ≡ n → told ≡ true
-    → Shows reading told n (what.Done (reading.body + n) reading.header (reading.gap + cond is_gap n 0)) places
-to_end_shows reading told n is_gap places is alike count over ended behind from ends =
-    let last = ends over in
-    let all : places ++ behind ≡ places = ap (λ behind. places ++ behind) last.0 ∙ append-nil places in
-    let used : length places + 0 ≡ n = omega arith in
-    shown_given reading ToEnd ended (places ++ behind) n from _ is
-    (ap (λ ended. means_in ToEnd reading ended (places ++ behind)) last.1
-    ∙ ap (λ all. means_in ToEnd reading true all) all
-    ∙ ap (λ used. Gives used (what.Done (reading.body + length places) reading.header (reading.gap + gaps places))) used
-    ∙ ap (λ m. Gives n (what.Done (reading.body + m) reading.header (reading.gap + gaps places))) count
-    ∙ ap (λ gap. Gives n (what.Done (reading.body + n) reading.header (reading.gap + gap))) (all_taken places is_gap alike ∙ ap (λ n. cond is_gap n 0) count))
-
 -- ---- a chunk
 
 -- what follows the data of a chunk
@@ -291,9 +277,6 @@ pub unit_later : (from n : ℕ) (answer : Answer UnitKind) → unit_at from (lat
 unit_later from n Waits = refl
 unit_later from n (Gives used kind) = let same : from + (n + used) ≡ (from + n) + used = omega arith in ap (λ place. Some (record { place = place; what = kind })) same
 unit_later from n (Refuses used why) = let same : from + (n + used) ≡ (from + n) + used = omega arith in ap (λ place. Some (record { place = place; what = what.Violation why })) same
-
-pub goes_none : (reading : Reading) (places : List Place) → KnowsIn reading.part places → Goes reading reading 0 places
-goes_none reading places knows = record { by = λ ended behind. sym (later_none (means reading ended (places ++ behind))); knows = knows }
 
 pub goes_along : (old middle new : Reading) (n m : ℕ) (places : List Place) → Goes old middle n places → Goes middle new m (drop n places)
     → Goes old new (n + m) places

@@ -1,4 +1,4 @@
-ghost use Rattle.std.specs.Prelude.{◌≡◌, ℕ, ◌+◌, ◌-◌, ◌<◌, ◌≤◌, false, List, length, drop, None, Some, IfOk, IfNone, IfSome};
+ghost use Rattle.std.specs.Prelude.{◌≡◌, ℕ, ◌+◌, ◌-◌, ◌<◌, ◌≤◌, false, List, length, drop, min, None, Some, IfOk, IfNone, IfSome};
 ghost use Rattle.zk_base.specs.declared.network.Side.{Side as SideData};
 ghost use Rattle.zk_http.specs.Cases.{Case, Held};
 ghost use Rattle.zk_http.specs.Search.{Knows};
@@ -132,6 +132,7 @@ impl Half {
         ensures moves { IfOk result (λ moved. (stream : Stream) (case : Case) (units : List MessageUnit) → HalfStands side self stream case units
             → IsLentTo self stream bytes.now → IsBetween self case between → Moves side self moved.0 stream case units bytes.now moved.1.unit) }
         ensures takes { IfOk result (λ moved. HalfTakes self moved.0 moved.1.used (length bytes.now)) }
+        ensures place { IfOk result (λ moved. IfSome moved.1.unit (λ unit. unit.place ≡ moved.0.used)) }
         ensures leaves { IfOk result (λ moved. IfNone moved.1.unit (Leaves moved.0 between (length bytes.now - moved.1.used))) }
     {
         match self.state {
@@ -155,6 +156,7 @@ impl Half {
         ensures moves { IfOk result (λ moved. (stream : Stream) (case : Case) (units : List MessageUnit) → HalfStands side self stream case units
             → IsLentTo self stream bytes.now → IsBetween self case between → Moves side self moved.0 stream case units bytes.now moved.1.unit) }
         ensures takes { IfOk result (λ moved. HalfTakes self moved.0 moved.1.used (length bytes.now)) }
+        ensures place { IfOk result (λ moved. IfSome moved.1.unit (λ unit. unit.place ≡ moved.0.used)) }
         ensures leaves { IfOk result (λ moved. IfNone moved.1.unit (Leaves moved.0 between (length bytes.now - moved.1.used))) }
     {
         match between {
@@ -175,6 +177,7 @@ impl Half {
         ensures moves { (side : SideData) (stream : Stream) (case : Case) (units : List MessageUnit) → HalfStands side self stream case units → case ≡ Held
             → self.used + places ≤ length stream.places → MovesWaiting side self result.0 stream case units places result.1.unit }
         ensures takes { HalfTakes self result.0 result.1.used given }
+        ensures place { IfSome result.1.unit (λ unit. (unit.place ≡ self.used + 65537) × (65537 ≤ places) × (result.1.used ≡ min 65537 given)) }
         ensures kind { IfSome result.1.unit (λ unit. IsNoHead unit.what) }
         ensures none { IfNone result.1.unit ((result.1.used ≡ 0) × (places ≤ 65536) × (result.0.state ≡ State.Between)) }
         ensures seen { seen_at result.0.state ≡ 0 }
@@ -214,6 +217,7 @@ impl Half {
             → Knows search Ending.Head (searched head_limit (drop self.used stream.places))
             → IsLentTo self stream bytes.now → Moves side self moved.0 stream case units bytes.now moved.1.unit) }
         ensures takes { IfOk result (λ moved. HalfTakes self moved.0 moved.1.used (length bytes.now)) }
+        ensures place { IfOk result (λ moved. IfSome moved.1.unit (λ unit. unit.place ≡ moved.0.used)) }
         ensures leaves { IfOk result (λ moved. IfNone moved.1.unit ((length bytes.now - moved.1.used ≤ 65536)
             × (phase_of moved.0.state ≡ Inside) × (seen_at moved.0.state ≡ length bytes.now - moved.1.used))) }
     {
@@ -231,6 +235,7 @@ impl Half {
         ensures moves { (side : SideData) (stream : Stream) (case : Case) (units : List MessageUnit) → HalfStands side self stream case units
             → IsLentTo self stream bytes.now → Moves side self result.0 stream case units bytes.now result.1.unit }
         ensures takes { HalfTakes self result.0 result.1.used (length bytes.now) }
+        ensures place { IfSome result.1.unit (λ unit. unit.place ≡ result.0.used) }
         ensures leaves { IfNone result.1.unit ((length bytes.now - result.1.used ≤ 65536)
             × (phase_of result.0.state ≡ Inside) × (seen_at result.0.state ≡ length bytes.now - result.1.used)) }
     {
@@ -251,6 +256,7 @@ impl Half {
             → HasGapIn self stream unused places after → IsBetween self case between
             → MovesOver side result.0 stream case units result.1.used result.1.unit }
         ensures takes { HalfTakes self result.0 result.1.used (unused + places) }
+        ensures place { IfSome result.1.unit (λ unit. result.1.used ≡ min (unit.place - self.used) (unused + places)) }
         ensures kind { IfSome result.1.unit (λ unit. IsNoHead unit.what) }
         ensures seen { seen_at result.0.state ≡ 0 }
     {
@@ -272,6 +278,7 @@ impl Half {
             → HasGapIn self stream unused places after → case ≡ between_case between
             → MovesOver side result.0 stream case units result.1.used result.1.unit }
         ensures takes { HalfTakes self result.0 result.1.used (unused + places) }
+        ensures place { IfSome result.1.unit (λ unit. result.1.used ≡ min (unit.place - self.used) (unused + places)) }
         ensures kind { IfSome result.1.unit (λ unit. IsNoHead unit.what) }
         ensures seen { seen_at result.0.state ≡ 0 }
     {
@@ -291,6 +298,7 @@ impl Half {
             → HasGapIn self stream unused places after
             → MovesOver side result.0 stream case units result.1.used result.1.unit }
         ensures takes { HalfTakes self result.0 result.1.used (unused + places) }
+        ensures place { IfSome result.1.unit (λ unit. result.1.used ≡ min (unit.place - self.used) (unused + places)) }
         ensures kind { IfSome result.1.unit (λ unit. IsNoHead unit.what) }
         ensures seen { seen_at result.0.state ≡ 0 }
     {
@@ -306,6 +314,7 @@ impl Half {
         ensures moves { (side : SideData) (stream : Stream) (case : Case) (units : List MessageUnit) (after : ℕ) → HalfStands side self stream case units
             → HasGapIn self stream unused places after → MovesOver side result.0 stream case units result.1.used result.1.unit }
         ensures takes { HalfTakes self result.0 result.1.used (unused + places) }
+        ensures place { IfSome result.1.unit (λ unit. result.1.used ≡ min (unit.place - self.used) (unused + places)) }
         ensures kind { IfSome result.1.unit (λ unit. IsNoHead unit.what) }
         ensures seen { seen_at result.0.state ≡ 0 }
     {

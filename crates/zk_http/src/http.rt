@@ -1,4 +1,4 @@
-ghost use Rattle.std.specs.Prelude.{◌≡◌, ◌↔◌, ℕ, ◌+◌, ◌-◌, ◌<◌, ◌≤◌, true, false, List, length, None, Some, IfOk, IfNone, IfSome, OnOk, OnErr, MatchOption};
+ghost use Rattle.std.specs.Prelude.{◌≡◌, ◌↔◌, ℕ, ◌+◌, ◌-◌, ◌<◌, ◌≤◌, true, false, List, length, min, None, Some, IfOk, IfNone, IfSome, OnOk, OnErr, MatchOption};
 ghost use Rattle.zk_base.specs.declared.network.Side.{Side as SideData};
 ghost use Rattle.zk_base.specs.declared.network.Side.TheVariants.{Orig, Resp};
 ghost use Rattle.zk_http.specs.declared.units.«Unit».{«Unit» as MessageUnit};
@@ -98,6 +98,7 @@ impl Http {
         ensures stands { IfOk result (λ step. (streams : Both Stream) (units : Both (List MessageUnit)) → StandsFor self.old streams units
             → IsLent self.old Orig streams.orig bytes.now → StandsFor self.new streams (add Orig step.unit units)) }
         ensures used { IfOk result (λ step. Takes Orig self.old self.new step.used (length bytes.now)) }
+        ensures place { IfOk result (λ step. IfSome step.unit (λ unit. unit.place ≡ used_of Orig self.new)) }
         // Where there is no unit, few bytes stay unused, and the reader has looked at them or waits for the responses.
         ensures unused { IfOk result (λ step. IfNone step.unit ((length bytes.now - step.used ≤ 65536) × HasRead Orig self.new (length bytes.now - step.used))) }
         ensures memory { OnErr result (IsSame self.old self.new) }
@@ -122,6 +123,7 @@ impl Http {
         ensures stands { IfOk result (λ step. (streams : Both Stream) (units : Both (List MessageUnit)) → StandsFor self.old streams units
             → IsLent self.old Resp streams.resp bytes.now → StandsFor self.new streams (add Resp step.unit units)) }
         ensures used { IfOk result (λ step. Takes Resp self.old self.new step.used (length bytes.now)) }
+        ensures place { IfOk result (λ step. IfSome step.unit (λ unit. unit.place ≡ used_of Resp self.new)) }
         // Where there is no unit, few bytes stay unused, and the reader has looked at them or waits for the requests.
         ensures unused { IfOk result (λ step. IfNone step.unit ((length bytes.now - step.used ≤ 65536) × HasRead Resp self.new (length bytes.now - step.used))) }
         ensures memory { OnErr result (IsSame self.old self.new) }
@@ -150,6 +152,7 @@ impl Http {
         ensures stands { (streams : Both Stream) (units : Both (List MessageUnit)) → StandsFor self.old streams units
             → HasGap self.old Orig streams.orig unused places after → StandsFor self.new streams (add Orig result.unit units) }
         ensures used { Takes Orig self.old self.new result.used (unused + places) }
+        ensures place { IfSome result.unit (λ unit. result.used ≡ min (unit.place - used_of Orig self.old) (unused + places)) }
         ensures seen { seen_of Orig self.new ≡ 0 }
     {
         let (half, step) = self.requests.gap(self.between, unused, places, after);
@@ -174,6 +177,7 @@ impl Http {
         ensures stands { (streams : Both Stream) (units : Both (List MessageUnit)) → StandsFor self.old streams units
             → HasGap self.old Resp streams.resp unused places after → StandsFor self.new streams (add Resp result.unit units) }
         ensures used { Takes Resp self.old self.new result.used (unused + places) }
+        ensures place { IfSome result.unit (λ unit. result.used ≡ min (unit.place - used_of Resp self.old) (unused + places)) }
         ensures seen { seen_of Resp self.new ≡ 0 }
     {
         let between = self.between_responses();

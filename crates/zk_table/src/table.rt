@@ -137,7 +137,8 @@ impl Table {
         let Some(place) = self.entries.find_order(order) else {
             return false;
         };
-        if wait.0 > 0 {
+        let waits = wait.0 > 0;
+        if waits {
             self.entries.put_off(place, wait);
         } else {
             self.entries.remove(place);

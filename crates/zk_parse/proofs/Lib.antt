@@ -1,9 +1,8 @@
-pub mod TokenLaws
-pub mod ListLaws
 pub mod LoopLaws
-pub mod ExprLaws
-pub mod StmtLaws
-pub mod FormLaws
-pub mod DeclLaws
+pub mod Depth
+pub mod Codes
+pub mod FirstTokens
+pub mod Exact
+pub mod Theorem
+pub mod Scripts
 pub mod TreeLaws
-pub mod Rows

@@ -1,46 +1,40 @@
 -- Trees: what is read is spelled so, what is spelled so is read, and what is refused.
-use Rattle.std.proofs.Common.{◌≡◌, ◌↔◌, ◌≢◌, ℕ, zero, suc, ◌+◌, ◌-◌, ◌<◌, ◌≤◌, true, List, [], ◌∷◌, ◌++◌, length, take, drop, codes, Option, Some, None, Result, Ok, Err, refl, sym, ap, subst, ◌∙◌, append_assoc, arith, inl, inr, ◌⊎◌}
-use Rattle.std.specs.List.{flat_map, list_all}
-use Rattle.std.proofs.lemmas.Bool.{and_parts}
-use Rattle.std.proofs.lemmas.List.{append-nil, length-drop, take-append-drop}
-use Rattle.std.proofs.lemmas.List.Concat.{flat_map-cons}
+use Rattle.std.proofs.Common.{◌≡◌, ◌↔◌, ◌≢◌, ℕ, zero, suc, ◌+◌, ◌-◌, ◌<◌, ◌≤◌, List, [], ◌∷◌, ◌++◌, length, length-append, drop, Option, Some, None, Result, Ok, Err, refl, sym, ap, subst, ◌∙◌, append_assoc, arith, inl, inr, ◌⊎◌}
+use Rattle.std.proofs.lemmas.List.{append-nil, length-drop}
 use Rattle.zk_tree.specs.declared.token.Token.{Token}
-use Rattle.zk_tree.specs.declared.tree.Decl.{Decl}
-use Rattle.zk_tree.specs.declared.tree.Decl.TheVariants as decl
-use Rattle.zk_tree.specs.declared.tree.Tree.{Tree}
-use Rattle.zk_tree.specs.Forms.{is_decl}
-use Rattle.zk_tree.specs.Grammar.{Spelled, word, follows, AreSpelled, spelled_params, spelled_block, spelled_decl, spelled_tree}
-use Rattle.zk_tree.specs.Grammar as grammar
-use Rattle.zk_tree.specs.Reading.{Reads, IsRefusedAt}
-use Rattle.zk_parse.specs.Reading.{decl_at, with_first, decls_from, as_tree, tree_of}
-use Rattle.zk_parse.proofs.TokenLaws.{Starts, Starts-then, Starts-parts, Starts-length, Starts-spelled, spelled-Starts}
-use Rattle.zk_parse.proofs.DeclLaws.{decl_taken, decl_again}
+use Rattle.zk_tree.specs.declared.decl.Decl.{Decl}
+use Rattle.zk_tree.specs.declared.decl.Tree.{Tree}
+use Rattle.zk_tree.specs.Rules.{ADecl, Repeated}
+use Rattle.zk_tree.specs.Reading.{IsDecl, max_nesting, Reads, IsRefusedAt}
+use Rattle.zk_parse.specs.Reading.{within}
+use Rattle.zk_parse.specs.Trees.{decl_at, with_first, decls_from, as_tree, tree_of}
+use Rattle.zk_parse.proofs.Theorem.{repeated_ends}
+use Rattle.zk_parse.proofs.Scripts.{exact}
 
 -- something, or nothing
 option_cases : {A : Type 0} (o : Option A) → (o ≡ None) ⊎ ((x : A) × (o ≡ Some x))
 option_cases None = inl refl
 option_cases (Some x) = inr (x, refl)
 
-Starts-all : (a : List Spelled) (tokens : List Token) → Starts a tokens [] → AreSpelled a tokens
-Starts-all [] tokens p = subst (AreSpelled []) (sym p) tt
-Starts-all (s ∷ a) [] p = absurd p
-Starts-all (s ∷ a) (t ∷ tokens) p = (p.0, p.1, Starts-all a tokens p.2)
+-- what reads a declaration
+pub decl_is : (tokens : List Token) → decl_at tokens ≡ within max_nesting Decl ADecl tokens
+unfolding decl_at
+decl_is tokens = refl
 
-all-Starts : (a : List Spelled) (tokens : List Token) → AreSpelled a tokens → Starts a tokens []
-all-Starts [] [] p = refl
-all-Starts [] (t ∷ tokens) p = absurd p
-all-Starts (s ∷ a) [] p = absurd p
-all-Starts (s ∷ a) (t ∷ tokens) p = (p.0, p.1, all-Starts a tokens p.2)
+decl_taken : (tokens : List Token) (x : Decl × List Token) → decl_at tokens ≡ Some x → IsDecl x.0 tokens x.1
+unfolding decl_at
+decl_taken tokens x e = (exact max_nesting).taken Decl ADecl tokens x e
+
+decl_again : (d : Decl) (tokens rest : List Token) → IsDecl d tokens rest → decl_at tokens ≡ Some (d, rest)
+unfolding decl_at
+decl_again d tokens rest p = (exact max_nesting).again Decl ADecl d tokens rest p refl
 
 -- a declaration has tokens
-decl_shorter : (d : Decl) (tokens rest : List Token) → Starts (spelled_decl d) tokens rest → length rest < length tokens
-decl_shorter (decl.Event place name params body) tokens rest p =
-    let others = follows (word name) ∷ spelled_params params ++ spelled_block body in
-    let long = Starts-length (grammar.begins place (word (codes "event")) ∷ others) tokens rest p in
-    omega arith
+decl_shorter : (d : Decl) (tokens rest : List Token) → IsDecl d tokens rest → length rest < length tokens
+decl_shorter d tokens rest p = (exact max_nesting).short Decl ADecl d tokens rest p
 
 pub decl_at-shorter : (tokens : List Token) (x : Decl × List Token) → decl_at tokens ≡ Some x → length x.1 < length tokens
-decl_at-shorter tokens x e = decl_shorter x.0 tokens x.1 (decl_taken tokens x e).0
+decl_at-shorter tokens x e = decl_shorter x.0 tokens x.1 (decl_taken tokens x e)
 
 decls_read : (n all : ℕ) (t : Token) (tokens : List Token) (x : Decl × List Token) → decl_at (t ∷ tokens) ≡ Some x
     → decls_from (suc n) all (t ∷ tokens) ≡ with_first x.0 (decls_from n all x.1)
@@ -70,20 +64,13 @@ with_first-err first (Err n) at e = cc
 
 -- what declarations are, and where they end
 abbrev AreDecls : List Decl → List Token → List Token → Type 0
-AreDecls decls tokens rest = Starts (flat_map spelled_decl decls) tokens rest × (list_all is_decl decls ≡ true)
-
-AreDecls-cons : (tokens : List Token) (x : Decl × List Token) (others : List Decl) (rest : List Token) → decl_at tokens ≡ Some x → AreDecls others x.1 rest
-    → AreDecls (x.0 ∷ others) tokens rest
-AreDecls-cons tokens x others rest e h =
-    let first = decl_taken tokens x e in
-    let both = Starts-then (spelled_decl x.0) (flat_map spelled_decl others) tokens x.1 rest first.0 h.0 in
-    (rw flat_map-cons both, rw (first.1, h.1) refl)
+AreDecls decls tokens rest = Repeated IsDecl decls tokens rest
 
 decls_taken : (n all : ℕ) (tokens : List Token) (decls : List Decl) → decls_from n all tokens ≡ Ok decls → AreDecls decls tokens []
 decls_taken n all [] decls e =
     let none : ◌≡◌ {A = Result (List Decl) ℕ} (Ok []) (Ok decls) = sym (decls_end n all) ∙ e in
     let same : [] ≡ decls = cc in
-    subst (λ (ds : List Decl). AreDecls ds [] []) same (refl, refl)
+    subst (λ (ds : List Decl). AreDecls ds [] []) same refl
 decls_taken zero all (t ∷ tokens) decls e =
     let never : ◌≡◌ {A = Result (List Decl) ℕ} (Err (all - length (t ∷ tokens))) (Ok decls) = sym (decls_zero all t tokens) ∙ e in
     absurd cc
@@ -94,23 +81,18 @@ decls_taken (suc n) all (t ∷ tokens) decls e = elim (option_cases (decl_at (t 
   | inr found ↦
       let others = with_first-ok found.0.0 (decls_from n all found.0.1) decls (sym (decls_read n all t tokens found.0 found.1) ∙ e) in
       subst (λ (ds : List Decl). AreDecls ds (t ∷ tokens) []) others.2
-      (AreDecls-cons (t ∷ tokens) found.0 others.0 [] found.1 (decls_taken n all found.0.1 others.0 others.1))
+      (found.0.1, decl_taken (t ∷ tokens) found.0 found.1, decls_taken n all found.0.1 others.0 others.1)
 ]
 
--- the first of declarations is read
 decls_again : (n all : ℕ) (tokens : List Token) (decls : List Decl) → length tokens ≤ n → AreDecls decls tokens [] → decls_from n all tokens ≡ Ok decls
-decls_again n all tokens [] le h = ap (decls_from n all) h.0 ∙ decls_end n all
-decls_again n all [] (d ∷ decls) le h =
-    let q = Starts-parts (spelled_decl d) (flat_map spelled_decl decls) [] [] (rw flat_map-cons at h.0) in
-    absurd (omega (arith, decl_shorter d [] q.0 q.1))
+decls_again n all tokens [] le h = ap (decls_from n all) h ∙ decls_end n all
+decls_again n all [] (d ∷ decls) le h = absurd (omega (arith, decl_shorter d [] h.0 h.1))
 decls_again zero all (t ∷ tokens) (d ∷ decls) le h = absurd (omega arith)
 decls_again (suc n) all (t ∷ tokens) (d ∷ decls) le h =
-    let q = Starts-parts (spelled_decl d) (flat_map spelled_decl decls) (t ∷ tokens) [] (rw flat_map-cons at h.0) in
-    let forms = and_parts (is_decl d) (list_all is_decl decls) h.1 in
-    let first = decl_again d (t ∷ tokens) q.0 forms.0 q.1 in
-    let short = decl_shorter d (t ∷ tokens) q.0 q.1 in
-    let others = decls_again n all q.0 decls (omega arith) (q.2, forms.1) in
-    decls_read n all t tokens (d, q.0) first ∙ ap (with_first d) others
+    let first = decl_again d (t ∷ tokens) h.0 h.1 in
+    let short = decl_shorter d (t ∷ tokens) h.0 h.1 in
+    let others = decls_again n all h.0 decls (omega arith) h.2 in
+    decls_read n all t tokens (d, h.0) first ∙ ap (with_first d) others
 
 -- declarations stand before a place at which none reads
 record IsStuckAt (all : ℕ) (tokens : List Token) (at : ℕ) : Type 0 where
@@ -130,7 +112,7 @@ decls_refused (suc n) all (t ∷ tokens) at le inside e = elim (option_cases (de
   | inl none ↦
       let here : ◌≡◌ {A = Result (List Decl) ℕ} (Err (all - length (t ∷ tokens))) (Err at) = sym (decls_unread n all t tokens none) ∙ e in
       let same : all - length (t ∷ tokens) ≡ at = cc in
-      record { before = []; rest = t ∷ tokens; are = (refl, refl); place = omega arith; more = omega arith; none = none }
+      record { before = []; rest = t ∷ tokens; are = refl; place = omega arith; more = omega arith; none = none }
   | inr found ↦
       let later = with_first-err found.0.0 (decls_from n all found.0.1) at (sym (decls_read n all t tokens found.0 found.1) ∙ e) in
       let short = decl_at-shorter (t ∷ tokens) found.0 found.1 in
@@ -138,7 +120,7 @@ decls_refused (suc n) all (t ∷ tokens) at le inside e = elim (option_cases (de
       record {
         before = found.0.0 ∷ stuck.before;
         rest = stuck.rest;
-        are = AreDecls-cons (t ∷ tokens) found.0 stuck.before stuck.rest found.1 stuck.are;
+        are = (found.0.1, decl_taken (t ∷ tokens) found.0 found.1, stuck.are);
         place = stuck.place;
         more = stuck.more;
         none = stuck.none;
@@ -155,35 +137,34 @@ as_tree-err (Err n) at e = cc
 
 tree_taken : (tokens : List Token) (tree : Tree) → tree_of tokens ≡ Ok tree → Reads tokens tree
 unfolding tree_of
-tree_taken tokens tree e =
-    let are = decls_taken (length tokens) (length tokens) tokens tree.decls (as_tree-ok (decls_from (length tokens) (length tokens) tokens) tree e) in
-    record { spelled = Starts-all (spelled_tree tree) tokens are.0; forms = are.1 }
+tree_taken tokens tree e = decls_taken (length tokens) (length tokens) tokens tree.decls (as_tree-ok (decls_from (length tokens) (length tokens) tokens) tree e)
 
 tree_again : (tokens : List Token) (tree : Tree) → Reads tokens tree → tree_of tokens ≡ Ok tree
 unfolding tree_of
-tree_again tokens tree reads =
-    ap as_tree (decls_again (length tokens) (length tokens) tokens tree.decls (omega arith) (all-Starts (spelled_tree tree) tokens reads.spelled, reads.forms))
+tree_again tokens tree reads = ap as_tree (decls_again (length tokens) (length tokens) tokens tree.decls (omega arith) reads)
 
-no_decl : (d : Decl) (count : ℕ) (tokens : List Token) → decl_at tokens ≡ None → is_decl d ≡ true → AreSpelled (spelled_decl d) (take count tokens) → ⊥
-no_decl d count tokens none is spelled =
-    let front = spelled-Starts (spelled_decl d) (take count tokens) (drop count tokens) spelled in
-    let whole = subst (λ (ts : List Token). Starts (spelled_decl d) ts (drop count tokens)) (take-append-drop count tokens) front in
-    let some = decl_again d tokens (drop count tokens) is whole in
-    absurd cc
+-- what is left of the tokens is what stands behind the first of them
+behind_front : (front rest : List Token) → drop (length front) (front ++ rest) ≡ rest
+behind_front [] rest = refl
+behind_front (t ∷ front) rest = behind_front front rest
+
+left_is : (decls : List Decl) (tokens rest : List Token) (at : ℕ) → AreDecls decls tokens rest → at + length rest ≡ length tokens → drop at tokens ≡ rest
+left_is decls tokens rest at are place =
+    let end = repeated_ends IsDecl (λ d ts after p. (exact max_nesting).ends Decl ADecl d ts after p) decls tokens rest are in
+    let long : at ≡ length end.front = omega (arith, ap length end.all, length-append end.front rest) in
+    ap (λ n. drop n tokens) long ∙ ap (drop (length end.front)) end.all ∙ behind_front end.front rest
 
 refused_at : (tokens : List Token) (at : ℕ) → IsStuckAt (length tokens) tokens at → IsRefusedAt tokens at
 refused_at tokens at stuck =
-    let front = flat_map spelled_decl stuck.before in
-    let long = Starts-length front tokens stuck.rest stuck.are.0 in
-    let same : length front ≡ at = omega (arith, stuck.place) in
-    let parts = Starts-spelled front tokens stuck.rest stuck.are.0 in
-    let spelled = subst (λ (n : ℕ). AreSpelled front (take n tokens)) same parts.0 in
-    let behind : drop at tokens ≡ stuck.rest = ap (λ (n : ℕ). drop n tokens) (sym same) ∙ parts.1 in
+    let same = left_is stuck.before tokens stuck.rest at stuck.are stuck.place in
     record {
-      within = omega (arith, stuck.place, stuck.more);
-      before = record { decls = stuck.before };
-      read = record { spelled = spelled; forms = stuck.are.1 };
-      none = λ d count is here. no_decl d count (drop at tokens) (ap decl_at behind ∙ stuck.none) is here;
+      inside = omega (arith, stuck.place, stuck.more);
+      before = stuck.before;
+      read = subst (λ (ts : List Token). AreDecls stuck.before tokens ts) (sym same) stuck.are;
+      none = λ d rest p.
+          let some = decl_again d (drop at tokens) rest p in
+          let none : decl_at (drop at tokens) ≡ None = ap decl_at same ∙ stuck.none in
+          absurd cc;
     }
 
 -- the answer where what is left begins no declaration
@@ -193,29 +174,22 @@ unread_from all rest = Err (all - length rest)
 -- declarations, and then what begins none, are refused at its first token
 decls_stuck : (n all : ℕ) (tokens rest : List Token) (decls : List Decl) → length tokens ≤ n → AreDecls decls tokens rest → 0 < length rest → decl_at rest ≡ None
     → decls_from n all tokens ≡ Err (all - length rest)
-decls_stuck n all [] rest [] le h more none = absurd (omega (arith, more, ap length h.0))
-decls_stuck n all [] rest (d ∷ decls) le h more none =
-    let q = Starts-parts (spelled_decl d) (flat_map spelled_decl decls) [] rest (rw flat_map-cons at h.0) in
-    absurd (omega (arith, decl_shorter d [] q.0 q.1))
+decls_stuck n all [] rest [] le h more none = absurd (omega (arith, more, ap length h))
+decls_stuck n all [] rest (d ∷ decls) le h more none = absurd (omega (arith, decl_shorter d [] h.0 h.1))
 decls_stuck zero all (t ∷ tokens) rest decls le h more none = absurd (omega arith)
 decls_stuck (suc n) all (t ∷ tokens) rest [] le h more none =
-    decls_unread n all t tokens (ap decl_at h.0 ∙ none) ∙ ap (λ (ts : List Token). unread_from all ts) h.0
+    decls_unread n all t tokens (ap decl_at h ∙ none) ∙ ap (λ (ts : List Token). unread_from all ts) h
 decls_stuck (suc n) all (t ∷ tokens) rest (d ∷ decls) le h more none =
-    let q = Starts-parts (spelled_decl d) (flat_map spelled_decl decls) (t ∷ tokens) rest (rw flat_map-cons at h.0) in
-    let forms = and_parts (is_decl d) (list_all is_decl decls) h.1 in
-    let first = decl_again d (t ∷ tokens) q.0 forms.0 q.1 in
-    let short = decl_shorter d (t ∷ tokens) q.0 q.1 in
-    let others = decls_stuck n all q.0 rest decls (omega arith) (q.2, forms.1) more none in
-    decls_read n all t tokens (d, q.0) first ∙ ap (with_first d) others
+    let first = decl_again d (t ∷ tokens) h.0 h.1 in
+    let short = decl_shorter d (t ∷ tokens) h.0 h.1 in
+    let others = decls_stuck n all h.0 rest decls (omega arith) h.2 more none in
+    decls_read n all t tokens (d, h.0) first ∙ ap (with_first d) others
 
 -- where no declaration is spelled at the front, none is read
-unspelled : (tokens : List Token) → ((d : Decl) (count : ℕ) → is_decl d ≡ true → AreSpelled (spelled_decl d) (take count tokens) → ⊥) → decl_at tokens ≡ None
+unspelled : (tokens : List Token) → ((d : Decl) (rest : List Token) → IsDecl d tokens rest → ⊥) → decl_at tokens ≡ None
 unspelled tokens never = elim (option_cases (decl_at tokens)) [
   | inl none ↦ none
-  | inr found ↦
-      let taken = decl_taken tokens found.0 found.1 in
-      let front = spelled_decl found.0.0 in
-      absurd (never found.0.0 (length front) taken.1 (Starts-spelled front tokens found.0.1 taken.0).0)
+  | inr found ↦ absurd (never found.0.0 found.0.1 (decl_taken tokens found.0 found.1))
 ]
 
 tree_stuck : (tokens : List Token) (at : ℕ) → IsRefusedAt tokens at → tree_of tokens ≡ Err at
@@ -223,11 +197,9 @@ unfolding tree_of
 tree_stuck tokens at refused =
     let all = length tokens in
     let rest = drop at tokens in
-    let front = spelled-Starts (spelled_tree refused.before) (take at tokens) rest refused.read.spelled in
-    let are = subst (λ (ts : List Token). Starts (spelled_tree refused.before) ts rest) (take-append-drop at tokens) front in
-    let more : 0 < length rest = omega (arith, length-drop at tokens, refused.within) in
-    let place : all - length rest ≡ at = omega (arith, length-drop at tokens, refused.within) in
-    let stuck = decls_stuck all all tokens rest refused.before.decls (omega arith) (are, refused.read.forms) more (unspelled rest refused.none) in
+    let more : 0 < length rest = omega (arith, length-drop at tokens, refused.inside) in
+    let place : all - length rest ≡ at = omega (arith, length-drop at tokens, refused.inside) in
+    let stuck = decls_stuck all all tokens rest refused.before (omega arith) refused.read more (unspelled rest refused.none) in
     ap as_tree stuck ∙ ap (λ (n : ℕ). as_tree (Err n)) place
 
 tree_refused : (tokens : List Token) (at : ℕ) → tree_of tokens ≡ Err at → IsRefusedAt tokens at

@@ -1,43 +1,48 @@
--- Tokens as a tree: the declarations that are read from the front, one after another.
-use Rattle.std.specs.Prelude.{◌≡◌, ℕ, zero, suc, ◌-◌, ◌==◌, Bool, false, not, if◌then◌else◌, List, [], ◌∷◌, length, codes, Option, Some, None, Result, Ok, Err}
+-- Reading by a grammar, from the front.
+use Rattle.std.specs.Prelude.{◌≡◌, ℕ, zero, suc, ◌==◌, Bool, true, false, not, ◌&&◌, ◌||◌, if◌then◌else◌, List, [], ◌∷◌, ◌++◌, length, Option, Some, None, Result, Ok, Err}
+use Rattle.std.specs.Option.{is_some, option_map}
 use Rattle.std.specs.Str.{bytes_eq}
 use Rattle.zk_tree.specs.declared.token.Token.{Token}
 use Rattle.zk_tree.specs.declared.token.TokenKind.{TokenKind}
 use Rattle.zk_tree.specs.declared.token.TokenKind.TheVariants as token
 use Rattle.zk_tree.specs.declared.token.Sign.{Sign}
 use Rattle.zk_tree.specs.declared.token.Sign.TheVariants as sign
-use Rattle.zk_tree.specs.declared.tree.Tree.{Tree}
-use Rattle.zk_tree.specs.declared.tree.Decl.{Decl}
-use Rattle.zk_tree.specs.declared.tree.Decl.TheVariants as decl
-use Rattle.zk_tree.specs.declared.tree.Param.{Param}
-use Rattle.zk_tree.specs.declared.tree.«Type».{«Type» as TypeNode}
-use Rattle.zk_tree.specs.declared.tree.«Type».TheVariants as of
-use Rattle.zk_tree.specs.declared.tree.Block.{Block}
-use Rattle.zk_tree.specs.declared.tree.Stmt.{Stmt}
-use Rattle.zk_tree.specs.declared.tree.Stmt.TheVariants as stmt
-use Rattle.zk_tree.specs.declared.tree.Expr.{Expr}
-use Rattle.zk_tree.specs.declared.tree.Expr.TheVariants as expr
-use Rattle.zk_tree.specs.Forms.{is_decl}
-use Rattle.zk_parse.specs.declared.fault.ParseFault.{ParseFault}
-use Rattle.zk_parse.specs.declared.fault.ParseFault.TheVariants.{NoTree, NoMemory}
+use Rattle.zk_tree.specs.declared.keyword.Mark.{Mark}
+use Rattle.zk_tree.specs.declared.keyword.Mark.TheVariants as mark
+use Rattle.zk_tree.specs.Marks.{text_of, keyword_of}
+use Rattle.zk_tree.specs.Classes.{Class, value_in}
+use Rattle.zk_tree.specs.Rules.{Grammar, Alone, OneOf, Of, Nested, Placed, After, Before, Then, Made, Either, Optional, Nearest, Many, Listed, Enclosed, Until, Trailing, Nest, place_of}
+use Rattle.zk_tree.specs.Grammar.{node}
+use Rattle.zk_tree.specs.Rules.{AnExpr, ACond, AUnary}
+use Rattle.zk_tree.specs.declared.expr.Expr.{Expr}
+use Rattle.std.specs.declared.alloc.Global.{Global}
+use denote.Ref.{MutBor}
+use Rattle.zk_parse.specs.declared.exprs.Counted.{Counted}
+use Rattle.zk_parse.specs.declared.exprs.Counted.TheVariants as counted
 use Rattle.zk_parse.specs.declared.fault.FormFault.{FormFault}
 use Rattle.zk_parse.specs.declared.fault.FormFault.TheVariants as form
 
--- Reading on behind what a form has read: where it does not read, nothing behind it does.
+-- Reading on behind what was read: where it was not, nothing behind it is.
 infixl 10 ◌>>=◌
 abbrev pub ◌>>=◌ : {A B : Type 0} → Option A → (A → Option B) → Option B
 (Some x) >>= f = f x
 None >>= f = None
 
--- where a form was not read, reading gives none, unless memory ran out
-abbrev pub Fails : {Y : Type 0} → FormFault → Option Y → Type 0
-Fails form.NoForm read = read ≡ None
-Fails form.NoMemory read = Unit {0}
+-- a value and the tokens behind it
+abbrev pub Reader : Type 0 → Type 0
+Reader A = List Token → Option (A × List Token)
 
--- what a function returned, seen by view, is what reading gives, unless memory ran out
-abbrev pub Gives : {X Y : Type 0} → (X → Y) → Result X FormFault → Option Y → Type 0
-Gives view (Ok x) read = read ≡ Some (view x)
-Gives view (Err fault) read = Fails fault read
+-- what was returned is what reading gives, and leaves these tokens, unless memory ran out
+abbrev pub Gives : {A : Type 0} → Option (A × List Token) → Result A FormFault → List Token → Type 0
+Gives read (Ok a) rest = read ≡ Some (a, rest)
+Gives read (Err form.NoForm) rest = read ≡ None
+Gives read (Err form.NoMemory) rest = Unit {0}
+
+-- what was returned is a value, unless memory ran out
+abbrev pub IsValue : {A : Type 0} → Option A → Result A FormFault → Type 0
+IsValue value (Ok a) = value ≡ Some a
+IsValue value (Err form.NoForm) = value ≡ None
+IsValue value (Err form.NoMemory) = Unit {0}
 
 -- ---- tokens
 
@@ -77,42 +82,49 @@ number_of sign.PlusPlus = 30
 number_of sign.MinusMinus = 31
 number_of sign.Bar = 32
 
-abbrev pub is_sign : Sign → TokenKind → Bool
-is_sign wanted (token.Sign found) = number_of found == number_of wanted
-is_sign wanted kind = false
+abbrev pub is_mark : Mark → TokenKind → Bool
+is_mark (mark.Sign wanted) (token.Sign found) = number_of found == number_of wanted
+is_mark (mark.Word wanted) (token.Name name) = bytes_eq name (text_of wanted)
+is_mark m kind = false
 
--- a sign begins the tokens
-abbrev pub begins : Sign → List Token → Bool
-begins wanted [] = false
-begins wanted (token ∷ rest) = is_sign wanted token.kind
+-- a mark begins the tokens
+abbrev pub begins : Mark → List Token → Bool
+begins m [] = false
+begins m (first ∷ rest) = is_mark m first.kind
 
--- the tokens behind a sign
-unfoldable pub sign_at : Sign → List Token → Option (List Token)
-sign_at wanted [] = None
-sign_at wanted (token ∷ rest) = if is_sign wanted token.kind then Some rest else None
+-- the tokens behind the first
+abbrev pub behind : List Token → List Token
+behind [] = []
+behind (first ∷ rest) = rest
 
--- the bytes of a name
-abbrev pub name_of : TokenKind → Option (List ℕ)
-name_of (token.Name bytes) = Some bytes
-name_of kind = None
+-- a mark
+unfoldable pub mark_at : Mark → Reader (Unit {0})
+mark_at m tokens = if begins m tokens then Some (tt, behind tokens) else None
 
--- a name with its place
-unfoldable pub name_at : List Token → Option ((ℕ × List ℕ) × List Token)
-name_at [] = None
-name_at (token ∷ rest) = do
-  name ← name_of token.kind
-  Some ((token.place, name), rest)
+-- the sign or the reserved word that a token is
+abbrev pub mark_in : TokenKind → Option Mark
+mark_in (token.Sign found) = Some (mark.Sign found)
+mark_in (token.Name name) = option_map (λ found. mark.Word found) (keyword_of name)
+mark_in kind = None
 
--- the place of a reserved word
-unfoldable pub word_at : List ℕ → List Token → Option (ℕ × List Token)
-word_at word tokens = do
-  name ← name_at tokens
-  if bytes_eq name.0.1 word then Some (name.0.0, name.1) else None
+-- the sign or the reserved word that begins the tokens
+abbrev pub first_mark : List Token → Option Mark
+first_mark [] = None
+first_mark (first ∷ rest) = mark_in first.kind
 
--- ---- lists
+-- what the first token stands for
+abbrev pub meant_at : {A : Type 0} → (Mark → Option A) → List Token → Option A
+meant_at meant tokens = first_mark tokens >>= meant
 
--- one after another for as long as the tokens go on, n of them at most
-unfoldable pub repeated : {A : Type 0} → (List Token → Bool) → (List Token → Option (A × List Token)) → ℕ → List Token → Option (List A × List Token)
+-- the value of the first token
+abbrev pub value_at : {A : Type 0} → Class A → List Token → Option A
+value_at class [] = None
+value_at class (first ∷ rest) = value_in class first.kind
+
+-- ---- one after another
+
+-- for as long as the tokens go on, n at most
+unfoldable pub repeated : {A : Type 0} → (List Token → Bool) → Reader A → ℕ → Reader (List A)
 repeated goes_on read zero tokens = if goes_on tokens then None else Some ([], tokens)
 repeated goes_on read (suc n) tokens =
     if goes_on tokens then (do
@@ -120,142 +132,156 @@ repeated goes_on read (suc n) tokens =
       others ← repeated goes_on read n first.1
       Some (first.0 ∷ others.0, others.1)) else Some ([], tokens)
 
--- one behind a comma
-unfoldable pub behind_comma : {A : Type 0} → (List Token → Option (A × List Token)) → List Token → Option (A × List Token)
-behind_comma read tokens = do
-  rest ← sign_at sign.Comma tokens
-  read rest
+-- a separator stands there, and not with the end behind it
+abbrev pub goes_past : Mark → Mark → List Token → Bool
+goes_past separator m tokens = begins separator tokens && not (begins m (behind tokens))
 
--- one, and others behind commas
-unfoldable pub listed : {A : Type 0} → (List Token → Option (A × List Token)) → List Token → Option (List A × List Token)
-listed read tokens = do
-  first ← read tokens
-  others ← repeated (begins sign.Comma) (behind_comma read) (length first.1) first.1
-  Some (first.0 ∷ others.0, others.1)
+-- behind a separator
+abbrev pub separated : {A : Type 0} → Mark → Reader A → Reader A
+separated separator read tokens = do
+  next ← mark_at separator tokens
+  read next.1
 
--- ---- the forms of the grammar
+-- the end, and whether a separator stands before it
+abbrev pub ends_at : Mark → Mark → Reader Bool
+ends_at separator m tokens =
+    if begins separator tokens then (do
+      next ← mark_at separator tokens
+      last ← mark_at m next.1
+      Some (true, last.1)) else (do
+        last ← mark_at m tokens
+        Some (false, last.1))
 
-unfoldable pub call_at : ℕ → List ℕ → List Token → Option (Expr × List Token)
-call_at place name tokens = do
-  within ← sign_at sign.OpenParenthesis tokens
-  rest ← sign_at sign.CloseParenthesis within
-  Some (expr.Call place name, rest)
+-- what was read before, and what is still read
+abbrev pub with_front : {A : Type 0} → List A → Option (List A × List Token) → Option (List A × List Token)
+with_front front read = read >>= λ x. Some (front ++ x.0, x.1)
 
--- an expression that begins with a word
-unfoldable pub named_at : ℕ → List ℕ → List Token → Option (Expr × List Token)
-named_at place name rest =
-    if bytes_eq name (codes "T") then Some (expr.True place, rest)
-    else if bytes_eq name (codes "F") then Some (expr.False place, rest)
-    else if begins sign.OpenParenthesis rest then call_at place name rest
-    else Some (expr.Name place name, rest)
+-- one or more, with a separator between each and the next
+unfoldable pub listed_at : {A : Type 0} → Mark → Reader A → Reader (List A)
+listed_at separator one tokens = do
+  first ← one tokens
+  with_front (first.0 ∷ []) (repeated (begins separator) (separated separator one) (length first.1) first.1)
 
-abbrev pub expr_from : ℕ → TokenKind → List Token → Option (Expr × List Token)
-expr_from place (token.Name name) rest = named_at place name rest
-expr_from place (token.Number number) rest = Some (expr.Number place number, rest)
-expr_from place (token.String bytes) rest = Some (expr.String place bytes, rest)
-expr_from place kind rest = None
+-- any number between two marks, with a separator between each and the next
+unfoldable pub enclosed_at : {A : Type 0} → Mark → Mark → Mark → Reader A → Reader (List A)
+enclosed_at opening separator closing one tokens = do
+  next ← mark_at opening tokens
+  if begins closing next.1 then (do
+    last ← mark_at closing next.1
+    Some ([], last.1)) else (do
+      all ← listed_at separator one next.1
+      last ← mark_at closing all.1
+      Some (all.0, last.1))
 
-unfoldable pub expr_at : List Token → Option (Expr × List Token)
-expr_at [] = None
-expr_at (token ∷ rest) = expr_from token.place token.kind rest
+-- any number up to a mark
+unfoldable pub until_at : {A : Type 0} → Mark → Reader A → Reader (List A)
+until_at m one tokens = do
+  all ← repeated (λ rest. not (begins m rest)) one (length tokens) tokens
+  last ← mark_at m all.1
+  Some (all.0, last.1)
 
-unfoldable pub stmt_at : List Token → Option (Stmt × List Token)
-stmt_at tokens = do
-  print ← word_at (codes "print") tokens
-  values ← listed expr_at print.1
-  rest ← sign_at sign.Semicolon values.1
-  Some (stmt.Print print.0 values.0, rest)
+-- one or more with a separator between each and the next, and maybe one behind the last, up to a mark
+unfoldable pub trailing_at : {A : Type 0} → Mark → Mark → Reader A → Reader (List A × Bool)
+trailing_at separator m one tokens = do
+  first ← one tokens
+  all ← with_front (first.0 ∷ []) (repeated (goes_past separator m) (separated separator one) (length first.1) first.1)
+  end ← ends_at separator m all.1
+  Some ((all.0, end.0), end.1)
 
--- statements up to a closing brace
-unfoldable pub stmts_at : List Token → Option (List Stmt × List Token)
-stmts_at tokens = do
-  stmts ← repeated (λ rest. not (begins sign.CloseBrace rest)) stmt_at (length tokens) tokens
-  rest ← sign_at sign.CloseBrace stmts.1
-  Some (stmts.0, rest)
+-- ---- grammars
 
--- the place of the first token, and 0 where there is none (no form is empty, so none is placed so)
-abbrev pub place_of : List Token → ℕ
-place_of [] = 0
-place_of (token ∷ rest) = token.place
+-- A value of this grammar begins the tokens, if any does. It is asked only of grammars that begin with tokens of their own.
+abbrev pub opens : {A : Type 0} → Grammar A → List Token → Bool
+opens (Alone m) tokens = begins m tokens
+opens (OneOf meant) tokens = is_some (meant_at meant tokens)
+opens (Of class) tokens = is_some (value_at class tokens)
+opens (Nested nest) tokens = false
+opens (Placed g) tokens = opens g tokens
+opens (After m g) tokens = begins m tokens
+opens (Before g m) tokens = opens g tokens
+opens (Then g h) tokens = opens g tokens
+opens (Made make g) tokens = opens g tokens
+opens (Either g h) tokens = opens g tokens || opens h tokens
+opens (Optional g h) tokens = opens g tokens
+opens (Nearest g m h) tokens = opens g tokens
+opens (Many g h) tokens = opens g tokens
+opens (Listed g separator) tokens = opens g tokens
+opens (Enclosed opening g separator closing) tokens = begins opening tokens
+opens (Until g m) tokens = false
+opens (Trailing g separator m) tokens = opens g tokens
 
-unfoldable pub block_at : List Token → Option (Block × List Token)
-block_at tokens = do
-  within ← sign_at sign.OpenBrace tokens
-  stmts ← stmts_at within
-  Some (record { place = place_of tokens; stmts = stmts.0 }, stmts.1)
+-- reading by a grammar, where the nodes that nest in it are read so
+module _ (inner : (A : Type 0) → Nest A → Reader A) where
+  abbrev pub read : {A : Type 0} → Grammar A → Reader A
+  read (Alone m) tokens = mark_at m tokens
+  read (OneOf meant) tokens = do
+    a ← meant_at meant tokens
+    Some (a, behind tokens)
+  read (Of class) tokens = do
+    a ← value_at class tokens
+    Some (a, behind tokens)
+  read (Nested nest) tokens = inner _ nest tokens
+  read (Placed g) tokens = do
+    a ← read g tokens
+    Some ((place_of tokens, a.0), a.1)
+  read (After m g) tokens = separated m (read g) tokens
+  read (Before g m) tokens = do
+    a ← read g tokens
+    last ← mark_at m a.1
+    Some (a.0, last.1)
+  read (Then g h) tokens = do
+    a ← read g tokens
+    b ← read h a.1
+    Some ((a.0, b.0), b.1)
+  read (Made make g) tokens = do
+    a ← read g tokens
+    Some (make a.0, a.1)
+  read (Either g h) tokens = if opens g tokens then read g tokens else read h tokens
+  read (Optional g h) tokens = do
+    a ← read g tokens
+    if opens h a.1 then (do
+      b ← read h a.1
+      Some ((a.0, Some b.0), b.1)) else Some ((a.0, None), a.1)
+  read (Nearest g m h) tokens = do
+    a ← read g tokens
+    if begins m a.1 then (do
+      b ← separated m (read h) a.1
+      Some ((a.0, Some b.0), b.1)) else Some ((a.0, None), a.1)
+  read (Many g h) tokens = do
+    a ← read g tokens
+    more ← repeated (opens h) (read h) (length a.1) a.1
+    Some ((a.0, more.0), more.1)
+  read (Listed g separator) tokens = listed_at separator (read g) tokens
+  read (Enclosed opening g separator closing) tokens = enclosed_at opening separator closing (read g) tokens
+  read (Until g m) tokens = until_at m (read g) tokens
+  read (Trailing g separator m) tokens = trailing_at separator m (read g) tokens
 
-abbrev pub type_named : ℕ → List ℕ → Option TypeNode
-type_named place name =
-    if bytes_eq name (codes "count") then Some (of.Count place)
-    else if bytes_eq name (codes "time") then Some (of.Time place)
-    else None
+abbrev pub unread : (A : Type 0) → Nest A → Reader A
+unread A nest tokens = None
 
-unfoldable pub type_at : List Token → Option (TypeNode × List Token)
-type_at tokens = do
-  name ← name_at tokens
-  typed ← type_named name.0.0 name.0.1
-  Some (typed, name.1)
+-- a node of a kind that is nested at most so deep, itself counted
+unfoldable pub within : ℕ → (A : Type 0) → Nest A → Reader A
+within zero = unread
+within (suc n) = λ A nest. read (within n) (node nest)
 
-unfoldable pub param_at : List Token → Option (Param × List Token)
-param_at tokens = do
-  name ← name_at tokens
-  colon ← sign_at sign.Colon name.1
-  typed ← type_at colon
-  Some (record { place = name.0.0; name = name.0.1; param_type = typed.0 }, typed.1)
+-- ---- functions that read
 
--- the parameters before a closing parenthesis
-unfoldable pub listed_params_at : List Token → Option (List Param × List Token)
-listed_params_at tokens =
-    if begins sign.CloseParenthesis tokens then Some ([], tokens) else listed param_at tokens
+-- the nodes of an expression that nest in it
+abbrev pub nest_of : Counted → Nest Expr
+nest_of counted.Expr = AnExpr
+nest_of counted.Cond = ACond
+nest_of counted.Unary = AUnary
 
-unfoldable pub params_at : List Token → Option (List Param × List Token)
-params_at tokens = do
-  within ← sign_at sign.OpenParenthesis tokens
-  params ← listed_params_at within
-  rest ← sign_at sign.CloseParenthesis params.1
-  Some (params.0, rest)
+-- a function value reads the nodes in an expression that are nested at most so deep
+pub record Nests (depth : ℕ) (pre : Global → MutBor (List Token) → ℕ → Counted → Type 0)
+    (post : Global → MutBor (List Token) → ℕ → Counted → Result Expr FormFault → MutBor (List Token) → Type 0) : Type 0 where
+  pub callable : (alloc : Global) (old : MutBor (List Token)) (what : Counted) → pre alloc old depth what
+  pub gives : (alloc : Global) (old new : MutBor (List Token)) (what : Counted) (result : Result Expr FormFault) → post alloc old depth what result new
+      → Gives (within depth Expr (nest_of what) old.now) result new.now
 
--- a handler, whatever its event and its names are
-unfoldable pub handler_at : List Token → Option (Decl × List Token)
-handler_at tokens = do
-  event ← word_at (codes "event") tokens
-  name ← name_at event.1
-  params ← params_at name.1
-  body ← block_at params.1
-  Some (decl.Event event.0 name.0.1 params.0 body.0, body.1)
-
--- a declaration of a form that scripts are made of
-unfoldable pub decl_at : List Token → Option (Decl × List Token)
-decl_at tokens = do
-  read ← handler_at tokens
-  if is_decl read.0 then Some read else None
-
--- ---- the tree
-
-abbrev pub with_first : Decl → Result (List Decl) ℕ → Result (List Decl) ℕ
-with_first first (Ok others) = Ok (first ∷ others)
-with_first first (Err at) = Err at
-
--- All of the tokens as n declarations at most. A token is numbered from the front, and `all` counts
--- every token of the text.
-unfoldable pub decls_from : ℕ → ℕ → List Token → Result (List Decl) ℕ
-decls_from n all [] = Ok []
-decls_from zero all (token ∷ tokens) = Err (all - length (token ∷ tokens))
-decls_from (suc n) all (token ∷ tokens) = elim (decl_at (token ∷ tokens)) [
-  | None ↦ Err (all - length (token ∷ tokens))
-  | Some read ↦ with_first read.0 (decls_from n all read.1)
-]
-
-abbrev pub as_tree : Result (List Decl) ℕ → Result Tree ℕ
-as_tree (Ok decls) = Ok (record { decls = decls })
-as_tree (Err at) = Err at
-
--- the tree of a token list, or the number of the token at which a declaration should begin and none reads
-unfoldable pub tree_of : List Token → Result Tree ℕ
-tree_of tokens = as_tree (decls_from (length tokens) (length tokens) tokens)
-
--- what was answered is the tree, or the token that is named, unless memory ran out
-abbrev pub UnlessNoMemory : Result Tree ParseFault → Result Tree ℕ → Type 0
-UnlessNoMemory (Ok tree) wanted = wanted ≡ Ok tree
-UnlessNoMemory (Err (NoTree at)) wanted = wanted ≡ Err at
-UnlessNoMemory (Err NoMemory) wanted = Unit {0}
+-- a function value reads nodes of a kind that are nested at most so deep
+pub record NestsOf {A : Type 0} (nest : Nest A) (depth : ℕ) (pre : Global → MutBor (List Token) → ℕ → Type 0)
+    (post : Global → MutBor (List Token) → ℕ → Result A FormFault → MutBor (List Token) → Type 0) : Type 0 where
+  pub callable : (alloc : Global) (old : MutBor (List Token)) → pre alloc old depth
+  pub gives : (alloc : Global) (old new : MutBor (List Token)) (result : Result A FormFault) → post alloc old depth result new
+      → Gives (within depth A nest old.now) result new.now

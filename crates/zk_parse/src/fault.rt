@@ -2,7 +2,7 @@ ghost use Rattle.std.specs.Prelude.{◌≡◌};
 ghost use Rattle.zk_parse.specs.declared.fault.ParseFault.TheVariants as fault;
 ghost use Rattle.zk_parse.specs.declared.fault.FormFault.TheVariants as form;
 
-use std::alloc::AllocFailed;
+use std::alloc::AllocError;
 use thiserror::Error;
 use zk_base::Mem;
 
@@ -18,18 +18,10 @@ pub enum ParseFault {
     NoMemory,
 }
 
-impl From<Mem> for ParseFault {
+impl From<AllocError> for ParseFault {
     ghost from_gives = { λ _ e. e ≡ fault.NoMemory };
 
-    fn from(_: Mem) -> ParseFault {
-        ParseFault::NoMemory
-    }
-}
-
-impl<T: Drop> From<AllocFailed<T>> for ParseFault {
-    ghost from_gives = { λ _ e. e ≡ fault.NoMemory };
-
-    fn from(_: AllocFailed<T>) -> ParseFault {
+    fn from(_: AllocError) -> ParseFault {
         ParseFault::NoMemory
     }
 }
@@ -51,10 +43,10 @@ impl From<Mem> for FormFault {
     }
 }
 
-impl<T: Drop> From<AllocFailed<T>> for FormFault {
+impl From<AllocError> for FormFault {
     ghost from_gives = { λ _ e. e ≡ form.NoMemory };
 
-    fn from(_: AllocFailed<T>) -> FormFault {
+    fn from(_: AllocError) -> FormFault {
         FormFault::NoMemory
     }
 }

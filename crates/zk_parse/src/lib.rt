@@ -4,14 +4,14 @@
 mod decls;
 mod exprs;
 mod fault;
-mod forms;
+mod inits;
 mod lists;
+mod operands;
 mod parsing;
 mod stmts;
 mod tokens;
+mod turns;
+mod types;
 
 pub use fault::ParseFault;
 pub use parsing::parse;
-
-#[cfg(test)]
-mod tests;

@@ -1,19 +1,23 @@
 ghost use Rattle.std.specs.Prelude.{◌≡◌, ◌↔◌, ℕ, Err, Ok};
-ghost use Rattle.zk_tree.specs.declared.tree.Tree.{Tree as Syntax};
+ghost use Rattle.zk_tree.specs.declared.decl.Tree.{Tree as Syntax};
 ghost use Rattle.zk_tree.specs.Reading.{Reads, IsRefusedAt};
-ghost use Rattle.zk_parse.specs.Reading.{tree_of, UnlessNoMemory};
+ghost use Rattle.zk_parse.specs.Trees.{tree_of, UnlessNoMemory};
 
-use crate::decls::decl;
+use crate::decls::nested_decl;
 use crate::fault::{FormFault, ParseFault};
+use crate::tokens::Tokens;
+use sqlite_items::Items;
 use std::alloc::Global;
-use zk_base::Sequence;
 use zk_tree::{Token, Tree};
 
-/// The syntax tree whose tokens these are (Zeek manual, Script Reference). The forms that are read so
-/// far are handlers of `zeek_init`, `zeek_done` and `packet_seen` whose bodies print.
+/// How deep a declaration may be nested: itself, and the statements, types, expressions, arms behind a
+/// colon and operands of prefixes within each other.
+const MAX_NESTING: u64 = 200;
+
+/// The syntax tree whose tokens these are (Zeek manual, Script Reference).
 ///
 /// `NoTree` comes exactly where the tokens are those of no tree, and names the token at which a
-/// declaration should begin and none reads.
+/// declaration should begin and none reads that is nested at most 200 deep.
 pub fn parse(alloc: Global, tokens: &[Token]) -> Result<Tree, ParseFault>
     ensures exact { UnlessNoMemory result (tree_of tokens.now) }
 
@@ -29,22 +33,19 @@ pub fn parse(alloc: Global, tokens: &[Token]) -> Result<Tree, ParseFault>
 fn tree(alloc: Global, tokens: &[Token]) -> Result<Tree, ParseFault>
     ensures { UnlessNoMemory result (tree_of tokens.now) }
 {
-    let mut decls = Vec::new(alloc);
-    let mut rest = tokens;
-    'decls: while !rest.is_empty() {
-        match decl(alloc, rest) {
-            Ok((decl, after)) => {
-                decls.push(decl)?;
-                rest = after;
-            }
+    let mut decls = Items::new(alloc);
+    let mut rest = Tokens::new(tokens);
+    'decls: while rest.left() != 0 {
+        let left = rest.left();
+        match nested_decl(alloc, &mut rest, MAX_NESTING) {
+            Ok(decl) => decls.push(decl)?,
             Err(FormFault::NoForm) => {
                 return Err(ParseFault::NoTree {
-                    at: tokens.len() - rest.len(),
+                    at: tokens.len() - left,
                 });
             }
             Err(FormFault::NoMemory) => return Err(ParseFault::NoMemory),
         }
     }
-    let decls = Sequence::from(decls);
     Ok(Tree { decls })
 }

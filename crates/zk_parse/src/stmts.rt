@@ -1,48 +1,441 @@
-ghost use Rattle.zk_parse.specs.Reading.{Gives, stmt_at, stmts_at, place_of, block_at};
+ghost use Rattle.std.specs.Prelude.{◌≡◌};
+ghost use Rattle.zk_tree.specs.declared.stmt.Stmt.{Stmt as SyntaxStmt};
+ghost use Rattle.zk_tree.specs.Grammar as grammar;
+ghost use Rattle.zk_tree.specs.Rules.{AStmt};
+ghost use Rattle.zk_parse.specs.Reading.{Gives, NestsOf, read, unread, within};
 
+use crate::exprs::Counted;
 use crate::fault::FormFault;
-use crate::lists::listed;
-use crate::tokens::{begins, place_of, sign, word};
+use crate::inits::{exprs, named_args, variable};
+use crate::lists::{Element, listed, up_to_brace};
+use crate::operands::nested_expr;
+use crate::tokens::Tokens;
+use sqlite_items::{Boxed, Items};
 use std::alloc::Global;
-use zk_base::Sequence;
-use zk_tree::{Block, Sign, Stmt, Token};
+use zk_tree::{Block, Expr, Item, Keys, Keyword, Name, Sign, Stmt};
 
-/// A statement.
-#[tactic(auto, unfolding(crate::specs::Reading::stmt_at))]
-fn stmt(alloc: Global, tokens: &[Token]) -> Result<(Stmt, &[Token]), FormFault>
-    ensures { Gives (λ x. (x.0, x.1.now)) result (stmt_at tokens.now) }
+/// `NAME`, `[NAME, ..]`
+#[tactic(auto, unfolding(zk_tree::specs::Grammar::for_keys))]
+fn for_keys(alloc: Global, tokens: &mut Tokens<'_>) -> Result<Keys, FormFault>
+    ensures { Gives (read unread grammar.for_keys tokens.old) result tokens.new }
 {
-    let (place, rest) = word(b"print".as_slice(), tokens)?;
-    let (values, rest) = listed(alloc, rest)?;
-    let rest = sign(Sign::Semicolon, rest)?;
-    let values = Sequence::from(values);
-    Ok((Stmt::Print { place, values }, rest))
-}
-
-/// Statements up to a closing brace.
-#[tactic(auto, unfolding(crate::specs::Reading::stmts_at))]
-fn stmts(alloc: Global, tokens: &[Token]) -> Result<(Vec<Stmt>, &[Token]), FormFault>
-    ensures { Gives (λ x. (x.0.items, x.1.now)) result (stmts_at tokens.now) }
-{
-    let mut stmts = Vec::new(alloc);
-    let mut rest = tokens;
-    'stmts: while !begins(Sign::CloseBrace, rest) {
-        let (stmt, after) = stmt(alloc, rest)?;
-        stmts.push(stmt)?;
-        rest = after;
+    if !tokens.begins(Sign::OpenBracket) {
+        let name = tokens.name(alloc)?;
+        return Ok(Keys::One { name });
     }
-    let rest = sign(Sign::CloseBrace, rest)?;
-    Ok((stmts, rest))
+    tokens.sign(Sign::OpenBracket)?;
+    let names = listed(alloc, &alloc, tokens)?;
+    tokens.sign(Sign::CloseBracket)?;
+    Ok(Keys::Several { names })
 }
 
-/// Statements between braces.
-#[tactic(auto, unfolding(crate::specs::Reading::block_at))]
-pub fn block(alloc: Global, tokens: &[Token]) -> Result<(Block, &[Token]), FormFault>
-    ensures { Gives (λ x. (x.0, x.1.now)) result (block_at tokens.now) }
+/// `NAME`, `NAME, NAME`
+#[tactic(auto, unfolding(zk_tree::specs::Grammar::for_names, zk_tree::specs::Grammar::for_keys))]
+fn for_names(alloc: Global, tokens: &mut Tokens<'_>) -> Result<(Keys, Option<Name>), FormFault>
+    ensures { Gives (read unread grammar.for_names tokens.old) result tokens.new }
 {
-    let within = sign(Sign::OpenBrace, tokens)?;
-    let (stmts, rest) = stmts(alloc, within)?;
-    let place = place_of(tokens);
-    let stmts = Sequence::from(stmts);
-    Ok((Block { place, stmts }, rest))
+    let keys = for_keys(alloc, tokens)?;
+    if !tokens.begins(Sign::Comma) {
+        return Ok((keys, None));
+    }
+    tokens.sign(Sign::Comma)?;
+    let value = tokens.name(alloc)?;
+    Ok((keys, Some(value)))
+}
+
+/// `(NAME, NAME in a)`
+#[tactic(auto, unfolding(zk_tree::specs::Grammar::for_head, zk_tree::specs::Grammar::for_names, zk_tree::specs::Grammar::for_keys))]
+fn for_head(
+    alloc: Global,
+    tokens: &mut Tokens<'_>,
+    depth: u64,
+) -> Result<((Keys, Option<Name>), Expr), FormFault>
+    ensures { Gives (read (within depth) grammar.for_head tokens.old) result tokens.new }
+{
+    tokens.sign(Sign::OpenParenthesis)?;
+    let names = for_names(alloc, tokens)?;
+    tokens.word(Keyword::In)?;
+    let over = nested_expr(alloc, tokens, depth, Counted::Expr)?;
+    tokens.sign(Sign::CloseParenthesis)?;
+    Ok((names, over))
+}
+
+/// `local NAME: TYPE = INIT;`
+#[tactic(auto, unfolding(zk_tree::specs::Grammar::local_stmt))]
+fn local_stmt(alloc: Global, tokens: &mut Tokens<'_>, depth: u64) -> Result<Stmt, FormFault>
+    ensures { Gives (read (within depth) grammar.local_stmt tokens.old) result tokens.new }
+{
+    let place = tokens.place();
+    tokens.word(Keyword::Local)?;
+    let ((name, local_type), init) = variable(alloc, tokens, depth)?;
+    tokens.sign(Sign::Semicolon)?;
+    Ok(Stmt::Local {
+        place,
+        name,
+        local_type,
+        init,
+    })
+}
+
+/// `print VALUE, ..;`
+#[tactic(auto, unfolding(zk_tree::specs::Grammar::print_stmt))]
+fn print_stmt(alloc: Global, tokens: &mut Tokens<'_>, depth: u64) -> Result<Stmt, FormFault>
+    ensures { Gives (read (within depth) grammar.print_stmt tokens.old) result tokens.new }
+{
+    let place = tokens.place();
+    tokens.word(Keyword::Print)?;
+    let values = exprs(alloc, tokens, depth)?;
+    tokens.sign(Sign::Semicolon)?;
+    Ok(Stmt::Print { place, values })
+}
+
+/// `event NAME(..);`
+#[tactic(auto, unfolding(zk_tree::specs::Grammar::event_stmt))]
+fn event_stmt(alloc: Global, tokens: &mut Tokens<'_>, depth: u64) -> Result<Stmt, FormFault>
+    ensures { Gives (read (within depth) grammar.event_stmt tokens.old) result tokens.new }
+{
+    let place = tokens.place();
+    tokens.word(Keyword::Event)?;
+    let (name, items) = named_args(alloc, tokens, depth)?;
+    tokens.sign(Sign::Semicolon)?;
+    Ok(Stmt::Event { place, name, items })
+}
+
+/// `{ NAME(..) }`
+#[tactic(auto, unfolding(zk_tree::specs::Grammar::scheduled))]
+fn scheduled(
+    alloc: Global,
+    tokens: &mut Tokens<'_>,
+    depth: u64,
+) -> Result<(Name, Items<Item>), FormFault>
+    ensures { Gives (read (within depth) grammar.scheduled tokens.old) result tokens.new }
+{
+    tokens.sign(Sign::OpenBrace)?;
+    let event = named_args(alloc, tokens, depth)?;
+    tokens.sign(Sign::CloseBrace)?;
+    Ok(event)
+}
+
+/// `schedule DELAY { NAME(..) };`
+#[tactic(auto, unfolding(zk_tree::specs::Grammar::schedule_stmt))]
+fn schedule_stmt(alloc: Global, tokens: &mut Tokens<'_>, depth: u64) -> Result<Stmt, FormFault>
+    ensures { Gives (read (within depth) grammar.schedule_stmt tokens.old) result tokens.new }
+{
+    let place = tokens.place();
+    tokens.word(Keyword::Schedule)?;
+    let delay = nested_expr(alloc, tokens, depth, Counted::Expr)?;
+    let (name, items) = scheduled(alloc, tokens, depth)?;
+    tokens.sign(Sign::Semicolon)?;
+    Ok(Stmt::Schedule {
+        place,
+        delay,
+        name,
+        items,
+    })
+}
+
+/// `add ELEMENT;`
+#[tactic(auto, unfolding(zk_tree::specs::Grammar::add_stmt))]
+fn add_stmt(alloc: Global, tokens: &mut Tokens<'_>, depth: u64) -> Result<Stmt, FormFault>
+    ensures { Gives (read (within depth) grammar.add_stmt tokens.old) result tokens.new }
+{
+    let place = tokens.place();
+    tokens.word(Keyword::Add)?;
+    let element = nested_expr(alloc, tokens, depth, Counted::Expr)?;
+    tokens.sign(Sign::Semicolon)?;
+    Ok(Stmt::Add { place, element })
+}
+
+/// `delete ELEMENT;`
+#[tactic(auto, unfolding(zk_tree::specs::Grammar::delete_stmt))]
+fn delete_stmt(alloc: Global, tokens: &mut Tokens<'_>, depth: u64) -> Result<Stmt, FormFault>
+    ensures { Gives (read (within depth) grammar.delete_stmt tokens.old) result tokens.new }
+{
+    let place = tokens.place();
+    tokens.word(Keyword::Delete)?;
+    let element = nested_expr(alloc, tokens, depth, Counted::Expr)?;
+    tokens.sign(Sign::Semicolon)?;
+    Ok(Stmt::Delete { place, element })
+}
+
+/// `;`, `VALUE;`
+#[tactic(auto, unfolding(zk_tree::specs::Grammar::returned))]
+fn returned(alloc: Global, tokens: &mut Tokens<'_>, depth: u64) -> Result<Option<Expr>, FormFault>
+    ensures { Gives (read (within depth) grammar.returned tokens.old) result tokens.new }
+{
+    if tokens.begins(Sign::Semicolon) {
+        tokens.sign(Sign::Semicolon)?;
+        return Ok(None);
+    }
+    let value = nested_expr(alloc, tokens, depth, Counted::Expr)?;
+    tokens.sign(Sign::Semicolon)?;
+    Ok(Some(value))
+}
+
+/// `return;`, `return VALUE;`
+#[tactic(auto, unfolding(zk_tree::specs::Grammar::return_stmt))]
+fn return_stmt(alloc: Global, tokens: &mut Tokens<'_>, depth: u64) -> Result<Stmt, FormFault>
+    ensures { Gives (read (within depth) grammar.return_stmt tokens.old) result tokens.new }
+{
+    let place = tokens.place();
+    tokens.word(Keyword::Return)?;
+    let value = returned(alloc, tokens, depth)?;
+    Ok(Stmt::Return { place, value })
+}
+
+/// `VALUE;`
+#[tactic(auto, unfolding(zk_tree::specs::Grammar::expr_stmt))]
+fn expr_stmt(alloc: Global, tokens: &mut Tokens<'_>, depth: u64) -> Result<Stmt, FormFault>
+    ensures { Gives (read (within depth) grammar.expr_stmt tokens.old) result tokens.new }
+{
+    let value = nested_expr(alloc, tokens, depth, Counted::Expr)?;
+    tokens.sign(Sign::Semicolon)?;
+    Ok(Stmt::Expr { value })
+}
+
+/// `next;`
+fn next_stmt(tokens: &mut Tokens<'_>) -> Result<Stmt, FormFault>
+    ensures { Gives (read unread grammar.next_stmt tokens.old) result tokens.new }
+{
+    let place = tokens.place();
+    tokens.word(Keyword::Next)?;
+    tokens.sign(Sign::Semicolon)?;
+    Ok(Stmt::Next { place })
+}
+
+/// `break;`
+fn break_stmt(tokens: &mut Tokens<'_>) -> Result<Stmt, FormFault>
+    ensures { Gives (read unread grammar.break_stmt tokens.old) result tokens.new }
+{
+    let place = tokens.place();
+    tokens.word(Keyword::Break)?;
+    tokens.sign(Sign::Semicolon)?;
+    Ok(Stmt::Break { place })
+}
+
+/// `;`
+fn empty_stmt(tokens: &mut Tokens<'_>) -> Result<Stmt, FormFault>
+    ensures { Gives (read unread grammar.empty_stmt tokens.old) result tokens.new }
+{
+    let place = tokens.place();
+    tokens.sign(Sign::Semicolon)?;
+    Ok(Stmt::Empty { place })
+}
+
+/// `if ( TEST ) YES`, or with an `else`.
+fn if_from(place: u64, guarded: (Expr, Boxed<Stmt>), other: Option<Boxed<Stmt>>) -> Stmt
+    ensures { result ≡ grammar.if_from place guarded.0 guarded.1 other }
+{
+    let (test, yes) = guarded;
+    match other {
+        None => Stmt::If { place, test, yes },
+        Some(other) => Stmt::IfElse {
+            place,
+            test,
+            yes,
+            no: other,
+        },
+    }
+}
+
+/// What reads the parts of a statement.
+#[derive(Clone, Copy)]
+pub struct Stmts<F> {
+    pub alloc: Global,
+    /// How deep the nodes in it may still nest.
+    pub depth: u64,
+    pub nested: F,
+}
+
+impl<F: Fn(Global, &mut Tokens<'_>, u64) -> Result<Stmt, FormFault>> Stmts<F> {
+    fn nested(&self, tokens: &mut Tokens<'_>) -> Result<Stmt, FormFault>
+        requires { NestsOf AStmt self.now.depth (F.pre self.now.nested) (F.post self.now.nested) }
+        ensures { Gives (within self.now.depth SyntaxStmt AStmt tokens.old) result tokens.new }
+    {
+        (self.nested)(self.alloc, tokens, self.depth)
+    }
+
+    /// Statements between braces.
+    #[tactic(auto, unfolding(zk_tree::specs::Grammar::block))]
+    pub fn block(&self, tokens: &mut Tokens<'_>) -> Result<Block, FormFault>
+        requires { NestsOf AStmt self.now.depth (F.pre self.now.nested) (F.post self.now.nested) }
+        ensures { Gives (read (within self.now.depth) grammar.block tokens.old) result tokens.new }
+    {
+        let place = tokens.place();
+        tokens.sign(Sign::OpenBrace)?;
+        let stmts = up_to_brace(self.alloc, self, tokens)?;
+        Ok(Block { place, stmts })
+    }
+
+    /// A block as a statement.
+    #[tactic(auto, unfolding(zk_tree::specs::Grammar::block_stmt))]
+    fn block_stmt(&self, tokens: &mut Tokens<'_>) -> Result<Stmt, FormFault>
+        requires { NestsOf AStmt self.now.depth (F.pre self.now.nested) (F.post self.now.nested) }
+        ensures { Gives (read (within self.now.depth) grammar.block_stmt tokens.old) result tokens.new }
+    {
+        let block = self.block(tokens)?;
+        Ok(Stmt::Block { block })
+    }
+
+    /// `(TEST) BODY`
+    #[tactic(auto, unfolding(zk_tree::specs::Grammar::guarded))]
+    fn guarded(&self, tokens: &mut Tokens<'_>) -> Result<(Expr, Boxed<Stmt>), FormFault>
+        requires { NestsOf AStmt self.now.depth (F.pre self.now.nested) (F.post self.now.nested) }
+        ensures { Gives (read (within self.now.depth) grammar.guarded tokens.old) result tokens.new }
+    {
+        tokens.sign(Sign::OpenParenthesis)?;
+        let test = nested_expr(self.alloc, tokens, self.depth, Counted::Expr)?;
+        tokens.sign(Sign::CloseParenthesis)?;
+        let body = self.nested(tokens)?;
+        let body = Boxed::new(self.alloc, body)?;
+        Ok((test, body))
+    }
+
+    /// `(TEST) YES`, `(TEST) YES else NO`
+    #[tactic(auto, unfolding(zk_tree::specs::Grammar::perhaps_else))]
+    fn perhaps_else(
+        &self,
+        tokens: &mut Tokens<'_>,
+    ) -> Result<((Expr, Boxed<Stmt>), Option<Boxed<Stmt>>), FormFault>
+        requires { NestsOf AStmt self.now.depth (F.pre self.now.nested) (F.post self.now.nested) }
+        ensures { Gives (read (within self.now.depth) grammar.perhaps_else tokens.old) result tokens.new }
+    {
+        let guarded = self.guarded(tokens)?;
+        if !tokens.begins_word(Keyword::Else) {
+            return Ok((guarded, None));
+        }
+        tokens.word(Keyword::Else)?;
+        let other = self.nested(tokens)?;
+        let other = Boxed::new(self.alloc, other)?;
+        Ok((guarded, Some(other)))
+    }
+
+    /// `if ( TEST ) YES`, `if ( TEST ) YES else NO`
+    #[tactic(auto, unfolding(zk_tree::specs::Grammar::if_stmt))]
+    fn if_stmt(&self, tokens: &mut Tokens<'_>) -> Result<Stmt, FormFault>
+        requires { NestsOf AStmt self.now.depth (F.pre self.now.nested) (F.post self.now.nested) }
+        ensures { Gives (read (within self.now.depth) grammar.if_stmt tokens.old) result tokens.new }
+    {
+        let place = tokens.place();
+        tokens.word(Keyword::If)?;
+        let (guarded, other) = self.perhaps_else(tokens)?;
+        Ok(if_from(place, guarded, other))
+    }
+
+    /// `while ( TEST ) BODY`
+    #[tactic(auto, unfolding(zk_tree::specs::Grammar::while_stmt))]
+    fn while_stmt(&self, tokens: &mut Tokens<'_>) -> Result<Stmt, FormFault>
+        requires { NestsOf AStmt self.now.depth (F.pre self.now.nested) (F.post self.now.nested) }
+        ensures { Gives (read (within self.now.depth) grammar.while_stmt tokens.old) result tokens.new }
+    {
+        let place = tokens.place();
+        tokens.word(Keyword::While)?;
+        let (test, body) = self.guarded(tokens)?;
+        Ok(Stmt::While { place, test, body })
+    }
+
+    /// `for ( KEYS in OVER ) BODY`
+    #[tactic(auto, unfolding(zk_tree::specs::Grammar::for_stmt))]
+    fn for_stmt(&self, tokens: &mut Tokens<'_>) -> Result<Stmt, FormFault>
+        requires { NestsOf AStmt self.now.depth (F.pre self.now.nested) (F.post self.now.nested) }
+        ensures { Gives (read (within self.now.depth) grammar.for_stmt tokens.old) result tokens.new }
+    {
+        let place = tokens.place();
+        tokens.word(Keyword::For)?;
+        let ((keys, value), over) = for_head(self.alloc, tokens, self.depth)?;
+        let body = self.nested(tokens)?;
+        let body = Boxed::new(self.alloc, body)?;
+        Ok(Stmt::For {
+            place,
+            keys,
+            value,
+            over,
+            body,
+        })
+    }
+
+    /// A statement.
+    #[tactic(auto, unfolding(zk_tree::specs::Grammar::statement, zk_tree::specs::Grammar::block_stmt, zk_tree::specs::Grammar::block, zk_tree::specs::Grammar::if_stmt, zk_tree::specs::Grammar::while_stmt, zk_tree::specs::Grammar::for_stmt))]
+    pub fn statement(&self, tokens: &mut Tokens<'_>) -> Result<Stmt, FormFault>
+        requires { NestsOf AStmt self.now.depth (F.pre self.now.nested) (F.post self.now.nested) }
+        ensures { Gives (read (within self.now.depth) grammar.statement tokens.old) result tokens.new }
+    {
+        if tokens.begins(Sign::OpenBrace) {
+            self.block_stmt(tokens)
+        } else if tokens.begins(Sign::Semicolon) {
+            empty_stmt(tokens)
+        } else if tokens.begins_word(Keyword::If) {
+            self.if_stmt(tokens)
+        } else if tokens.begins_word(Keyword::While) {
+            self.while_stmt(tokens)
+        } else if tokens.begins_word(Keyword::For) {
+            self.for_stmt(tokens)
+        } else {
+            plain_stmt(self.alloc, tokens, self.depth)
+        }
+    }
+}
+
+/// A statement in which no statement is nested.
+#[tactic(auto, unfolding(zk_tree::specs::Grammar::plain_stmt, zk_tree::specs::Grammar::local_stmt, zk_tree::specs::Grammar::print_stmt, zk_tree::specs::Grammar::event_stmt, zk_tree::specs::Grammar::schedule_stmt))]
+fn plain_stmt(alloc: Global, tokens: &mut Tokens<'_>, depth: u64) -> Result<Stmt, FormFault>
+    ensures { Gives (read (within depth) grammar.plain_stmt tokens.old) result tokens.new }
+{
+    if tokens.begins_word(Keyword::Local) {
+        local_stmt(alloc, tokens, depth)
+    } else if tokens.begins_word(Keyword::Print) {
+        print_stmt(alloc, tokens, depth)
+    } else if tokens.begins_word(Keyword::Event) {
+        event_stmt(alloc, tokens, depth)
+    } else if tokens.begins_word(Keyword::Schedule) {
+        schedule_stmt(alloc, tokens, depth)
+    } else {
+        short_stmt(alloc, tokens, depth)
+    }
+}
+
+/// A statement with one expression, or none.
+#[tactic(auto, unfolding(zk_tree::specs::Grammar::short_stmt, zk_tree::specs::Grammar::add_stmt, zk_tree::specs::Grammar::delete_stmt, zk_tree::specs::Grammar::return_stmt))]
+fn short_stmt(alloc: Global, tokens: &mut Tokens<'_>, depth: u64) -> Result<Stmt, FormFault>
+    ensures { Gives (read (within depth) grammar.short_stmt tokens.old) result tokens.new }
+{
+    if tokens.begins_word(Keyword::Add) {
+        add_stmt(alloc, tokens, depth)
+    } else if tokens.begins_word(Keyword::Delete) {
+        delete_stmt(alloc, tokens, depth)
+    } else if tokens.begins_word(Keyword::Return) {
+        return_stmt(alloc, tokens, depth)
+    } else if tokens.begins_word(Keyword::Next) {
+        next_stmt(tokens)
+    } else if tokens.begins_word(Keyword::Break) {
+        break_stmt(tokens)
+    } else {
+        expr_stmt(alloc, tokens, depth)
+    }
+}
+
+impl<F: Fn(Global, &mut Tokens<'_>, u64) -> Result<Stmt, FormFault>> Element<Stmts<F>> for Stmt {
+    ghost ready = { λ c. NestsOf AStmt c.depth (F.pre c.nested) (F.post c.nested) };
+
+    ghost at = { λ c. read (within c.depth) grammar.a_stmt };
+
+    #[tactic(auto, unfolding(zk_tree::specs::Grammar::a_stmt))]
+    fn read(stmts: &Stmts<F>, tokens: &mut Tokens<'_>) -> Result<Stmt, FormFault> {
+        stmts.nested(tokens)
+    }
+}
+
+/// A statement that is nested at most so deep, itself counted.
+pub fn nested_stmt(alloc: Global, tokens: &mut Tokens<'_>, depth: u64) -> Result<Stmt, FormFault>
+    ensures { Gives (within depth SyntaxStmt AStmt tokens.old) result tokens.new }
+{
+    if depth == 0 {
+        return Err(FormFault::NoForm);
+    }
+    let stmts = Stmts {
+        alloc,
+        depth: depth - 1,
+        nested: nested_stmt,
+    };
+    stmts.statement(tokens)
 }

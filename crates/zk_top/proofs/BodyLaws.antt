@@ -14,24 +14,24 @@ use Rattle.zk_tree.specs.declared.token.Token.{Token}
 use Rattle.zk_tree.specs.declared.token.TokenKind.TheVariants as token
 use Rattle.zk_tree.specs.declared.token.Sign.TheVariants as sign
 use Rattle.zk_tree.specs.declared.place.Place.{Place}
-use Rattle.zk_tree.specs.declared.tree.Tree.{Tree}
-use Rattle.zk_tree.specs.declared.tree.Decl.{Decl}
-use Rattle.zk_tree.specs.declared.tree.Param.{Param}
-use Rattle.zk_tree.specs.declared.tree.Decl.TheVariants as decl
-use Rattle.zk_tree.specs.declared.tree.Stmt.{Stmt}
-use Rattle.zk_tree.specs.declared.tree.Stmt.TheVariants as stmt
-use Rattle.zk_tree.specs.declared.tree.Expr.{Expr}
-use Rattle.zk_tree.specs.declared.tree.Expr.TheVariants as expr
+use Rattle.zk_tree.specs.declared.first.Tree.{Tree}
+use Rattle.zk_tree.specs.declared.first.Decl.{Decl}
+use Rattle.zk_tree.specs.declared.first.Param.{Param}
+use Rattle.zk_tree.specs.declared.first.Decl.TheVariants as decl
+use Rattle.zk_tree.specs.declared.first.Stmt.{Stmt}
+use Rattle.zk_tree.specs.declared.first.Stmt.TheVariants as stmt
+use Rattle.zk_tree.specs.declared.first.Expr.{Expr}
+use Rattle.zk_tree.specs.declared.first.Expr.TheVariants as expr
 use Rattle.zk_tree.specs.Forms.{Event, predefined_events, number_of, event_number, type_name, are_params, is_head, names_of, is_expr, is_stmt, is_decl}
-use Rattle.zk_tree.specs.Grammar.{Spelled, follows, with_commas, spelled_expr, spelled_stmt, spelled_params, spelled_block, spelled_decl, spelled_tree, AreSpelled}
+use Rattle.zk_first.specs.Grammar.{Spelled, follows, with_commas, spelled_expr, spelled_stmt, spelled_params, spelled_block, spelled_decl, spelled_tree, AreSpelled}
 use Rattle.zk_tree.specs.Value.{Value}
 use Rattle.zk_tree.specs.Value as value
 use Rattle.zk_typed.specs.Typed.{zeek_init, zeek_done, expression_of, place_in, statement_of, handler_of, program_of}
 use Rattle.zk_typed.specs.Exec.{Stop, called, named, before, and_then, evaluate, evaluate_all, Normal, Left, is_normal, printed, exec, exec_all}
 use Rattle.zk_typed.specs.declared.program.Program.{Program}
 use Rattle.zk_typed.specs.World.{World, queued}
-use Rattle.zk_parse.specs.Reading.{tree_of}
-use Rattle.zk_parse.proofs.TreeLaws.{tree_of-tree}
+use Rattle.zk_first.specs.Reading.{tree_of}
+use Rattle.zk_first.proofs.TreeLaws.{tree_of-tree}
 use Rattle.zk_top.specs.Bodies.{parameter_count, HasItsArguments, EndsNormally}
 use Rattle.zk_top.specs.Item.{What, Seen}
 use Rattle.zk_top.specs.Printed.{budget, event_of}

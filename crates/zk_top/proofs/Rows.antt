@@ -7,7 +7,7 @@ use Rattle.zk_base.specs.declared.endings.ScriptKind.TheVariants.{BadByte, OpenS
 use Rattle.zk_base.specs.Shelf.{Files}
 use Rattle.zk_text.specs.Span.{span_decimal}
 use Rattle.zk_typed.specs.Run.{dispatches_max}
-use Rattle.zk_parse.specs.Reading.{sign_at, name_at, word_at, repeated, behind_comma, listed, call_at, named_at, expr_at, stmt_at, stmts_at, block_at, type_at, param_at, listed_params_at, params_at, handler_at, decl_at, decls_from, tree_of}
+use Rattle.zk_first.specs.Reading.{sign_at, name_at, word_at, repeated, behind_comma, listed, call_at, named_at, expr_at, stmt_at, stmts_at, block_at, type_at, param_at, listed_params_at, params_at, handler_at, decl_at, decls_from, tree_of}
 use Rattle.zk_top.specs.Outcome.{outcome}
 
 -- one input, c.pcap

@@ -4,10 +4,10 @@ use Rattle.std.specs.Option.{option_map_or}
 use Rattle.zk_base.specs.declared.endings.ScriptKind.{ScriptKind}
 use Rattle.zk_base.specs.declared.endings.ScriptKind.TheVariants as kind
 use Rattle.zk_tree.specs.declared.token.Token.{Token}
-use Rattle.zk_tree.specs.declared.tree.Tree.{Tree}
+use Rattle.zk_tree.specs.declared.first.Tree.{Tree}
 use Rattle.zk_typed.specs.declared.program.Program.{Program}
 use Rattle.zk_typed.specs.Typed.{program_of}
-use Rattle.zk_parse.specs.Reading.{tree_of}
+use Rattle.zk_first.specs.Reading.{tree_of}
 use Rattle.zk_token.specs.Fault.{Fault}
 use Rattle.zk_token.specs.Fault as fault
 use Rattle.zk_token.specs.Tokens.{tokens_of}

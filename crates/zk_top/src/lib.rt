@@ -26,4 +26,6 @@ pub use command::command_line;
 pub use entry::run;
 
 #[cfg(test)]
+mod grammar_tests;
+#[cfg(test)]
 mod tests;

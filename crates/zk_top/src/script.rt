@@ -2,7 +2,7 @@ ghost use Rattle.std.specs.Prelude.{◌≡◌, ◌<◌, [], ◌∷◌, length, I
 ghost use Rattle.zk_top.specs.Lowering.{FindsCode, code_found};
 ghost use Rattle.zk_top.specs.Outcome.{accepted};
 ghost use Rattle.zk_top.specs.Parts.{DoesPart};
-ghost use Rattle.zk_parse.specs.Reading.{tree_of};
+ghost use Rattle.zk_first.specs.Reading.{tree_of};
 ghost use Rattle.zk_top.specs.Script.{script_of, program_by, place_of_token};
 
 use crate::found::Found;
@@ -12,7 +12,7 @@ use crate::stop::Stop;
 use crate::typing::program_of;
 use std::alloc::Global;
 use zk_base::{Bytes, Ending, Mem, ScriptKind, Shelf};
-use zk_parse::{ParseFault, parse};
+use zk_first::{ParseFault, parse};
 use zk_token::{LexFault, tokens};
 use zk_tree::Token;
 use zk_value::Code;

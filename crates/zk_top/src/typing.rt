@@ -5,7 +5,8 @@ ghost use Rattle.zk_typed.specs.Typed.{expression_of, statement_of, handler_of, 
 use crate::mapping::map_all;
 use std::alloc::Global;
 use zk_base::{Bytes, Mem};
-use zk_tree::{Decl, Expr, Param, Place, Stmt, Tree, event_number};
+use zk_tree::first::{Decl, Expr, Param, Stmt, Tree};
+use zk_tree::{Place, event_number};
 use zk_typed::{Expression, Handler, Program, Statement};
 
 /// The file of the one text of a run.

@@ -3,15 +3,15 @@ use Rattle.std.specs.Prelude.{ℕ, ◌+◌, Bool, true, false, not, ◌&&◌, �
 use Rattle.std.specs.List.{list_any, list_all}
 use Rattle.std.specs.Str.{bytes_eq}
 use Rattle.zk_base.specs.declared.numbers.EventNo.{EventNo}
-use Rattle.zk_tree.specs.declared.tree.Decl.{Decl}
-use Rattle.zk_tree.specs.declared.tree.Decl.TheVariants as decl
-use Rattle.zk_tree.specs.declared.tree.Param.{Param}
-use Rattle.zk_tree.specs.declared.tree.«Type».{«Type» as TypeNode}
-use Rattle.zk_tree.specs.declared.tree.«Type».TheVariants as of
-use Rattle.zk_tree.specs.declared.tree.Stmt.{Stmt}
-use Rattle.zk_tree.specs.declared.tree.Stmt.TheVariants as stmt
-use Rattle.zk_tree.specs.declared.tree.Expr.{Expr}
-use Rattle.zk_tree.specs.declared.tree.Expr.TheVariants as expr
+use Rattle.zk_tree.specs.declared.first.Decl.{Decl}
+use Rattle.zk_tree.specs.declared.first.Decl.TheVariants as decl
+use Rattle.zk_tree.specs.declared.first.Param.{Param}
+use Rattle.zk_tree.specs.declared.first.«Type».{«Type» as TypeNode}
+use Rattle.zk_tree.specs.declared.first.«Type».TheVariants as of
+use Rattle.zk_tree.specs.declared.first.Stmt.{Stmt}
+use Rattle.zk_tree.specs.declared.first.Stmt.TheVariants as stmt
+use Rattle.zk_tree.specs.declared.first.Expr.{Expr}
+use Rattle.zk_tree.specs.declared.first.Expr.TheVariants as expr
 
 -- an event and its parameters, each with the name of its type
 pub record Event : Type 0 where

@@ -1,7 +1,11 @@
+pub mod Classes
 pub mod Forms
 pub mod Grammar
 pub mod Lists
+pub mod Marks
 pub mod Reading
+pub mod Rules
 pub mod Table
-pub mod Value
 pub mod Store
+pub mod Value
+pub mod Opening

@@ -1,20 +1,34 @@
 -- What it is for tokens to read as a tree.
-use Rattle.std.specs.Prelude.{ℕ, ◌<◌, List, take, drop, length, IsTrue}
-use Rattle.std.specs.List.{list_all}
+use Rattle.std.specs.Prelude.{ℕ, zero, suc, ◌<◌, List, [], drop, length}
 use Rattle.zk_tree.specs.declared.token.Token.{Token}
-use Rattle.zk_tree.specs.declared.tree.Decl.{Decl}
-use Rattle.zk_tree.specs.declared.tree.Tree.{Tree}
-use Rattle.zk_tree.specs.Forms.{is_decl}
-use Rattle.zk_tree.specs.Grammar.{AreSpelled, spelled_decl, spelled_tree}
+use Rattle.zk_tree.specs.declared.decl.Decl.{Decl}
+use Rattle.zk_tree.specs.declared.decl.Tree.{Tree}
+use Rattle.zk_tree.specs.Rules.{Nest, ADecl, Rule, Repeated, Spells}
+use Rattle.zk_tree.specs.Grammar.{node}
 
--- the tokens spell this tree, and each of its declarations is of a form that is read
-pub record Reads (tokens : List Token) (tree : Tree) : Type 0 where
-  pub spelled : AreSpelled (spelled_tree tree) tokens
-  pub forms : IsTrue (list_all is_decl tree.decls)
+abbrev pub NoNodes : (A : Type 0) → Nest A → Rule A
+NoNodes A nest x tokens rest = ⊥
+
+-- The nodes of a kind that are nested at most so deep, each itself counted: what tokens, up to a rest of them, spell one.
+unfoldable pub Within : ℕ → (A : Type 0) → Nest A → Rule A
+Within zero = NoNodes
+Within (suc n) = λ A nest. Spells (Within n) (node nest)
+
+-- how deep a declaration may be nested
+abbrev pub max_nesting : ℕ
+max_nesting = 200
+
+-- a declaration, up to a rest of the tokens
+abbrev pub IsDecl : Rule Decl
+IsDecl = Within max_nesting Decl ADecl
+
+-- the tokens spell this tree
+abbrev pub Reads : List Token → Tree → Type 0
+Reads tokens tree = Repeated IsDecl tree.decls tokens []
 
 -- The tokens before this one are whole declarations, and none reads from it.
 pub record IsRefusedAt (tokens : List Token) (at : ℕ) : Type 0 where
-  pub within : at < length tokens
-  pub before : Tree
-  pub read : Reads (take at tokens) before
-  pub none : (decl : Decl) (count : ℕ) → IsTrue (is_decl decl) → AreSpelled (spelled_decl decl) (take count (drop at tokens)) → ⊥
+  pub inside : at < length tokens
+  pub before : List Decl
+  pub read : Repeated IsDecl before tokens (drop at tokens)
+  pub none : (decl : Decl) (rest : List Token) → IsDecl decl (drop at tokens) rest → ⊥

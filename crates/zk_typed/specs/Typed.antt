@@ -2,13 +2,13 @@
 use Rattle.std.specs.Prelude.{ℕ, true, false, List, map, codes}
 use Rattle.zk_base.specs.declared.numbers.EventNo.{EventNo}
 use Rattle.zk_tree.specs.declared.place.Place.{Place}
-use Rattle.zk_tree.specs.declared.tree.Decl.{Decl}
-use Rattle.zk_tree.specs.declared.tree.Decl.TheVariants as decl
-use Rattle.zk_tree.specs.declared.tree.Stmt.{Stmt}
-use Rattle.zk_tree.specs.declared.tree.Stmt.TheVariants as stmt
-use Rattle.zk_tree.specs.declared.tree.Expr.{Expr}
-use Rattle.zk_tree.specs.declared.tree.Expr.TheVariants as expr
-use Rattle.zk_tree.specs.declared.tree.Tree.{Tree}
+use Rattle.zk_tree.specs.declared.first.Decl.{Decl}
+use Rattle.zk_tree.specs.declared.first.Decl.TheVariants as decl
+use Rattle.zk_tree.specs.declared.first.Stmt.{Stmt}
+use Rattle.zk_tree.specs.declared.first.Stmt.TheVariants as stmt
+use Rattle.zk_tree.specs.declared.first.Expr.{Expr}
+use Rattle.zk_tree.specs.declared.first.Expr.TheVariants as expr
+use Rattle.zk_tree.specs.declared.first.Tree.{Tree}
 use Rattle.zk_tree.specs.Forms.{number_of, event_number, names_of}
 use Rattle.zk_typed.specs.declared.program.Program.{Program}
 use Rattle.zk_typed.specs.declared.program.Handler.{Handler}

@@ -1,5 +1,5 @@
 use Rattle.std.proofs.Common.{◌≡◌, ◌<◌, length, Err, arith}
-use Rattle.zk_parse.specs.Reading.{tree_of}
+use Rattle.zk_first.specs.Reading.{tree_of}
 use Rattle.zk_top.proofs.script.compile_tokens.Goals as goal
 
 pub place_of-requires : goal.place_of-requires

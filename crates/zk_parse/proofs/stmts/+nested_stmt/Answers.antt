@@ -1,0 +1,10 @@
+use Rattle.std.proofs.Common.{arith}
+use Rattle.zk_tree.specs.Rules.{AStmt}
+use Rattle.zk_parse.proofs.Depth.{not_within, within_less}
+use Rattle.zk_parse.proofs.stmts.+nested_stmt.Goals as goal
+
+pub returns-then-depth-eq0 : goal.returns-then-depth-eq0
+returns-then-depth-eq0 t c = not_within AStmt c.args.depth c.args.tokens.now (omega arith)
+
+pub returns : goal.returns
+returns t c = rw (within_less AStmt c.args.depth c.args.tokens.now (omega arith)) c.statement.ensures

@@ -1,0 +1,311 @@
+-- What the rules of names and types give for small scripts, computed by the checker.
+use Rattle.std.proofs.Common.{◌≡◌, ℕ, ◌+◌, List, [], ◌∷◌, ◌++◌, codes, pos, refl, Option, Some, None, true, false, map}
+use Rattle.zk_tree.specs.declared.decl.BodyKind.TheVariants as body
+use Rattle.zk_tree.specs.declared.decl.Decl.{Decl}
+use Rattle.zk_tree.specs.declared.decl.Decl.TheVariants as decl
+use Rattle.zk_tree.specs.declared.decl.Lasting.TheVariants as lasting
+use Rattle.zk_tree.specs.declared.decl.Redefining.TheVariants as redefining
+use Rattle.zk_tree.specs.declared.expr.Expr.{Expr}
+use Rattle.zk_tree.specs.declared.expr.Expr.TheVariants as expr
+use Rattle.zk_tree.specs.declared.expr.Literal.TheVariants as literal
+use Rattle.zk_tree.specs.declared.expr.Part.TheVariants as part
+use Rattle.zk_tree.specs.declared.stmt.Block.{roll-Block}
+use Rattle.zk_tree.specs.declared.stmt.Init.TheVariants as init
+use Rattle.zk_tree.specs.declared.stmt.Stmt.{Stmt}
+use Rattle.zk_tree.specs.declared.stmt.Stmt.TheVariants as stmt
+use Rattle.zk_tree.specs.declared.types.Atomic.TheVariants as atomic
+use Rattle.zk_tree.specs.declared.types.Param.{Param, roll-Param}
+use Rattle.zk_tree.specs.declared.types.Type.{«Type»}
+use Rattle.zk_tree.specs.declared.types.Type.TheVariants as written
+use Rattle.zk_tree.specs.Opening.{trees}
+use Rattle.zk_typed.specs.declared.rule.Rule.{Rule}
+use Rattle.zk_typed.specs.declared.rule.Rule.TheVariants as rule
+use Rattle.std.specs.Fmt.{digits}
+use Rattle.zk_typed.specs.Blind.{is_blind}
+use Rattle.zk_typed.specs.Checked.{Broken}
+use Rattle.zk_typed.specs.Errors.{errors}
+use Rattle.zk_tree.specs.declared.name.Name.{Name}
+use Rattle.zk_tree.specs.declared.operator.Assigning.TheVariants as assigning
+use Rattle.zk_typed.specs.LoadOrder.{File, load_order}
+use Rattle.zk_typed.specs.Programs.{typed_program}
+use Rattle.zk_typed.specs.Running.{run, world_in, dispatches_max}
+use Rattle.zk_tree.specs.declared.expr.Item.{Item}
+use Rattle.zk_tree.specs.declared.expr.Item.TheVariants as item
+use Rattle.zk_tree.specs.declared.operator.Container.TheVariants as container
+use Rattle.zk_tree.specs.declared.types.Field.{Field, roll-Field}
+use Rattle.zk_typed.specs.Log.{One, Text}
+use Rattle.zk_tree.specs.declared.types.Attr.{Attr}
+use Rattle.zk_tree.specs.declared.operator.Prefix.TheVariants as prefix
+use Rattle.zk_tree.specs.declared.operator.Level.TheVariants as level
+use Rattle.zk_tree.specs.declared.operator.Operator.TheVariants as operator
+use Rattle.zk_tree.specs.declared.operator.TimeUnit.TheVariants as unit
+use Rattle.zk_tree.specs.declared.expr.Link.{roll-Link}
+
+name : ℕ → List ℕ → Name
+name place text = record { place = place; text = text }
+
+file : List Decl → List File
+file decls = record { name = codes "s.zeek"; decls = decls } ∷ []
+
+told : Rule → ℕ → List Broken
+told rule byte = record { rule = rule; place = record { file = 0; byte = byte } } ∷ []
+
+count_at : ℕ → «Type»
+count_at place = written.Atomic place atomic.Count
+
+string : ℕ → List ℕ → Expr
+string place bytes = expr.Literal place (literal.String bytes)
+
+-- global x: count = INIT;
+global : Expr → Decl
+global value = decl.Variable 0 lasting.Global (name 7 (codes "x")) (Some (count_at 10)) (Some (init.Value value)) []
+
+-- event zeek_init() { STATEMENTS }
+handler : List Stmt → Decl
+handler list = decl.Body 0 body.Event (name 6 (codes "zeek_init")) [] [] (roll-Block (record { place = 18; stmts = list }))
+
+right_types_break_no_rule : errors (file (global (expr.Number 18 1) ∷ [])) ≡ []
+unfolding file global count_at name trees
+right_types_break_no_rule = refl
+
+-- global x: count = y;
+a_name_that_means_nothing : errors (file (global (expr.Name (name 18 (codes "y"))) ∷ [])) ≡ told rule.Unknown 18
+unfolding file global told count_at name trees
+a_name_that_means_nothing = refl
+
+-- global x: count = "a";
+a_string_for_a_count : errors (file (global (string 18 (codes "a")) ∷ [])) ≡ told rule.WrongType 18
+unfolding file global told count_at string name trees
+a_string_for_a_count = refl
+
+-- global x: count = 1; redef x = 2;
+a_redef_of_what_is_fixed :
+    errors (file (global (expr.Number 18 1) ∷ decl.Redef 21 (name 27 (codes "x")) redefining.Set (init.Value (expr.Number 31 2)) ∷ [])) ≡ told rule.FixedGlobal 21
+unfolding file global told count_at name trees
+a_redef_of_what_is_fixed = refl
+
+-- event zeek_init() { break; }
+a_break_outside_a_loop : errors (file (handler (stmt.Break 20 ∷ []) ∷ [])) ≡ told rule.Break 20
+unfolding file handler told name trees
+a_break_outside_a_loop = refl
+
+-- event zeek_init() { print a; local a = 1; }
+a_local_before_its_statement :
+    errors (file (handler (stmt.Print 20 (expr.Name (name 26 (codes "a")) ∷ []) ∷ stmt.Local 29 (name 35 (codes "a")) None (Some (init.Value (expr.Number 39 1))) ∷ []) ∷ [])) ≡ told rule.Unknown 26
+unfolding file handler told name trees
+a_local_before_its_statement = refl
+
+-- global x: count = 1; global x: count = 2;
+a_name_that_is_declared_twice :
+    errors (file (global (expr.Number 18 1) ∷ decl.Variable 21 lasting.Global (name 28 (codes "x")) (Some (count_at 31)) (Some (init.Value (expr.Number 39 2))) [] ∷ [])) ≡ told rule.Twice 21
+unfolding file global told count_at name trees
+a_name_that_is_declared_twice = refl
+
+-- event zeek_init() { return 5; }
+a_value_that_nothing_wants : errors (file (handler (stmt.Return 20 (Some (expr.Number 27 5)) ∷ []) ∷ [])) ≡ told rule.Return 20
+unfolding file handler told name trees
+a_value_that_nothing_wants = refl
+
+-- type R: record { r: R; };  (the inner R stands at byte 20)
+a_record_that_reaches_itself :
+    errors (file (decl.Type 0 (name 5 (codes "R")) (written.Record 8 (Rattle.zk_tree.specs.declared.types.Field.roll-Field (record { name = name 17 (codes "r"); field_type = written.Named (name 20 (codes "R")); attrs = [] }) ∷ [])) ∷ [])) ≡ told rule.Recursive 20
+unfolding file told name trees
+a_record_that_reaches_itself = refl
+
+-- global x: count = 1; event zeek_init() { print x; }
+printing : List File
+printing = file (global (expr.Number 18 1) ∷ handler (stmt.Print 41 (expr.Name (name 47 (codes "x")) ∷ []) ∷ []) ∷ [])
+
+a_typed_program_runs : (world_in (run (typed_program printing) 1000 [] (record { 0 = pos 0 }))).lines ≡ codes "1" ∷ []
+unfolding printing file global handler count_at name trees digits dispatches_max
+a_typed_program_runs = refl
+
+-- event connection_state_remove(c: connection) { STATEMENTS }
+of_connection : List Stmt → Decl
+of_connection list = decl.Body 0 body.Event (name 6 (codes "connection_state_remove")) (param ∷ []) [] (roll-Block (record { place = 45; stmts = list }))
+  where
+    param : Param
+    param = roll-Param (record { name = name 30 (codes "c"); param_type = written.Named (name 33 (codes "connection")) })
+
+-- c$SIDE$num_pkts
+packets : ℕ → List ℕ → Expr
+packets place side = expr.Post (expr.Name (name place (codes "c"))) (part.Field (name (place + 2) side) ∷ part.Field (name (place + 7) (codes "num_pkts")) ∷ [])
+
+-- event connection_state_remove(c: connection) { print c$orig$num_pkts; }
+tells_packets : List File
+tells_packets = file (of_connection (stmt.Print 47 (packets 53 (codes "orig") ∷ []) ∷ []) ∷ [])
+
+a_printed_count_of_packets_breaks_no_rule : errors tells_packets ≡ []
+unfolding tells_packets of_connection packets file name trees
+a_printed_count_of_packets_breaks_no_rule = refl
+
+a_printed_count_of_packets_is_not_blind : is_blind (typed_program tells_packets) ≡ false
+unfolding tells_packets of_connection packets file name trees
+a_printed_count_of_packets_is_not_blind = refl
+
+-- event connection_state_remove(c: connection) { c$orig$num_pkts = c$resp$num_pkts; }
+moves_packets : List File
+moves_packets = file (of_connection (stmt.Expr (expr.Assign (packets 47 (codes "orig")) assigning.Set (packets 65 (codes "resp"))) ∷ []) ∷ [])
+
+a_moved_count_of_packets_is_blind : is_blind (typed_program moves_packets) ≡ true
+unfolding moves_packets of_connection packets file name trees
+a_moved_count_of_packets_is_blind = refl
+
+-- redef enum Log::ID += { L };
+-- type R: record { a: count &log; b: string &log; };
+-- event zeek_init() {
+--   print Log::create_stream(L, [$columns=R, $path="x"]), Log::add_filter(L, [$name="f", $path="y", $include=set("b")]),
+--     Log::remove_default_filter(L), Log::write(L, R($a=1, $b="q")); }
+named : List ℕ → Expr
+named text = expr.Name (name 0 text)
+
+given : List ℕ → Expr → Item
+given text value = item.Field 0 (name 0 text) value
+
+call : List ℕ → List Item → Expr
+call text items = expr.Post (named text) (part.Call items ∷ [])
+
+logged : List ℕ → «Type» → Field
+logged text type = roll-Field (record { name = name 0 text; field_type = type; attrs = record { place = 0; name = codes "log"; value = None } ∷ [] })
+
+filters : List File
+filters = file (
+    decl.RedefEnum 0 (name 0 (codes "Log::ID")) (name 0 (codes "L") ∷ []) false ∷
+    decl.Type 0 (name 0 (codes "R")) (written.Record 0 (logged (codes "a") (count_at 0) ∷ logged (codes "b") (written.Atomic 0 atomic.String) ∷ [])) ∷
+    handler (stmt.Print 20 (
+    call (codes "Log::create_stream") (item.Value (named (codes "L")) ∷ item.Value (expr.List 0 (given (codes "columns") (named (codes "R")) ∷ given (codes "path") (string 0 (codes "x")) ∷ [])) ∷ []) ∷
+    call (codes "Log::add_filter") (item.Value (named (codes "L")) ∷ item.Value (expr.List 0 (
+    given (codes "name") (string 0 (codes "f")) ∷ given (codes "path") (string 0 (codes "y")) ∷ given (codes "include") (expr.Make 0 container.Set (item.Value (string 0 (codes "b")) ∷ [])) ∷ [])) ∷ []) ∷
+    call (codes "Log::remove_default_filter") (item.Value (named (codes "L")) ∷ []) ∷
+    call (codes "Log::write") (item.Value (named (codes "L")) ∷ item.Value (call (codes "R") (given (codes "a") (expr.Number 0 1) ∷ given (codes "b") (string 0 (codes "q")) ∷ [])) ∷ []) ∷ []) ∷ []) ∷ [])
+
+log_calls_break_no_rule : errors filters ≡ []
+unfolding filters logged call given named file handler count_at string name trees
+log_calls_break_no_rule = refl
+
+log_calls_give_truth : (world_in (run (typed_program filters) 1000 [] (record { 0 = pos 0 }))).lines ≡ codes "T, T, T, T" ∷ []
+unfolding filters logged call given named file handler count_at string name trees digits dispatches_max
+log_calls_give_truth = refl
+
+a_filter_writes_to_its_path : map (λ row. row.path) (world_in (run (typed_program filters) 1000 [] (record { 0 = pos 0 }))).rows ≡ codes "y" ∷ []
+unfolding filters logged call given named file handler count_at string name trees digits dispatches_max
+a_filter_writes_to_its_path = refl
+
+a_filter_keeps_what_it_includes :
+    map (λ row. row.cells) (world_in (run (typed_program filters) 1000 [] (record { 0 = pos 0 }))).rows ≡ (One (Text (codes "q")) ∷ []) ∷ []
+unfolding filters logged call given named file handler count_at string name trees digits dispatches_max
+a_filter_keeps_what_it_includes = refl
+
+-- the same script, whose handler creates the stream of another word with other columns at the path x
+two_streams : List File
+two_streams = file (
+    decl.RedefEnum 0 (name 0 (codes "Log::ID")) (name 0 (codes "L") ∷ name 0 (codes "M") ∷ []) false ∷
+    decl.Type 0 (name 0 (codes "R")) (written.Record 0 (logged (codes "a") (count_at 0) ∷ [])) ∷
+    decl.Type 0 (name 0 (codes "S")) (written.Record 1 (logged (codes "b") (count_at 0) ∷ [])) ∷
+    handler (
+    stmt.Expr (call (codes "Log::create_stream") (item.Value (named (codes "L")) ∷ item.Value (expr.List 0 (given (codes "columns") (named (codes "R")) ∷ given (codes "path") (string 0 (codes "x")) ∷ [])) ∷ [])) ∷
+    stmt.Expr (expr.Post (expr.Name (name 70 (codes "Log::create_stream"))) (part.Call (item.Value (named (codes "M")) ∷ item.Value (expr.List 0 (given (codes "columns") (named (codes "S")) ∷ given (codes "path") (string 0 (codes "x")) ∷ [])) ∷ []) ∷ [])) ∷ []) ∷ [])
+
+a_path_with_two_sets_of_columns : errors two_streams ≡ told rule.Twice 70
+unfolding two_streams logged call given named file handler told count_at string name trees
+a_path_with_two_sets_of_columns = refl
+
+-- One row for each of the other rules -------------------------------------------------------------------------------
+
+attr : ℕ → List ℕ → Option Expr → Attr
+attr place text value = record { place = place; name = text; value = value }
+
+-- hook h() &priority=VALUE { }
+with_priority : Expr → Decl
+with_priority value = decl.Body 0 body.Hook (name 5 (codes "h")) [] (attr 9 (codes "priority") (Some value) ∷ []) (roll-Block (record { place = 24; stmts = [] }))
+
+-- hook h() &priority=-5 { }
+a_priority_below_0 : errors (file (with_priority (expr.Unary 19 prefix.Negate (expr.Number 20 5)) ∷ [])) ≡ []
+unfolding with_priority attr file name trees
+a_priority_below_0 = refl
+
+-- hook h() &priority=k { }
+a_priority_that_is_no_literal : errors (file (with_priority (expr.Name (name 19 (codes "k"))) ∷ [])) ≡ told rule.NotConst 19
+unfolding with_priority attr file told name trees
+a_priority_that_is_no_literal = refl
+
+-- global x: count = 1 &log;
+an_attribute_of_another_place :
+    errors (file (decl.Variable 0 lasting.Global (name 7 (codes "x")) (Some (count_at 10)) (Some (init.Value (expr.Number 18 1))) (attr 20 (codes "log") None ∷ []) ∷ [])) ≡ told rule.Attribute 20
+unfolding attr file told count_at name trees
+an_attribute_of_another_place = refl
+
+-- event zeek_done(n: count) { }
+a_handler_with_another_parameter :
+    errors (file (decl.Body 0 body.Event (name 6 (codes "zeek_done")) (roll-Param (record { name = name 16 (codes "n"); param_type = count_at 19 }) ∷ []) [] (roll-Block (record { place = 26; stmts = [] })) ∷ [])) ≡ told rule.Arguments 0
+unfolding file told count_at name trees
+a_handler_with_another_parameter = refl
+
+-- event zeek_init() { print fmt("%q", 1); }
+a_verb_that_there_is_not :
+    errors (file (handler (stmt.Print 20 (expr.Post (expr.Name (name 26 (codes "fmt"))) (part.Call (item.Value (string 30 (codes "%q")) ∷ item.Value (expr.Number 36 1) ∷ []) ∷ []) ∷ []) ∷ []) ∷ [])) ≡ told rule.Format 30
+unfolding file handler told string name trees
+a_verb_that_there_is_not = refl
+
+-- type R: record { a: count &log; };  event zeek_init() { print R()$a; }
+one_field : Decl
+one_field = decl.Type 0 (name 5 (codes "R")) (written.Record 8 (logged (codes "a") (count_at 20) ∷ []))
+
+a_field_that_is_not_given :
+    errors (file (one_field ∷ handler (stmt.Print 20 (expr.Post (expr.Name (name 62 (codes "R"))) (part.Call [] ∷ part.Field (name 66 (codes "a")) ∷ []) ∷ []) ∷ []) ∷ [])) ≡ told rule.Field 62
+unfolding one_field logged file handler told count_at name trees
+a_field_that_is_not_given = refl
+
+-- event zeek_init() { print 2 * 5 sec; }
+a_count_times_an_interval :
+    errors (file (handler (stmt.Print 20 (expr.Chain level.Term (expr.Number 26 2) (roll-Link (record { operator = operator.Times; operand = expr.Interval 30 5 unit.Second false }) ∷ []) ∷ []) ∷ []) ∷ [])) ≡ told rule.WrongType 30
+unfolding file handler told name trees
+a_count_times_an_interval = refl
+
+-- Modules and files --------------------------------------------------------------------------------------------------
+
+count_named : ℕ → List ℕ → Expr → Decl
+count_named place text value = decl.Variable place lasting.Global (name (place + 7) text) None (Some (init.Value value)) []
+
+-- module M; export { global shown = 1; } global hidden = 1; module N; global x = M::NAME;
+two_modules : List ℕ → List File
+two_modules other = file (
+    decl.Module 0 (name 7 (codes "M")) ∷
+    decl.Export 10 (count_named 19 (codes "shown") (expr.Number 34 1) ∷ []) ∷
+    count_named 39 (codes "hidden") (expr.Number 55 1) ∷
+    decl.Module 58 (name 65 (codes "N")) ∷
+    count_named 68 (codes "x") (expr.Name (name 79 other)) ∷ [])
+
+an_exported_name_is_seen : errors (two_modules (codes "M::shown")) ≡ []
+unfolding two_modules count_named file name trees
+an_exported_name_is_seen = refl
+
+a_name_that_is_not_exported_is_not_seen : errors (two_modules (codes "M::hidden")) ≡ told rule.Unknown 79
+unfolding two_modules count_named file told name trees
+a_name_that_is_not_exported_is_not_seen = refl
+
+-- a.zeek: global a = b; @load b.zeek @load b.zeek global c = 1;  b.zeek: @load a.zeek global b = 1;
+loading : List File
+loading =
+    record {
+      name = codes "a.zeek";
+      decls =
+          count_named 0 (codes "a") (expr.Name (name 11 (codes "b"))) ∷ decl.Load 14 (codes "b.zeek") ∷ decl.Load 29 (codes "b.zeek") ∷ count_named 44 (codes "c") (expr.Number 55 1) ∷ [];
+    } ∷
+    record { name = codes "b.zeek"; decls = decl.Load 0 (codes "a.zeek") ∷ count_named 15 (codes "b") (expr.Number 26 1) ∷ [] } ∷ []
+
+a_file_stands_in_the_place_of_its_first_load : map (λ one. one.home.file) (load_order loading) ≡ 0 ∷ 1 ∷ 0 ∷ []
+unfolding loading count_named name trees
+a_file_stands_in_the_place_of_its_first_load = refl
+
+names_of_loaded_files_are_seen : errors loading ≡ []
+unfolding loading count_named name trees
+names_of_loaded_files_are_seen = refl
+
+-- global a = b; global b = a;
+circle : List File
+circle = file (count_named 0 (codes "a") (expr.Name (name 11 (codes "b"))) ∷ count_named 14 (codes "b") (expr.Name (name 25 (codes "a"))) ∷ [])
+
+types_that_rest_on_each_other : errors circle ≡ told rule.WrongType 11 ++ told rule.WrongType 25
+unfolding circle count_named file told name trees
+types_that_rest_on_each_other = refl

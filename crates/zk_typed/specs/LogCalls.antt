@@ -1,0 +1,461 @@
+-- The typing of calls of the log framework (Zeek manual, Logging Framework): what they say of streams and filters stands in the text,
+-- so a log has one record type, which its `create_stream` names.
+use Rattle.std.specs.Prelude.{ℕ, zero, suc, ◌+◌, ◌==◌, nat_le, Bool, true, false, not, ◌&&◌, ◌||◌, List, [], ◌∷◌, ◌++◌, length, map, filter, flat_map, codes, Option, Some, None, Ok, Err, if◌then◌else◌, bytes_eq}
+use Rattle.std.specs.Char.{to_ascii_lowercase}
+use Rattle.std.specs.List.{list_any, list_all}
+use Rattle.zk_base.specs.declared.numbers.EventNo.{EventNo}
+use Rattle.zk_base.specs.declared.numbers.HookNo.{HookNo}
+use Rattle.zk_base.specs.declared.numbers.LogId.{LogId}
+use Rattle.zk_base.specs.declared.numbers.RecordNo.{RecordNo}
+use Rattle.zk_tree.specs.declared.decl.Decl.{Decl, out-Decl}
+use Rattle.zk_tree.specs.declared.decl.Decl.TheOpen.{Decl-F}
+use Rattle.zk_tree.specs.declared.decl.Decl.TheOpen as decl
+use Rattle.zk_tree.specs.declared.expr.Expr.{Expr, out-Expr, size-Expr}
+use Rattle.zk_tree.specs.declared.expr.Expr.TheOpen.{Expr-F, Part-F, Item-F}
+use Rattle.zk_tree.specs.declared.expr.Expr.TheOpen as written
+use Rattle.zk_tree.specs.declared.expr.Item.{Item, out-Item}
+use Rattle.zk_tree.specs.declared.expr.Link.{Link, out-Link}
+use Rattle.zk_tree.specs.declared.expr.Literal.{Literal}
+use Rattle.zk_tree.specs.declared.expr.Literal.TheVariants as literal
+use Rattle.zk_tree.specs.declared.expr.Part.{Part, out-Part}
+use Rattle.zk_tree.specs.declared.name.Name.{Name}
+use Rattle.zk_tree.specs.declared.operator.Container.{Container}
+use Rattle.zk_tree.specs.declared.operator.Container.TheVariants as container
+use Rattle.zk_tree.specs.declared.place.Place.{Place}
+use Rattle.zk_tree.specs.declared.stmt.Block.{Block, out-Block}
+use Rattle.zk_tree.specs.declared.stmt.Init.{Init}
+use Rattle.zk_tree.specs.declared.stmt.Init.TheVariants as init
+use Rattle.zk_tree.specs.declared.stmt.Stmt.{Stmt, out-Stmt, size-Stmt}
+use Rattle.zk_tree.specs.declared.stmt.Stmt.TheOpen.{Stmt-F}
+use Rattle.zk_tree.specs.declared.stmt.Stmt.TheOpen as stmt
+use Rattle.zk_typed.specs.declared.rule.Rule.TheVariants as rule
+use Rattle.zk_typed.specs.declared.script.log_call.LogCall.{LogCall}
+use Rattle.zk_typed.specs.declared.script.log_call.LogCall.TheVariants as log
+use Rattle.zk_typed.specs.declared.script.primitive.Primitive.TheVariants as primitive
+use Rattle.zk_typed.specs.Checked.{Checked, broken, ◌>>=◌, ◌>>◌, both, each, require, or_broken}
+use Rattle.zk_typed.specs.Columns.{type_name}
+use Rattle.zk_typed.specs.Forms as form
+use Rattle.zk_typed.specs.LoadOrder.{Home}
+use Rattle.zk_typed.specs.Names.{Declared, Meant, Word, Event, Hook, Log, LogFunction, CreateStream, AddFilter, RemoveFilter, RemoveDefaultFilter, Write, Signature, look_up, module_in, module_or_none}
+use Rattle.zk_typed.specs.Operations.{same_type}
+use Rattle.zk_typed.specs.Predefined as type
+use Rattle.zk_typed.specs.Resolving.{Scripts, FieldInfo, place_in, type_named, params_of, fields_of}
+use Rattle.zk_typed.specs.Types.{ValueType, Record}
+use Rattle.zk_typed.specs.Typing.{Typed, typed, Env, at, expr_place, Nothing, Wants, Unclear, Check, number_among, is_event, is_hook, found}
+use Rattle.zk_typed.specs.Typing.{place_to}
+
+-- Calls in the texts -------------------------------------------------------------------------------------------------
+
+-- a call of a name, where it stands, and the whole expression
+pub record Call : Type 0 where
+  pub home : Home
+  pub whole : Expr
+  pub name : Name
+  pub items : List Item
+
+abbrev pub item_expr : Item → Expr
+item_expr item = of_item (out-Item item)
+  where
+    of_item : Item-F Expr Item Part Link → Expr
+    of_item (written.Value value) = value
+    of_item (written.Item::Field place name value) = value
+
+abbrev pub named_call : Home → Expr → Expr → List Part → List Call
+named_call home whole first [] = []
+named_call home whole first (part ∷ parts) = of_both (out-Expr first) (out-Part part)
+  where
+    of_both : Expr-F Expr Item Part Link → Part-F Expr Item Part Link → List Call
+    of_both (written.Name name) (written.Call items) = record { home = home; whole = whole; name = name; items = items } ∷ []
+    of_both one other = []
+
+abbrev pub expr_calls_to : ℕ → Home → Expr → List Call
+expr_calls_to zero home one = []
+expr_calls_to (suc depth) home one = of_form (expr_calls_to depth home) (out-Expr one)
+  where
+    in_items : (Expr → List Call) → List Item → List Call
+    in_items more items = flat_map (λ item. more (item_expr item)) items
+
+    in_part : (Expr → List Call) → Part-F Expr Item Part Link → List Call
+    in_part more (written.Index keys) = flat_map more keys
+    in_part more (written.Call items) = in_items more items
+    in_part more other = []
+
+    of_form : (Expr → List Call) → Expr-F Expr Item Part Link → List Call
+    of_form more (written.Assign a operator b) = more a ++ more b
+    of_form more (written.Choice test a b) = more test ++ more a ++ more b
+    of_form more (written.Chain level first links) = more first ++ flat_map (λ link. more (out-Link link).operand) links
+    of_form more (written.Compare a operator b) = more a ++ more b
+    of_form more (written.Unary place operator operand) = more operand
+    of_form more (written.Post first parts) = named_call home one first parts ++ more first ++ flat_map (λ part. in_part more (out-Part part)) parts
+    of_form more (written.Parenthesis place inner) = more inner
+    of_form more (written.Size place inner) = more inner
+    of_form more (written.List place items) = in_items more items
+    of_form more (written.Make place container items) = in_items more items
+    of_form more (written.Hook place name items) = in_items more items
+    of_form more other = []
+
+abbrev pub expr_calls : Home → Expr → List Call
+expr_calls home one = expr_calls_to (size-Expr one) home one
+
+abbrev pub maybe_calls : Home → Option Expr → List Call
+maybe_calls home None = []
+maybe_calls home (Some one) = expr_calls home one
+
+abbrev pub init_calls : Home → Option Init → List Call
+init_calls home None = []
+init_calls home (Some (init.Value one)) = expr_calls home one
+init_calls home (Some (init.Braces place values comma)) = flat_map (expr_calls home) values
+
+abbrev pub stmt_calls_to : ℕ → Home → Stmt → List Call
+stmt_calls_to zero home one = []
+stmt_calls_to (suc depth) home one = of_form (stmt_calls_to depth home) (out-Stmt one)
+  where
+    in_items : List Item → List Call
+    in_items items = flat_map (λ item. expr_calls home (item_expr item)) items
+
+    of_form : (Stmt → List Call) → Stmt-F Stmt Block → List Call
+    of_form more (stmt.Block block) = flat_map more (out-Block block).stmts
+    of_form more (stmt.If place test a) = expr_calls home test ++ more a
+    of_form more (stmt.IfElse place test a b) = expr_calls home test ++ more a ++ more b
+    of_form more (stmt.While place test a) = expr_calls home test ++ more a
+    of_form more (stmt.For place keys value over a) = expr_calls home over ++ more a
+    of_form more (stmt.Local place name tree init) = init_calls home init
+    of_form more (stmt.Print place values) = flat_map (expr_calls home) values
+    of_form more (stmt.Event place name items) = in_items items
+    of_form more (stmt.Schedule place delay name items) = expr_calls home delay ++ in_items items
+    of_form more (stmt.Add place one) = expr_calls home one
+    of_form more (stmt.Delete place one) = expr_calls home one
+    of_form more (stmt.Return place value) = maybe_calls home value
+    of_form more (stmt.Expr one) = expr_calls home one
+    of_form more other = []
+
+abbrev pub block_calls : Home → Block → List Call
+block_calls home block = flat_map (λ one. stmt_calls_to (size-Stmt one) home one) (out-Block block).stmts
+
+abbrev pub decl_calls : Home → Decl-F Decl → List Call
+decl_calls home (decl.Variable place lasting name tree init attrs) = init_calls home init
+decl_calls home (decl.Redef place name operator init) = init_calls home (Some init)
+decl_calls home (decl.Body place kind name params attrs block) = block_calls home block
+decl_calls home (decl.Function place name params «result» block) = block_calls home block
+decl_calls home other = []
+
+abbrev pub all_calls : Scripts → List Call
+all_calls scripts = flat_map (λ one. decl_calls one.home (out-Decl one.decl)) scripts.stated
+
+-- Streams ------------------------------------------------------------------------------------------------------------
+
+abbrev pub creates : Scripts → Call → Bool
+creates scripts call = of_declared (look_up scripts.names call.home.module_name call.name.text)
+  where
+    of_meant : Meant → Bool
+    of_meant (Log CreateStream) = true
+    of_meant other = false
+
+    of_declared : Option Declared → Bool
+    of_declared None = false
+    of_declared (Some one) = of_meant one.meant
+
+abbrev pub is_log_word : Declared → Bool
+is_log_word one = of_meant one.meant
+  where
+    of_meant : Meant → Bool
+    of_meant (Word number) = number == 1
+    of_meant other = false
+
+abbrev pub if_word : Option Declared → Option Declared
+if_word None = None
+if_word (Some one) = if is_log_word one then Some one else None
+
+-- the word of an argument that is one of `Log::ID`
+abbrev pub word_of : Scripts → Home → Expr → Option Declared
+word_of scripts home one = of_form (out-Expr one)
+  where
+    of_form : Expr-F Expr Item Part Link → Option Declared
+    of_form (written.Name name) = if_word (look_up scripts.names home.module_name name.text)
+    of_form other = None
+
+-- the items of a bracketed argument
+abbrev pub settings : Expr → Option (List Item)
+settings one = of_form (out-Expr one)
+  where
+    of_form : Expr-F Expr Item Part Link → Option (List Item)
+    of_form (written.List place items) = Some items
+    of_form other = None
+
+abbrev pub setting : List ℕ → List Item → Option Expr
+setting name [] = None
+setting name (item ∷ items) = of_item (out-Item item) (setting name items)
+  where
+    of_item : Item-F Expr Item Part Link → Option Expr → Option Expr
+    of_item (written.Item::Field place other value) more = if bytes_eq other.text name then Some value else more
+    of_item (written.Value value) more = more
+
+-- the type that a name names
+abbrev pub named_record : Scripts → Home → Expr → Checked RecordNo
+named_record scripts home one = of_form (out-Expr one)
+  where
+    place : Place
+    place = place_in home (place_to (size-Expr one) one)
+
+    of_type : ValueType → Checked RecordNo
+    of_type (Record number) = Ok number
+    of_type other = broken rule.WrongType place
+
+    of_form : Expr-F Expr Item Part Link → Checked RecordNo
+    of_form (written.Name name) = type_named scripts home name >>= of_type
+    of_form other = broken rule.WrongType place
+
+-- the record type that a call of `create_stream` gives to a word
+abbrev pub created_in : Scripts → List ℕ → Call → List RecordNo
+created_in scripts word call = of_items call.items
+  where
+    of_columns : Option Expr → List RecordNo
+    of_columns None = []
+    of_columns (Some one) = of_type (named_record scripts call.home one)
+      where
+        of_type : Checked RecordNo → List RecordNo
+        of_type (Ok number) = number ∷ []
+        of_type (Err rules) = []
+
+    of_settings : Option (List Item) → List RecordNo
+    of_settings None = []
+    of_settings (Some items) = of_columns (setting (codes "columns") items)
+
+    of_word : Option Declared → Expr → List RecordNo
+    of_word None one = []
+    of_word (Some declared) one = if bytes_eq declared.name word then of_settings (settings one) else []
+
+    of_items : List Item → List RecordNo
+    of_items (first ∷ second ∷ []) = of_word (word_of scripts call.home (item_expr first)) (item_expr second)
+    of_items other = []
+
+-- the record types that are given to a word
+abbrev pub stream_types : Scripts → List ℕ → List RecordNo
+stream_types scripts word = flat_map (created_in scripts word) (filter (creates scripts) (all_calls scripts))
+
+-- a log has one record type
+abbrev pub one_type : List RecordNo → Option RecordNo
+one_type [] = None
+one_type (first ∷ others) = if list_all (λ other. other.0 == first.0) others then Some first else None
+
+abbrev pub stream_type : Scripts → List ℕ → Option RecordNo
+stream_type scripts word = one_type (stream_types scripts word)
+
+-- Columns ------------------------------------------------------------------------------------------------------------
+
+-- a field that is no record, as a column: its name with those of the fields that hold it, its type's name, and its marks
+pub record LeafInfo : Type 0 where
+  pub name : List ℕ
+  pub kind : List ℕ
+  pub wire : Bool
+  pub log : Bool
+
+abbrev pub within : FieldInfo → LeafInfo → LeafInfo
+within field leaf = record leaf { name = field.name ++ codes "." ++ leaf.name; log = field.log && leaf.log }
+
+abbrev pub field_leaves : (RecordNo → List LeafInfo) → FieldInfo → List LeafInfo
+field_leaves leaves field = of_type field.field_type
+  where
+    of_type : Checked ValueType → List LeafInfo
+    of_type (Ok (Record number)) = map (within field) (leaves number)
+    of_type (Ok other) = record { name = field.name; kind = type_name other; wire = field.wire; log = field.log } ∷ []
+    of_type (Err rules) = []
+
+abbrev pub leaves_to : ℕ → Scripts → RecordNo → List LeafInfo
+leaves_to zero scripts number = []
+leaves_to (suc depth) scripts number = flat_map (field_leaves (leaves_to depth scripts)) (fields_of scripts number.0)
+
+abbrev pub leaves : Scripts → RecordNo → List LeafInfo
+leaves = leaves_to 200
+
+-- the places of the elements that pass
+abbrev pub places_of : {A : Type 0} → (A → Bool) → ℕ → List A → List ℕ
+places_of passes place [] = []
+places_of passes place (one ∷ others) =
+    if passes one then place ∷ places_of passes (place + 1) others else places_of passes (place + 1) others
+
+abbrev pub logged : List LeafInfo → List LeafInfo
+logged all = filter (λ leaf. leaf.log) all
+
+-- Settings -----------------------------------------------------------------------------------------------------------
+
+abbrev pub text_of : Expr → Option (List ℕ)
+text_of one = of_form (out-Expr one)
+  where
+    of_literal : Literal → Option (List ℕ)
+    of_literal (literal.String bytes) = Some bytes
+    of_literal other = None
+
+    of_form : Expr-F Expr Item Part Link → Option (List ℕ)
+    of_form (written.Literal place one) = of_literal one
+    of_form other = None
+
+abbrev pub is_path_byte : ℕ → Bool
+is_path_byte byte = (nat_le 97 byte && nat_le byte 122) || (nat_le 48 byte && nat_le byte 57) || byte == 95 || byte == 45
+
+-- a path or the name of a filter has 1 to 64 bytes of `a-z 0-9 _ -`
+abbrev pub is_path : List ℕ → Bool
+is_path bytes = nat_le 1 (length bytes) && nat_le (length bytes) 64 && list_all is_path_byte bytes
+
+abbrev pub path_literal : Env → Expr → Checked (List ℕ)
+path_literal env one = or_broken (text_of one) rule.Format (expr_place env one) >>= (λ bytes. require (is_path bytes) rule.Format (expr_place env one) >> Ok bytes)
+
+-- the rows that tell faults have the path `reporter` for themselves
+abbrev pub log_path : Env → Expr → Checked (List ℕ)
+log_path env one = path_literal env one >>= (λ bytes. require (not (bytes_eq bytes (codes "reporter"))) rule.Twice (expr_place env one) >> Ok bytes)
+
+abbrev pub optional : {A : Type 0} → (Expr → Checked A) → Option Expr → Checked (Option A)
+optional check None = Ok None
+optional check (Some one) = check one >>= (λ given. Ok (Some given))
+
+-- without `$path`, that of the word's module in lower case
+abbrev pub path_or_module : Env → Place → Declared → Option Expr → Checked (List ℕ)
+path_or_module env place word (Some one) = log_path env one
+path_or_module env place word None = of_module (map to_ascii_lowercase (module_or_none (module_in word.name)))
+  where
+    of_module : List ℕ → Checked (List ℕ)
+    of_module bytes = require (is_path bytes) rule.Format place >> (require (not (bytes_eq bytes (codes "reporter"))) rule.Twice place >> Ok bytes)
+
+abbrev pub same_types : List ValueType → List ValueType → Bool
+same_types [] [] = true
+same_types (a ∷ xs) (b ∷ ys) = same_type a b && same_types xs ys
+same_types xs ys = false
+
+abbrev pub named_signature : Env → (Meant → Option Signature) → List ValueType → Expr → Checked Declared
+named_signature env kind wanted one = of_form (out-Expr one)
+  where
+    place : Place
+    place = expr_place env one
+
+    of_kind : Declared → Option Signature → Checked Declared
+    of_kind declared None = broken rule.WrongType place
+    of_kind declared (Some signature) = params_of env.scripts signature >>= (λ params. require (same_types params wanted) rule.WrongType place >> Ok declared)
+
+    of_declared : Option Declared → Checked Declared
+    of_declared None = broken rule.Unknown place
+    of_declared (Some declared) = of_kind declared (kind declared.meant)
+
+    of_form : Expr-F Expr Item Part Link → Checked Declared
+    of_form (written.Name name) = of_declared (found env name)
+    of_form other = broken rule.WrongType place
+
+abbrev pub event_kind : Meant → Option Signature
+event_kind (Event signature) = Some signature
+event_kind other = None
+
+abbrev pub hook_kind : Meant → Option Signature
+hook_kind (Hook signature) = Some signature
+hook_kind other = None
+
+-- `$ev` takes the record
+abbrev pub event_setting : Env → RecordNo → Expr → Checked EventNo
+event_setting env number one = named_signature env event_kind (Record number ∷ []) one >>= (λ declared. Ok (record { 0 = number_among is_event env.scripts declared }))
+
+-- `$policy` takes the record, the word and the filter
+abbrev pub policy_setting : Env → RecordNo → Expr → Checked HookNo
+policy_setting env number one =
+    named_signature env hook_kind (Record number ∷ type.log_id ∷ Record type.filter_record ∷ []) one >>= (λ declared. Ok (record { 0 = number_among is_hook env.scripts declared }))
+
+-- the names of `set("a", "b")`
+abbrev pub names_setting : Env → Expr → Checked (List (List ℕ))
+names_setting env one = of_form (out-Expr one)
+  where
+    literal_item : Item → Checked (List ℕ)
+    literal_item item = or_broken (text_of (item_expr item)) rule.Format (expr_place env one)
+
+    of_container : Container → List Item → Checked (List (List ℕ))
+    of_container container.Set items = each literal_item items
+    of_container other items = broken rule.Format (expr_place env one)
+
+    of_form : Expr-F Expr Item Part Link → Checked (List (List ℕ))
+    of_form (written.Make place made items) = of_container made items
+    of_form other = broken rule.Format (expr_place env one)
+
+abbrev pub among : List ℕ → List (List ℕ) → Bool
+among name names = list_any (λ other. bytes_eq other name) names
+
+abbrev pub setting_name : Item-F Expr Item Part Link → List (List ℕ) → List (List ℕ)
+setting_name (written.Item::Field place name value) before = name.text ∷ before
+setting_name (written.Value value) before = before
+
+abbrev pub setting_rules : Env → List (List ℕ) → List (List ℕ) → Item-F Expr Item Part Link → Checked (Unit {0})
+setting_rules env allowed before (written.Item::Field place name value) =
+    require (among name.text allowed) rule.Field (at env place) >> require (not (among name.text before)) rule.Twice (at env place)
+setting_rules env allowed before (written.Value value) = broken rule.WrongType (expr_place env value)
+
+-- no other settings than these, and none twice
+abbrev pub only_settings : Env → List (List ℕ) → List (List ℕ) → List Item → Checked (Unit {0})
+only_settings env allowed before [] = Ok tt
+only_settings env allowed before (item ∷ items) =
+    both (setting_rules env allowed before (out-Item item)) (only_settings env allowed (setting_name (out-Item item) before) items) >> Ok tt
+
+-- Calls --------------------------------------------------------------------------------------------------------------
+
+abbrev pub log_form : LogCall → Typed
+log_form call = typed type.bool (form.Apply (primitive.Log call) form.NoExpr)
+
+abbrev pub log_no : Env → Declared → LogId
+log_no env word = record { 0 = number_among is_log_word env.scripts word }
+
+abbrev pub create_typed : Env → Place → Declared → Place → List Item → Checked Typed
+create_typed env place word brackets items =
+    only_settings env (codes "columns" ∷ codes "ev" ∷ codes "path" ∷ codes "policy" ∷ []) [] items >>
+    (or_broken (setting (codes "columns") items) rule.Field brackets >>= named_record env.scripts env.home >>= (λ number.
+    both (optional (event_setting env number) (setting (codes "ev") items))
+    (both (path_or_module env place word (setting (codes "path") items)) (optional (policy_setting env number) (setting (codes "policy") items))) >>= (λ parts.
+    Ok (log_form (log.Create (log_no env word) parts.0 parts.1.0 parts.1.1 (places_of (λ leaf. leaf.log) 0 (leaves env.scripts number)))))))
+
+-- the columns that a filter keeps: those that are included, all where none is named, but those that are excluded
+abbrev pub keeps : Option (List (List ℕ)) → Option (List (List ℕ)) → LeafInfo → Bool
+keeps included excluded leaf = is_in included true && not (is_in excluded false)
+  where
+    is_in : Option (List (List ℕ)) → Bool → Bool
+    is_in None otherwise = otherwise
+    is_in (Some names) otherwise = among leaf.name names
+
+abbrev pub filter_typed : Env → Place → Declared → RecordNo → Place → List Item → Checked Typed
+filter_typed env place word number brackets items =
+    only_settings env (codes "name" ∷ codes "path" ∷ codes "include" ∷ codes "exclude" ∷ codes "policy" ∷ []) [] items >>
+    (both (or_broken (setting (codes "name") items) rule.Field brackets >>= path_literal env) (optional (log_path env) (setting (codes "path") items)) >>= (λ first.
+    both (both (optional (names_setting env) (setting (codes "include") items)) (optional (names_setting env) (setting (codes "exclude") items)))
+    (optional (policy_setting env number) (setting (codes "policy") items)) >>= (λ second.
+    Ok (log_form (log.AddFilter (log_no env word) first.0 first.1 second.1
+    (places_of (keeps second.0.0 second.0.1) 0 (logged (leaves env.scripts number))))))))
+
+abbrev pub bracketed : Expr → Option (ℕ × List Item)
+bracketed one = of_form (out-Expr one)
+  where
+    of_form : Expr-F Expr Item Part Link → Option (ℕ × List Item)
+    of_form (written.List place items) = Some (place, items)
+    of_form other = None
+
+abbrev pub with_settings : Check → Env → (Place → List Item → Checked Typed) → Expr → Checked Typed
+with_settings check env typing one = of_brackets (bracketed one)
+  where
+    of_brackets : Option (ℕ × List Item) → Checked Typed
+    of_brackets None = check Unclear one >> broken rule.WrongType (expr_place env one)
+    of_brackets (Some items) = typing (at env items.0) items.1
+
+-- what a call of the log framework does with a word that has a stream of one record type
+abbrev pub log_of : Check → Env → Place → LogFunction → Declared → RecordNo → List Expr → Checked Typed
+log_of check env place CreateStream word number (one ∷ []) = with_settings check env (create_typed env place word) one
+log_of check env place AddFilter word number (one ∷ []) = with_settings check env (filter_typed env place word number) one
+log_of check env place RemoveFilter word number (one ∷ []) = path_literal env one >>= (λ name. Ok (log_form (log.RemoveFilter (log_no env word) name)))
+log_of check env place RemoveDefaultFilter word number [] = Ok (log_form (log.RemoveFilter (log_no env word) (codes "default")))
+log_of check env place Write word number (one ∷ []) = check (Wants (Record number)) one >>= (λ row. Ok (typed type.bool (form.Write (log_no env word) row.expr)))
+log_of check env place other word number args = each (check Unclear) args >> broken rule.Arguments place
+
+abbrev pub log_typed : Check → Env → Place → LogFunction → List Item → Checked Typed
+log_typed check env place function [] = broken rule.Arguments place
+log_typed check env place function (first ∷ others) = of_word (word_of env.scripts env.home (item_expr first))
+  where
+    wrong : Checked Typed
+    wrong = check Nothing (item_expr first) >> broken rule.WrongType (expr_place env (item_expr first))
+
+    of_type : Declared → Option RecordNo → Checked Typed
+    of_type word None = wrong
+    of_type word (Some number) = log_of check env place function word number (map item_expr others)
+
+    of_word : Option Declared → Checked Typed
+    of_word None = wrong
+    of_word (Some word) = of_type word (stream_type env.scripts word.name)

@@ -1,0 +1,196 @@
+-- The names that scripts declare, and what a name means at a place (Zeek manual, Script Organization, modules).
+use Rattle.std.specs.Prelude.{ℕ, zero, suc, ◌+◌, ◌==◌, Bool, true, false, not, ◌&&◌, ◌||◌, List, [], ◌∷◌, ◌++◌, length, find, filter, flat_map, codes, Option, Some, None, is_some, if◌then◌else◌}
+use Rattle.std.specs.Str.{bytes_eq}
+use Rattle.zk_tree.specs.declared.decl.Decl.{Decl, out-Decl}
+use Rattle.zk_tree.specs.declared.decl.Decl.TheOpen.{Decl-F}
+use Rattle.zk_tree.specs.declared.decl.Decl.TheOpen as decl
+use Rattle.zk_tree.specs.declared.decl.Lasting.{Lasting}
+use Rattle.zk_tree.specs.declared.name.Name.{Name}
+use Rattle.zk_tree.specs.declared.stmt.Block.{Block, out-Block}
+use Rattle.zk_tree.specs.declared.stmt.Init.{Init}
+use Rattle.zk_tree.specs.declared.stmt.Stmt.{Stmt, out-Stmt, size-Stmt}
+use Rattle.zk_tree.specs.declared.stmt.Stmt.TheOpen.{Stmt-F}
+use Rattle.zk_tree.specs.declared.stmt.Stmt.TheOpen as stmt
+use Rattle.zk_tree.specs.declared.types.Attr.{Attr}
+use Rattle.zk_tree.specs.declared.types.Field.{Field, out-Field}
+use Rattle.zk_tree.specs.declared.types.Param.{Param, out-Param}
+use Rattle.zk_tree.specs.declared.types.Type.{«Type», out-Type, size-Type}
+use Rattle.zk_tree.specs.declared.types.Type.TheOpen.{Type-F}
+use Rattle.zk_tree.specs.declared.types.Type.TheOpen as written
+use Rattle.zk_typed.specs.declared.script.primitive.BuiltIn.{BuiltIn}
+use Rattle.zk_typed.specs.LoadOrder.{Home, Stated}
+use Rattle.zk_typed.specs.Predefined as predefined
+use Rattle.zk_typed.specs.Types.{ValueType}
+
+-- What names mean --------------------------------------------------------------------------------------------------
+
+-- the parameters and the result of an event, a hook or a function
+pub data Signature : Type 0 where
+  Known : (params : List ValueType) → Signature
+  Written : (home : Home) (params : List Param) (result : Option «Type») → Signature
+
+-- a function of the log framework
+pub data LogFunction : Type 0 where
+  CreateStream : LogFunction
+  AddFilter : LogFunction
+  RemoveFilter : LogFunction
+  RemoveDefaultFilter : LogFunction
+  Write : LogFunction
+
+pub data Meant : Type 0 where
+  KnownType : (type : ValueType) → Meant
+  WrittenType : (home : Home) (tree : «Type») → Meant
+  -- a word of the enum of this number
+  Word : (number : ℕ) → Meant
+  -- a global or a constant
+  Variable : (home : Home) (lasting : Lasting) (tree : Option «Type») (init : Option Init) (attrs : List Attr) → Meant
+  Event : (signature : Signature) → Meant
+  Hook : (signature : Signature) → Meant
+  Function : (signature : Signature) → Meant
+  BuiltInFunction : (function : BuiltIn) → Meant
+  Log : (function : LogFunction) → Meant
+
+-- a name with its module, the module where it is seen, and what it means
+pub record Declared : Type 0 where
+  pub name : List ℕ
+  pub module_name : List ℕ
+  pub exported : Bool
+  pub meant : Meant
+
+-- Names and modules ------------------------------------------------------------------------------------------------
+
+-- the part before `::`, where the name has one
+abbrev pub module_in : List ℕ → Option (List ℕ)
+module_in [] = None
+module_in (byte ∷ bytes) = elim (is_mark byte bytes) [ true ↦ Some [] | false ↦ behind byte (module_in bytes) ]
+  where
+    is_mark : ℕ → List ℕ → Bool
+    is_mark byte [] = false
+    is_mark byte (next ∷ bytes) = byte == 58 && next == 58
+
+    behind : ℕ → Option (List ℕ) → Option (List ℕ)
+    behind byte None = None
+    behind byte (Some front) = Some (byte ∷ front)
+
+abbrev pub with_module : List ℕ → List ℕ → List ℕ
+with_module [] name = name
+with_module (byte ∷ bytes) name = (byte ∷ bytes) ++ codes "::" ++ name
+
+-- the whole name of a name that is declared in a module
+abbrev pub whole_name : List ℕ → List ℕ → List ℕ
+whole_name module_name name = if is_some (module_in name) then name else with_module module_name name
+
+abbrev pub module_or_none : Option (List ℕ) → List ℕ
+module_or_none None = []
+module_or_none (Some module_name) = module_name
+
+abbrev pub declare : Home → Name → Meant → Declared
+declare home name meant = record {
+  name = whole_name home.module_name name.text;
+  module_name = module_or_none (module_in (whole_name home.module_name name.text));
+  exported = home.exported;
+  meant = meant;
+}
+
+-- a name of no module is seen everywhere, and one that isn't exported in its own module alone
+abbrev pub is_seen : List ℕ → Declared → Bool
+is_seen from_module one = one.exported || bytes_eq one.module_name [] || bytes_eq one.module_name from_module
+
+abbrev pub find_whole : List Declared → List ℕ → List ℕ → Option Declared
+find_whole names from_module whole = find (λ one. bytes_eq one.name whole && is_seen from_module one) names
+
+abbrev pub first_of : {A : Type 0} → Option A → Option A → Option A
+first_of (Some a) b = Some a
+first_of None b = b
+
+-- in a module, a name without `::` is one of the module, or else one of none
+abbrev pub look_up : List Declared → List ℕ → List ℕ → Option Declared
+look_up names from_module name =
+    first_of (find_whole names from_module (whole_name from_module name)) (find_whole names from_module name)
+
+-- Record types and enums in the texts ------------------------------------------------------------------------------
+
+-- each `record {` and each `enum {` is a type of its own
+pub data Node : Type 0 where
+  RecordNode : (home : Home) (place : ℕ) (fields : List Field) → Node
+  EnumNode : (home : Home) (place : ℕ) (words : List Name) → Node
+
+abbrev pub type_nodes_to : ℕ → Home → «Type» → List Node
+type_nodes_to zero home tree = []
+type_nodes_to (suc depth) home tree = in_type (type_nodes_to depth home) home (out-Type tree)
+  where
+    in_params : («Type» → List Node) → List Param → List Node
+    in_params nodes params = flat_map (λ param. nodes (out-Param param).param_type) params
+
+    in_type : («Type» → List Node) → Home → Type-F «Type» Field Param → List Node
+    in_type nodes home (written.Table place keys value) = flat_map nodes keys ++ nodes value
+    in_type nodes home (written.Set place keys) = flat_map nodes keys
+    in_type nodes home (written.Vector place item) = nodes item
+    in_type nodes home (written.Record place fields) = RecordNode home place fields ∷ flat_map (λ field. nodes (out-Field field).field_type) fields
+    in_type nodes home (written.Enum place words comma) = EnumNode home place words ∷ []
+    in_type nodes home (written.Event place params) = in_params nodes params
+    in_type nodes home (written.Hook place params) = in_params nodes params
+    in_type nodes home (written.Procedure place params) = in_params nodes params
+    in_type nodes home (written.Function place params «result») = in_params nodes params ++ nodes «result»
+    in_type nodes home other = []
+
+abbrev pub type_nodes : Home → «Type» → List Node
+type_nodes home tree = type_nodes_to (size-Type tree) home tree
+
+abbrev pub maybe_nodes : Home → Option «Type» → List Node
+maybe_nodes home None = []
+maybe_nodes home (Some tree) = type_nodes home tree
+
+abbrev pub field_nodes : Home → List Field → List Node
+field_nodes home fields = flat_map (λ field. type_nodes home (out-Field field).field_type) fields
+
+abbrev pub param_nodes : Home → List Param → List Node
+param_nodes home params = flat_map (λ param. type_nodes home (out-Param param).param_type) params
+
+-- the types of locals
+abbrev pub stmt_nodes_to : ℕ → Home → Stmt → List Node
+stmt_nodes_to zero home one = []
+stmt_nodes_to (suc depth) home one = in_stmt (stmt_nodes_to depth home) home (out-Stmt one)
+  where
+    in_stmt : (Stmt → List Node) → Home → Stmt-F Stmt Block → List Node
+    in_stmt nodes home (stmt.Block block) = flat_map nodes (out-Block block).stmts
+    in_stmt nodes home (stmt.If place test one) = nodes one
+    in_stmt nodes home (stmt.IfElse place test one other) = nodes one ++ nodes other
+    in_stmt nodes home (stmt.While place test body) = nodes body
+    in_stmt nodes home (stmt.For place keys value over body) = nodes body
+    in_stmt nodes home (stmt.Local place name tree init) = maybe_nodes home tree
+    in_stmt nodes home other = []
+
+abbrev pub block_nodes : Home → Block → List Node
+block_nodes home block = flat_map (λ one. stmt_nodes_to (size-Stmt one) home one) (out-Block block).stmts
+
+abbrev pub decl_nodes : Home → Decl-F Decl → List Node
+decl_nodes home (decl.Variable place lasting name tree init attrs) = maybe_nodes home tree
+decl_nodes home (decl.Type place name tree) = type_nodes home tree
+decl_nodes home (decl.RedefRecord place name fields) = field_nodes home fields
+decl_nodes home (decl.Body place kind name params attrs body) = param_nodes home params ++ block_nodes home body
+decl_nodes home (decl.Function place name params «result» body) = param_nodes home params ++ maybe_nodes home «result» ++ block_nodes home body
+decl_nodes home other = []
+
+abbrev pub all_nodes : List Stated → List Node
+all_nodes stated = flat_map (λ one. decl_nodes one.home (out-Decl one.decl)) stated
+
+abbrev pub is_record : Node → Bool
+is_record (RecordNode home place fields) = true
+is_record (EnumNode home place words) = false
+
+abbrev pub is_at : ℕ → ℕ → Node → Bool
+is_at file place (RecordNode home other fields) = home.file == file && other == place
+is_at file place (EnumNode home other words) = home.file == file && other == place
+
+-- how many come before the first that passes
+abbrev pub count_before : {A : Type 0} → (A → Bool) → List A → ℕ
+count_before passes [] = 0
+count_before passes (one ∷ others) = elim (passes one) [ true ↦ 0 | false ↦ suc (count_before passes others) ]
+
+-- the number of the record type, and of the enum, whose text begins at a place
+abbrev pub record_number : List Node → ℕ → ℕ → ℕ
+record_number nodes file place = length predefined.record_types + count_before (is_at file place) (filter is_record nodes)
+
+abbrev pub enum_number : List Node → ℕ → ℕ → ℕ
+enum_number nodes file place = predefined.enums + count_before (is_at file place) (filter (λ node. not (is_record node)) nodes)

@@ -1,0 +1,81 @@
+-- How much the streams of live connections hold.
+use Rattle.std.proofs.Common.{◌≡◌, ℕ, ◌+◌, ◌*◌, ◌≤◌, Bool, true, false, List, [], ◌∷◌, sum_by, Option, None, Some, sym, ap, subst, ◌∙◌, arith}
+use Rattle.std.proofs.lemmas.Grind.{common_steps}
+use Rattle.std.proofs.lemmas.List.Sums.{sum_by-cons}
+use Rattle.zk_reasm.specs.declared.stream.Stream.{Stream}
+use Rattle.zk_reasm.specs.Histories.{front_of}
+use Rattle.zk_reasm.proofs.ContentLemmas.{kept_bound, kept_is as kept_exact}
+use Rattle.zk_pcap.specs.declared.records.Packet.{Packet}
+use Rattle.zk_pcap.specs.NetworkTime.{now}
+use Rattle.zk_traffic.specs.declared.item.Item.{Item}
+use Rattle.zk_traffic.specs.declared.options.Options.{Options}
+use Rattle.zk_traffic.specs.declared.streams.Streams.{Streams}
+use Rattle.zk_traffic.specs.declared.traffic.Traffic.{Traffic}
+use Rattle.zk_traffic.specs.Conversation.{Conversation, Direction}
+use Rattle.zk_traffic.specs.Instances.{Instance, instances}
+use Rattle.zk_traffic.specs.Kept.{bytes_kept, held_by, held_in, held_in_all, live_streams, one_if, streams_in}
+use Rattle.zk_traffic.specs.Segments.{segments}
+use Rattle.zk_traffic.specs.Standing.{StandsFor}
+use Rattle.zk_traffic.specs.StreamTable.{HasStreams}
+use Rattle.zk_traffic.specs.Streams.{IsStream}
+use Rattle.zk_traffic.specs.Table.{gone_by, left}
+use Rattle.zk_traffic.proofs.DueLemmas.{all_are, live_left}
+use Rattle.zk_traffic.proofs.HoldsLemmas.{entry_live}
+use Rattle.zk_traffic.proofs.InstanceLemmas.{IsInstance}
+use Rattle.zk_traffic.proofs.LeftLemmas.{Each, left_each}
+
+one_held : (limit : ℕ) (s : Option Stream) (d : Option Direction) → IsStream limit s d → held_by limit d ≤ (limit + 65537) * one_if d
+one_held limit None None is = omega arith
+one_held limit None (Some d) is = absurd is
+one_held limit (Some s) None is = omega arith
+one_held limit (Some s) (Some d) is =
+    let exact = kept_exact s d.base limit d.told (front_of d.base limit d.told) is in
+    let bound = kept_bound s d.base limit d.told (front_of d.base limit d.told) is in
+    omega (arith, exact, bound)
+
+held_within : (limit : ℕ) (o : Option Streams) (c : Conversation) → HasStreams limit o c → held_in limit c ≤ (limit + 65537) * streams_in c
+held_within limit None c none =
+    let orig_is : held_by limit c.orig ≡ 0 = ap (held_by limit) none.0 in
+    let resp_is : held_by limit c.resp ≡ 0 = ap (held_by limit) none.1 in
+    let fits : 0 ≤ (limit + 65537) * streams_in c = omega arith in
+    omega (arith, orig_is, resp_is, fits)
+held_within limit (Some streams) c are =
+    let first = one_held limit streams.orig c.orig are.orig_is in
+    let second = one_held limit streams.resp c.resp are.resp_is in
+    omega (arith, first, second)
+
+sum_within : (limit : ℕ) (l : List Instance) → Each (λ i. held_in limit i.conversation ≤ (limit + 65537) * streams_in i.conversation) l
+    → held_in_all limit l ≤ (limit + 65537) * sum_by (λ i. streams_in i.conversation) l
+sum_within limit [] each = omega arith
+sum_within limit (i ∷ rest) each =
+    sums limit (held_in_all limit (i ∷ rest)) (held_in limit i.conversation) (held_in_all limit rest) (sum_by (λ (j : Instance). streams_in j.conversation) (i ∷ rest))
+    (streams_in i.conversation) (sum_by (λ (j : Instance). streams_in j.conversation) rest)
+    (sum_by-cons (λ (j : Instance). held_in limit j.conversation) i rest) (sum_by-cons (λ (j : Instance). streams_in j.conversation) i rest) each.0 (sum_within limit rest each.1)
+  where
+    sums : (limit all one more all_n n more_n : ℕ) → all ≡ one + more → all_n ≡ n + more_n → one ≤ (limit + 65537) * n → more ≤ (limit + 65537) * more_n → all ≤ (limit + 65537) * all_n
+    sums limit all one more all_n n more_n all_is n_is first second = grind (arith, common_steps, all_is, n_is, first, second)
+
+pub kept_is : (traffic : Traffic) (options : Options) (link : ℕ) (records : List Packet) (given : List Item) (ended : Bool) → StandsFor traffic options link records given ended
+    → traffic.connections.table.streams.kept ≡ bytes_kept options link records ended
+unfolding bytes_kept
+kept_is traffic options link records given true stands = stands.table_is
+kept_is traffic options link records given false stands =
+    stands.table_is.holds.kept_is ∙ ap (held_in_all options.buffer) (sym (live_left options.buffer (segments options link records) (now records) (instances options.buffer (segments options link records)) (all_are options.buffer (segments options link records))))
+
+pub kept_within : (traffic : Traffic) (options : Options) (link : ℕ) (records : List Packet) (given : List Item) (ended : Bool) → StandsFor traffic options link records given ended
+    → traffic.connections.table.streams.kept ≤ (options.buffer + 65537) * live_streams options link records ended
+unfolding live_streams
+kept_within traffic options link records given true stands = omega (arith, stands.table_is)
+kept_within traffic options link records given false stands =
+    let segs = segments options link records in
+    let t = now records in
+    let gone = gone_by options.buffer segs t in
+    let holds = stands.table_is.holds in
+    let each = left_each (IsInstance options.buffer segs) (λ i. held_in options.buffer i.conversation ≤ (options.buffer + 65537) * streams_in i.conversation) gone (instances options.buffer segs)
+    (λ i live is. held_within options.buffer _ i.conversation
+    (entry_live traffic.connections.table options.buffer segs gone stands.table_is.told i.key i.number i.conversation holds (record { latest_is = is.0; not_gone = live; number_is = is.1 })))
+    (all_are options.buffer segs) in
+    subst (λ l. traffic.connections.table.streams.kept ≤ (options.buffer + 65537) * sum_by (λ i. streams_in i.conversation) l)
+    (sym (live_left options.buffer segs t (instances options.buffer segs) (all_are options.buffer segs)))
+    (subst (λ n. n ≤ (options.buffer + 65537) * sum_by (λ i. streams_in i.conversation) (left gone (instances options.buffer segs))) (sym holds.kept_is)
+    (sum_within options.buffer (left gone (instances options.buffer segs)) each))

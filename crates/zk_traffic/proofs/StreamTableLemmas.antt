@@ -1,0 +1,123 @@
+-- The table of streams behind a segment.
+use Rattle.std.proofs.Common.{◌≡◌, ℕ, ◌+◌, ◌-◌, ◌^◌, ◌<◌, ◌≤◌, Bool, true, false, cond, not, ◌&&◌, [], ◌++◌, map, Option, None, Some, unwrap_or, refl, sym, ap, subst, ◌∙◌, arith}
+use Rattle.std.specs.Option.{MatchOption}
+use Rattle.std.proofs.lemmas.List.{append-nil}
+use Rattle.zk_base.specs.declared.network.Side.{Side}
+use Rattle.zk_base.specs.declared.network.Side.TheVariants.{Orig, Resp}
+use Rattle.zk_base.specs.declared.numbers.ConnNo.{ConnNo}
+use Rattle.zk_conn.specs.Instance.{same_side}
+use Rattle.zk_conn.specs.Segment.{has_rst, has_syn}
+use Rattle.zk_traffic.specs.declared.news.News.{News}
+use Rattle.zk_traffic.specs.declared.stream_table.StreamTable.{StreamTable}
+use Rattle.zk_traffic.specs.declared.streams.Moves.{Moves}
+use Rattle.zk_traffic.specs.declared.streams.Streams.{Streams}
+use Rattle.zk_traffic.specs.Conversation.{Conversation, Direction, acknowledged_told, begun_by, direction, direction_with, fin_told, front_at, has_ended, other, put_with, resets, sender_in, sent_told, stop_told, told_more, was_reset_with, with_segment}
+use Rattle.zk_traffic.specs.Items.{fresh_run, news_of}
+use Rattle.zk_traffic.specs.Kept.{held_by, held_in}
+use Rattle.zk_traffic.specs.Moves.{HasTaken, IsMove, front_moved, gap_in}
+use Rattle.zk_traffic.specs.News.{runs_of}
+use Rattle.zk_traffic.specs.Places.{gaps_from, runs_from}
+use Rattle.zk_traffic.specs.Segments.{Segment}
+use Rattle.zk_traffic.specs.StreamTable.{HasStreams, Takes, entry_at}
+use Rattle.zk_traffic.specs.Streams.{AreStreams}
+
+-- a sum that was counted
+pub counted_sum : (o : Option ℕ) (sum kept : ℕ) → MatchOption o (2 ^ 64 ≤ sum) (λ n. n ≡ sum) → sum ≤ kept → kept < 2 ^ 64 → unwrap_or o 0 ≡ sum
+counted_sum None sum kept is within fits = absurd (omega (arith, is, within, fits))
+counted_sum (Some n) sum kept is within fits = is
+
+none_some : {A : Type 0} (x : A) → None ≡ Some x → ⊥
+none_some x e = cc
+
+pub some_sum : (o : Option ℕ) (sum n : ℕ) → MatchOption o (2 ^ 64 ≤ sum) (λ m. m ≡ sum) → o ≡ Some n → n ≡ sum
+some_sum None sum n is some = absurd (none_some n some)
+some_sum (Some m) sum n is some = (let same : n ≡ m = cc in same) ∙ is
+
+-- how many bytes a conversation's streams hold with a segment
+pub held_in-with : (limit : ℕ) (c : Conversation) (s : Segment) → held_in limit (with_segment limit c s) ≡ held_by limit (direction_with c s Orig) + held_by limit (direction_with c s Resp)
+unfolding with_segment
+held_in-with limit c s = refl
+
+pub has_streams-with : (limit : ℕ) (c : Conversation) (s : Segment) (streams : Streams) → AreStreams limit streams (direction_with c s Orig) (direction_with c s Resp) → HasStreams limit (Some streams) (with_segment limit c s)
+unfolding with_segment
+has_streams-with limit c s streams are = are
+
+has_none-with : (limit : ℕ) (c : Conversation) (s : Segment) → direction_with c s Orig ≡ None → direction_with c s Resp ≡ None → HasStreams limit None (with_segment limit c s)
+unfolding with_segment
+has_none-with limit c s orig resp = (orig, resp)
+
+pub takes_some : (limit : ℕ) (conn : ConnNo) (c : Conversation) (s : Segment) (moves : Moves) (before after : StreamTable) (streams : Streams) (old new : News) (was is : ℕ)
+    → HasTaken limit conn c s moves streams old new → entry_at after conn.0 ≡ Some streams → was ≡ held_in limit c
+    → is ≡ held_by limit (direction_with c s Orig) + held_by limit (direction_with c s Resp) → held_in limit c ≤ before.kept → after.kept ≡ before.kept - was + is
+    → Takes limit conn c s moves before after old new
+takes_some limit conn c s moves before after streams old new was is taken there was_is is_is within kept = record {
+  entry = subst (λ o. HasStreams limit o (with_segment limit c s)) (sym there) (has_streams-with limit c s streams taken.stands);
+  kept_is = omega (arith, was_is, is_is, within, kept, held_in-with limit c s);
+  moves_are = record { sender = taken.sender; receiver = taken.receiver; gave_up = taken.gave_up; runs_are = taken.runs_are; gaps_are = taken.gaps_are };
+}
+
+no_direction : (c : Conversation) → c.orig ≡ None → c.resp ≡ None → (side : Side) → direction c side ≡ None
+no_direction c orig resp Orig = orig
+no_direction c orig resp Resp = resp
+
+none_begun : (resets was : Bool) (s : Segment) (d : Option Direction) → d ≡ None → has_syn s.view ≡ false → begun_by resets was s d ≡ None
+none_begun resets was s d none syn = ap (begun_by resets was s) none ∙ ap (λ b. cond b (Some (record { base = s.view.seq; told = stop_told was })) None) syn
+
+either : {A : Type 0} (b : Bool) (x y z : A) → x ≡ z → y ≡ z → cond b x y ≡ z
+either true x y z first second = first
+either false x y z first second = second
+
+none_with : (c : Conversation) (s : Segment) → c.orig ≡ None → c.resp ≡ None → has_syn s.view ≡ false → (side : Side) → direction_with c s side ≡ None
+none_with c s orig resp syn side = either (same_side side (sender_in c s)) _ _ None
+    (ap (told_more (sent_told s)) (none_begun (resets c s) (was_reset_with c s) s (direction c (sender_in c s)) (no_direction c orig resp (sender_in c s)) syn))
+    (ap (λ d. told_more (acknowledged_told s) (told_more (stop_told (resets c s)) d)) (no_direction c orig resp side))
+
+no_move : (limit : ℕ) (c : Conversation) (s : Segment) (side : Side) → direction c side ≡ None → direction_with c s side ≡ None
+    → IsMove limit c s side (record { front = None; ended = false })
+no_move limit c s side before after = record {
+  front_is = sym (ap (λ d. front_moved (front_at limit d) (front_at limit (direction_with c s side))) before ∙ ap (λ d. front_moved 0 (front_at limit d)) after);
+  ended_is = sym (ap (λ d. has_ended limit d && not (has_ended limit (direction c side))) after);
+}
+
+and_false : (b : Bool) → (b && false) ≡ false
+and_false true = refl
+and_false false = refl
+
+pub takes_none : (limit : ℕ) (conn : ConnNo) (c : Conversation) (s : Segment) (before after : StreamTable) (news : News) → c.orig ≡ None → c.resp ≡ None
+    → has_syn s.view ≡ false → entry_at after conn.0 ≡ None → after.kept ≡ before.kept
+    → Takes limit conn c s (record { sender = record { front = None; ended = false }; receiver = record { front = None; ended = false }; gave_up = false }) before after news news
+takes_none limit conn c s before after news orig resp syn there kept = record {
+  entry = subst (λ o. HasStreams limit o (with_segment limit c s)) (sym there) (has_none-with limit c s (with_none Orig) (with_none Resp));
+  kept_is = omega (arith, kept, held_in-with limit c s, ap (held_by limit) orig, ap (held_by limit) resp, ap (held_by limit) (with_none Orig), ap (held_by limit) (with_none Resp));
+  moves_are = record {
+    sender = no_move limit c s (sender_in c s) (no_direction c orig resp (sender_in c s)) (with_none (sender_in c s));
+    receiver = no_move limit c s (other (sender_in c s)) (no_direction c orig resp (other (sender_in c s))) (with_none (other (sender_in c s)));
+    gave_up = sym (ap (λ d. not (has_rst s.view) && put_with limit s (told_more (fin_told s) d)) (none_begun (resets c s) (was_reset_with c s) s (direction c (sender_in c s)) (no_direction c orig resp (sender_in c s)) syn)
+        ∙ and_false (not (has_rst s.view)));
+    runs_are = sym (ap (λ l. runs_of news ++ l)
+        (ap (λ l. map (fresh_run conn.0 (sender_in c s)) l ++ map (fresh_run conn.0 (other (sender_in c s))) (runs_from (front_at limit (direction c (other (sender_in c s)))) (news_of limit (front_at limit (direction c (other (sender_in c s)))) (direction_with c s (other (sender_in c s)))))) (runs_none (sender_in c s))
+        ∙ ap (λ l. map (fresh_run conn.0 (other (sender_in c s))) l) (runs_none (other (sender_in c s))))
+        ∙ append-nil (runs_of news));
+    gaps_are = sym (ap (λ l. news.gaps.items ++ l)
+        (ap (λ l. map (gap_in (sender_in c s)) l ++ map (gap_in (other (sender_in c s))) (gaps_from (front_at limit (direction c (other (sender_in c s)))) (news_of limit (front_at limit (direction c (other (sender_in c s)))) (direction_with c s (other (sender_in c s)))))) (gaps_none (sender_in c s))
+        ∙ ap (λ l. map (gap_in (other (sender_in c s))) l) (gaps_none (other (sender_in c s))))
+        ∙ append-nil news.gaps.items);
+  };
+}
+  where
+    with_none : (side : Side) → direction_with c s side ≡ None
+    with_none = none_with c s orig resp syn
+
+    runs_none : (side : Side) → runs_from (front_at limit (direction c side)) (news_of limit (front_at limit (direction c side)) (direction_with c s side)) ≡ []
+    runs_none side = ap (λ d. runs_from (front_at limit (direction c side)) (news_of limit (front_at limit (direction c side)) d)) (with_none side)
+
+    gaps_none : (side : Side) → gaps_from (front_at limit (direction c side)) (news_of limit (front_at limit (direction c side)) (direction_with c s side)) ≡ []
+    gaps_none side = ap (λ d. gaps_from (front_at limit (direction c side)) (news_of limit (front_at limit (direction c side)) d)) (with_none side)
+
+-- no streams are those of two directions that are not there
+pub none_has : (limit : ℕ) (entry : Option Streams) (c : Conversation) → entry ≡ None → HasStreams limit entry c → (c.orig ≡ None) × (c.resp ≡ None)
+none_has limit None c none has = has
+none_has limit (Some streams) c none has = absurd (none_some streams (sym none))
+
+pub some_has : (limit : ℕ) (entry : Option Streams) (streams : Streams) (c : Conversation) → entry ≡ Some streams → HasStreams limit entry c → AreStreams limit streams c.orig c.resp
+some_has limit entry streams c some has = subst (λ o. HasStreams limit o c) some has

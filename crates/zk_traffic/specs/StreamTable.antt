@@ -1,0 +1,38 @@
+-- What the table of streams has of a connection, and what a segment does there.
+use Rattle.std.specs.Prelude.{◌≡◌, ℕ, ◌+◌, ◌++◌, Option, Some, None}
+use Rattle.std.specs.BTreeMap as tree
+use Rattle.std.specs.Ordering.{nat_cmp}
+use Rattle.zk_base.specs.declared.numbers.ConnNo.{ConnNo}
+use Rattle.zk_traffic.specs.declared.news.News.{News}
+use Rattle.zk_traffic.specs.declared.stream_table.StreamTable.{StreamTable}
+use Rattle.zk_traffic.specs.declared.streams.Moves.{Moves}
+use Rattle.zk_traffic.specs.declared.streams.Streams.{Streams}
+use Rattle.zk_traffic.specs.Conversation.{Conversation, gives_up, other, sender_in, with_segment}
+use Rattle.zk_traffic.specs.Items.{fresh_with}
+use Rattle.zk_traffic.specs.Kept.{held_in}
+use Rattle.zk_traffic.specs.Moves.{IsMove, segment_gaps}
+use Rattle.zk_traffic.specs.News.{runs_of}
+use Rattle.zk_traffic.specs.Segments.{Segment}
+use Rattle.zk_traffic.specs.Streams.{AreStreams}
+
+unfoldable pub entry_at : StreamTable → ℕ → Option Streams
+entry_at table number = tree.get nat_cmp table.streams number
+
+-- the streams of a connection, where it has an entry
+abbrev pub HasStreams : ℕ → Option Streams → Conversation → Type 0
+HasStreams limit None c = (c.orig ≡ None) × (c.resp ≡ None)
+HasStreams limit (Some streams) c = AreStreams limit streams c.orig c.resp
+
+-- how a segment of a conversation has moved both streams
+pub record AreMoves (limit : ℕ) (conn : ConnNo) (c : Conversation) (s : Segment) (moves : Moves) (old new : News) : Type 0 where
+  pub sender : IsMove limit c s (sender_in c s) moves.sender
+  pub receiver : IsMove limit c s (other (sender_in c s)) moves.receiver
+  pub gave_up : moves.gave_up ≡ gives_up limit c s
+  pub runs_are : runs_of new ≡ runs_of old ++ fresh_with limit conn.0 c s
+  pub gaps_are : new.gaps.items ≡ old.gaps.items ++ segment_gaps limit c s
+
+-- the table has a segment of a conversation
+pub record Takes (limit : ℕ) (conn : ConnNo) (c : Conversation) (s : Segment) (moves : Moves) (before after : StreamTable) (old new : News) : Type 0 where
+  pub entry : HasStreams limit (entry_at after conn.0) (with_segment limit c s)
+  pub kept_is : after.kept + held_in limit c ≡ before.kept + held_in limit (with_segment limit c s)
+  pub moves_are : AreMoves limit conn c s moves old new

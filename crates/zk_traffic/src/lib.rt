@@ -1,0 +1,22 @@
+//! The items of a capture: what its packets come to, record by record.
+#![tactic(auto)]
+
+mod connections;
+mod frame;
+mod item;
+mod news;
+mod options;
+mod queue;
+mod segment;
+mod stream_table;
+mod streams;
+mod table;
+mod traffic;
+
+pub use item::{Item, What};
+pub use news::Fresh;
+pub use options::Options;
+pub use traffic::{Traffic, items_stay};
+
+#[cfg(test)]
+mod tests;

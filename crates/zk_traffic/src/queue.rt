@@ -1,0 +1,164 @@
+ghost use Rattle.std.specs.Prelude.{◌≡◌, [], ◌∷◌, ◌++◌, map, OnOk};
+ghost use Rattle.zk_conn.specs.declared.facts.Facts.{Facts as FactsData};
+ghost use Rattle.zk_traffic.specs.Items.{item, when};
+ghost use Rattle.zk_traffic.specs.Queue.{Knows, ending_items, gap_item, opening_items, what_of};
+ghost use Rattle.zk_traffic.specs.declared.item.What.TheVariants as what;
+
+use crate::item::{Item, What};
+use crate::news::Gap;
+use crate::table::{Done, Table, peer};
+use std::collections::VecDeque;
+use zk_base::{ConnNo, Mem, Moment, Side};
+use zk_conn::{Facts, Removed};
+
+/// What happens to a connection.
+#[derive(Clone, Copy, Debug, PartialEq, Eq)]
+enum Event {
+    Opened,
+    Established,
+    Gap { side: Side, from: u64, length: u64 },
+    Ended(Side),
+    GaveUp(Side),
+    Reset,
+}
+
+/// What happens to a connection, as it is told.
+fn what(event: Event, conn: ConnNo, facts: Facts) -> What
+    ensures { result ≡ what_of event conn facts }
+{
+    match event {
+        Event::Opened => What::Opened { conn, facts },
+        Event::Established => What::Established { conn, facts },
+        Event::Gap { side, from, length } => What::Gap {
+            conn,
+            facts,
+            side,
+            from,
+            length,
+        },
+        Event::Ended(side) => What::Ended { conn, facts, side },
+        Event::GaveUp(side) => What::GaveUp { conn, facts, side },
+        Event::Reset => What::Reset { conn, facts },
+    }
+}
+
+/// Adds an item.
+pub fn give(items: &mut VecDeque<Item>, moment: Moment, what: What) -> Result<(), Mem>
+    ensures { OnOk result (items.new.items ≡ items.old.items ++ item moment what ∷ []) }
+{
+    items.push_back(Item { moment, what })?;
+    Ok(())
+}
+
+/// Adds that a connection was removed.
+pub fn give_removed(items: &mut VecDeque<Item>, removed: Removed) -> Result<(), Mem>
+    ensures { OnOk result (items.new.items ≡ items.old.items ++ item removed.at (what.Removed removed.conn removed.facts) ∷ []) }
+{
+    let Removed { conn, at, facts } = removed;
+    give(items, at, What::Removed { conn, facts })
+}
+
+/// Adds an item of a live connection, with what is known of it.
+fn give_event(
+    items: &mut VecDeque<Item>,
+    table: &Table,
+    t: Moment,
+    conn: ConnNo,
+    event: Event,
+) -> Result<(), Mem>
+    ensures { OnOk result ((known : FactsData) → Knows table.now conn known → items.new.items ≡ items.old.items ++ item t (what_of event conn known) ∷ []) }
+{
+    match table.facts(conn) {
+        Some(facts) => give(items, t, what(event, conn, facts)),
+        None => Ok(()),
+    }
+}
+
+/// Adds an item of a live connection where it happens.
+fn give_if(
+    items: &mut VecDeque<Item>,
+    table: &Table,
+    happens: bool,
+    t: Moment,
+    conn: ConnNo,
+    event: Event,
+) -> Result<(), Mem>
+    ensures { OnOk result ((known : FactsData) → Knows table.now conn known → items.new.items ≡ items.old.items ++ when happens (item t (what_of event conn known))) }
+{
+    if happens {
+        give_event(items, table, t, conn, event)?;
+    }
+    Ok(())
+}
+
+/// Adds the items of a segment ahead of the gaps.
+pub fn give_opening(
+    items: &mut VecDeque<Item>,
+    table: &Table,
+    t: Moment,
+    done: Done,
+) -> Result<(), Mem>
+    ensures { OnOk result ((known : FactsData) → Knows table.now done.conn known → items.new.items ≡ items.old.items ++ opening_items t done known) }
+{
+    give_if(items, table, done.opened, t, done.conn, Event::Opened)?;
+    give_if(
+        items,
+        table,
+        done.established,
+        t,
+        done.conn,
+        Event::Established,
+    )
+}
+
+/// Adds the gaps.
+pub fn give_gaps(
+    items: &mut VecDeque<Item>,
+    table: &Table,
+    t: Moment,
+    conn: ConnNo,
+    gaps: &[Gap],
+) -> Result<(), Mem>
+    ensures { OnOk result ((known : FactsData) → Knows table.now conn known → items.new.items ≡ items.old.items ++ map (gap_item t conn known) gaps.now) }
+{
+    for gap in gaps {
+        let event = Event::Gap {
+            side: gap.side,
+            from: gap.from,
+            length: gap.length,
+        };
+        give_event(items, table, t, conn, event)?;
+    }
+    Ok(())
+}
+
+/// Adds the items of a segment behind the gaps.
+pub fn give_endings(
+    items: &mut VecDeque<Item>,
+    table: &Table,
+    t: Moment,
+    done: Done,
+) -> Result<(), Mem>
+    ensures { OnOk result ((known : FactsData) → Knows table.now done.conn known → items.new.items ≡ items.old.items ++ ending_items t done known) }
+{
+    let conn = done.conn;
+    give_if(
+        items,
+        table,
+        done.sender_ended,
+        t,
+        conn,
+        Event::Ended(done.side),
+    )?;
+    let receiver = Event::Ended(peer(done.side));
+    give_if(items, table, done.receiver_ended, t, conn, receiver)?;
+    give_if(
+        items,
+        table,
+        done.gave_up,
+        t,
+        conn,
+        Event::GaveUp(done.side),
+    )?;
+    give_if(items, table, done.reset, t, conn, Event::Reset)
+}

@@ -1,0 +1,212 @@
+ghost use Rattle.std.specs.Prelude.{◌≡◌, ◌≤ℤ◌, ◌≤◌, ◌<◌, ◌*◌, ◌+◌, ◌^◌, ℕ, Bool, true, false, pos, length, slice_get, Option, Some, None, Err, List, [], ◌∷◌, ◌++◌, IfOk, OnOk, OnErr, IfSome, IfNone};
+ghost use Rattle.std.specs.Option.{option_map};
+ghost use Rattle.zk_link_ip.specs.Views.{packet};
+ghost use Rattle.zk_pcap.specs.NetworkTime.{later};
+ghost use Rattle.zk_pcap.specs.View.{packet_of};
+ghost use Rattle.zk_pcap.specs.declared.records.Packet.{Packet};
+ghost use Rattle.zk_traffic.specs.Datagram.{is_fragment, packet_in, time_at};
+ghost use Rattle.zk_traffic.specs.Fresh.{fresh_lent};
+ghost use Rattle.zk_traffic.specs.Items.{fresh_at, items_of};
+ghost use Rattle.zk_traffic.specs.Kept.{bytes_kept, live_streams};
+ghost use Rattle.zk_traffic.specs.Steps.{Step};
+ghost use Rattle.zk_traffic.specs.declared.item.Item.{Item as ItemData};
+ghost use Rattle.zk_traffic.specs.declared.options.Options.{Options as OptionsData};
+
+use crate::connections::Connections;
+use crate::frame::{is_fragment, packet_in, segment_in};
+use crate::item::Item;
+use crate::news::Fresh;
+use crate::options::Options;
+use std::alloc::Global;
+use zk_base::{Mem, Moment};
+use zk_frag::{Frags, Joined};
+use zk_link_ip::Ip4;
+use zk_pcap::PacketView;
+
+/// What the items of a capture are while its records come. There is nothing to run.
+pub fn items_stay()
+    // The items of the records so far are a prefix of those of the capture, however much of it is still to come.
+    ensures { (options : OptionsData) (link : ℕ) (records more : List Packet) (ended : Bool)
+        → (rest : List ItemData) × (items_of options link (records ++ more) ended ≡ items_of options link records false ++ rest) }
+{}
+
+/// The items of a capture, as its records come.
+///
+/// At each record stand, in order: the removals that are due by its network time, each at its own
+/// moment, by moment and then by number; the packet, where that is asked for; that a connection
+/// began, and that it is established; the gaps of the sender's stream by place, and those of the
+/// receiver's; that the sender's end is closed by a FIN, and the receiver's; that the sender's
+/// stream gave up; that the connection was reset. At the end what is still live is removed in order
+/// of number, at the last network time.
+///
+/// A packet is ignored, but still seen, where it has no IPv4 header or no TCP or UDP header that is
+/// well-formed, or where checksums are judged and one of it is wrong; that of TCP or UDP isn't
+/// judged where bytes of the packet were not captured.
+#[derive(Debug, Drop)]
+pub struct Traffic {
+    options: Options,
+    link: u16,
+    /// Network time: the greatest moment of the packets so far.
+    time: Moment,
+    has_failed: bool,
+    frags: Frags,
+    connections: Connections,
+    ghost early: { pos 0 ≤ℤ time.0 },
+    ghost late: { time.0 ≤ℤ pos (2 ^ 62) },
+}
+
+/// The later of two moments.
+fn latest(a: Moment, b: Moment) -> Moment
+    ensures { result ≡ later a b }
+{
+    if a < b { b } else { a }
+}
+
+impl Traffic {
+    ghost use Rattle.zk_traffic.specs.Standing.{HasFailed, StandsFor, waiting};
+    ghost use Rattle.zk_traffic.specs.Taking.{HasTaken, IsReady};
+
+    /// A capture of this link type, before its first packet.
+    pub fn new(alloc: Global, options: Options, link: u16) -> Result<Traffic, Mem>
+        ensures { IfOk result (λ traffic. StandsFor traffic options link [] [] false) }
+    {
+        Ok(Traffic {
+            options,
+            link,
+            time: Moment(0),
+            has_failed: false,
+            frags: Frags::new(alloc),
+            connections: Connections::new(alloc, options.buffer),
+        })
+    }
+
+    /// Takes the next packet, and makes all items that it brings. After `Mem` the value has failed:
+    /// from then on `packet` and `end` answer `Mem`, and `next` gives nothing.
+    pub fn packet(&mut self, p: PacketView<'_>) -> Result<(), Mem>
+        requires early { pos 0 ≤ℤ p.moment.0 }
+        requires late { p.moment.0 ≤ℤ pos (2 ^ 62) }
+        requires captured { length p.bytes.now ≤ 262144 }
+        ensures taken { OnOk result ((options : OptionsData) (link : ℕ) (records : List Packet) (given : List ItemData) → StandsFor self.old options link records given false
+            → StandsFor self.new options link (records ++ packet_of p.entry ∷ []) given false) }
+        ensures fails { OnErr result (HasFailed self.new) }
+        ensures failed { HasFailed self.old → OnOk result ⊥ }
+    {
+        if self.has_failed {
+            return Err(Mem);
+        }
+        let taken = self.take(&p);
+        self.has_failed = taken.is_err();
+        taken
+    }
+
+    /// The next item that was not given yet: none where all were given, or the value has failed.
+    pub fn next(&mut self) -> Option<Item>
+        ensures item { (options : OptionsData) (link : ℕ) (records : List Packet) (given : List ItemData) (ended : Bool) → StandsFor self.old options link records given ended
+            → result ≡ slice_get (items_of options link records ended) (length given) }
+        ensures given { IfSome result (λ item. (options : OptionsData) (link : ℕ) (records : List Packet) (given : List ItemData) (ended : Bool)
+            → StandsFor self.old options link records given ended → StandsFor self.new options link records (given ++ item ∷ []) ended) }
+        ensures none { IfNone result ((options : OptionsData) (link : ℕ) (records : List Packet) (given : List ItemData) (ended : Bool)
+            → StandsFor self.old options link records given ended
+            → (given ≡ items_of options link records ended) × StandsFor self.new options link records given ended) }
+        ensures fewer { IfSome result (λ item. waiting self.new < waiting self.old) }
+        ensures failed { HasFailed self.old → (result ≡ None) × HasFailed self.new }
+    {
+        if self.has_failed {
+            return None;
+        }
+        self.connections.next()
+    }
+
+    /// The capture has come to its end: what is live is removed. After `Mem` the value has failed.
+    pub fn end(&mut self) -> Result<(), Mem>
+        ensures ended { OnOk result ((options : OptionsData) (link : ℕ) (records : List Packet) (given : List ItemData) → StandsFor self.old options link records given false
+            → StandsFor self.new options link records given true) }
+        ensures fails { OnErr result (HasFailed self.new) }
+        ensures failed { HasFailed self.old → OnOk result ⊥ }
+    {
+        if self.has_failed {
+            return Err(Mem);
+        }
+        let ended = self.connections.end(self.time);
+        self.has_failed = ended.is_err();
+        ended
+    }
+
+    /// How many bytes the streams of live connections hold.
+    pub fn kept(&self) -> u64
+        ensures exact { (options : OptionsData) (link : ℕ) (records : List Packet) (given : List ItemData) (ended : Bool) → StandsFor self.now options link records given ended
+            → result ≡ bytes_kept options link records ended }
+        ensures bound { (options : OptionsData) (link : ℕ) (records : List Packet) (given : List ItemData) (ended : Bool) → StandsFor self.now options link records given ended
+            → result ≤ (options.buffer + 65537) * live_streams options link records ended }
+    {
+        self.connections.kept()
+    }
+
+    /// The k-th run of bytes by which the last packet moved a front: those of its sender's stream
+    /// first, by place. It stays until the next packet.
+    pub fn fresh(&self, k: usize) -> Option<Fresh<'_>>
+        ensures run { (options : OptionsData) (link : ℕ) (before : List Packet) (last : Packet) (given : List ItemData)
+            → StandsFor self.now options link (before ++ last ∷ []) given false
+            → option_map fresh_lent result ≡ slice_get (fresh_at options link (record { before = before; last = last })) k }
+        ensures none { (options : OptionsData) (link : ℕ) (given : List ItemData) → StandsFor self.now options link [] given false → result ≡ None }
+    {
+        self.connections.news().run(k)
+    }
+
+    /// Takes a packet.
+    fn take(&mut self, p: &PacketView<'_>) -> Result<(), Mem>
+        requires early { pos 0 ≤ℤ p.now.moment.0 }
+        requires late { p.now.moment.0 ≤ℤ pos (2 ^ 62) }
+        requires captured { length p.now.bytes.now ≤ 262144 }
+        ensures taken { OnOk result ((options : OptionsData) (link : ℕ) (records : List Packet) (given : List ItemData) → StandsFor self.old options link records given false
+            → StandsFor self.new options link (records ++ packet_of p.now ∷ []) given false) }
+    {
+        self.time = latest(self.time, p.moment);
+        self.connections.begin();
+        self.connections.remove_due(self.time)?;
+        self.connections
+            .give_seen(self.options.packets, self.time, p)?;
+        self.take_frame(p.bytes)
+    }
+
+    /// Takes what stands in a frame.
+    fn take_frame(&mut self, frame: &[u8]) -> Result<(), Mem>
+        ensures taken { OnOk result ((options : OptionsData) (link : ℕ) (step : Step Packet) → step.last.bytes ≡ frame.now → IsReady self.old options link step.before (time_at step)
+            → HasTaken self.old self.new options link step) }
+        ensures works { self.new.has_failed ≡ self.old.has_failed }
+    {
+        match packet_in(&self.options, self.link, frame) {
+            Some(ip) => self.take_ip(&ip),
+            None => Ok(()),
+        }
+    }
+
+    /// Takes an IPv4 packet.
+    fn take_ip(&mut self, ip: &Ip4<'_>) -> Result<(), Mem>
+        ensures taken { OnOk result ((options : OptionsData) (link : ℕ) (step : Step Packet) → packet_in options link step.last.bytes ≡ Some (packet ip.now).now
+            → IsReady self.old options link step.before (time_at step) → HasTaken self.old self.new options link step) }
+        ensures works { self.new.has_failed ≡ self.old.has_failed }
+    {
+        if is_fragment(ip) {
+            return self.take_fragment(ip);
+        }
+        let segment = segment_in(&self.options, ip, ip.payload(), ip.full_len());
+        self.connections.take_some(self.time, segment)
+    }
+
+    /// Takes a fragment, and the datagram that it makes whole.
+    fn take_fragment(&mut self, ip: &Ip4<'_>) -> Result<(), Mem>
+        ensures taken { OnOk result ((options : OptionsData) (link : ℕ) (step : Step Packet) → packet_in options link step.last.bytes ≡ Some (packet ip.now).now
+            → is_fragment (packet ip.now).now ≡ true → IsReady self.old options link step.before (time_at step) → HasTaken self.old self.new options link step) }
+        ensures works { self.new.has_failed ≡ self.old.has_failed }
+    {
+        match self.frags.take(self.time, ip)? {
+            Joined::Held | Joined::Ignored => Ok(()),
+            Joined::Whole => {
+                let whole = self.frags.whole();
+                let segment = segment_in(&self.options, ip, whole, whole.len());
+                self.connections.take_some(self.time, segment)
+            }
+        }
+    }
+}

@@ -65,6 +65,7 @@ reading_on whole header bytes packets reader old new is (reading, inputs) =
     let same : rest_of new ≡ rest_of old = ap (λ i. bytes_from i new.reading) inputs ∙ ap (bytes_from old.inputs) reading in
     record {
       opens = is.opens;
+      link = is.link;
       stands = is.stands;
       read = has_read_on whole bytes old new is.read (reading, inputs);
       counted = is.counted;
@@ -76,9 +77,10 @@ reading_on whole header bytes packets reader old new is (reading, inputs) =
 -- a piece more of a capture was read
 pub reading_more : (whole : Option (List ℕ)) (header : Header) (bytes piece : List ℕ) (packets : List Packet) (reader after : CaptureReader) (old new : Outside)
     → IsReading whole header bytes packets reader old → HasRead whole (bytes ++ piece) new → StandsFor after.feed header (bytes ++ piece) packets
-    → after.left + length piece ≡ reader.left → (after.is_read_out ≡ true → (after.left ≡ 0) ⊎ IfSome (rest_of new) (λ rest. rest ≡ []))
+    → after.link ≡ reader.link → after.left + length piece ≡ reader.left → (after.is_read_out ≡ true → (after.left ≡ 0) ⊎ IfSome (rest_of new) (λ rest. rest ≡ []))
     → IsReading whole header (bytes ++ piece) packets after new
-reading_more whole header bytes piece packets reader after old new is read stands less out = record {
+reading_more whole header bytes piece packets reader after old new is read stands link less out = record {
+  link = link ∙ is.link;
   opens = header_stays bytes piece (subst IsSure (sym is.opens) tt) ∙ is.opens;
   stands = stands;
   read = read;
@@ -88,9 +90,10 @@ reading_more whole header bytes piece packets reader after old new is read stand
 
 -- the reader goes on behind a packet
 pub reading_behind : (whole : Option (List ℕ)) (header : Header) (bytes : List ℕ) (packets : List Packet) (packet : Packet) (reader after : CaptureReader) (now : Outside)
-    → IsReading whole header bytes packets reader now → StandsFor after.feed header bytes (packets ++ packet ∷ []) → after.left ≡ reader.left → after.is_read_out ≡ reader.is_read_out
+    → IsReading whole header bytes packets reader now → StandsFor after.feed header bytes (packets ++ packet ∷ []) → after.link ≡ reader.link → after.left ≡ reader.left → after.is_read_out ≡ reader.is_read_out
     → IsReading whole header bytes (packets ++ packet ∷ []) after now
-reading_behind whole header bytes packets packet reader after now is stands left out = record {
+reading_behind whole header bytes packets packet reader after now is stands link left out = record {
+  link = link ∙ is.link;
   opens = is.opens;
   stands = stands;
   read = is.read;
@@ -100,9 +103,10 @@ reading_behind whole header bytes packets packet reader after now is stands left
 
 -- A reader that has read the first bytes of a capture.
 pub reading_begins : (whole : Option (List ℕ)) (header : Header) (bytes : List ℕ) (reader : CaptureReader) (now : Outside)
-    → header_of bytes ≡ Ok header → HasRead whole bytes now → StandsFor reader.feed header bytes [] → reader.left + length bytes ≡ 2 ^ 40 → reader.is_read_out ≡ false
+    → header_of bytes ≡ Ok header → reader.link ≡ header.link → HasRead whole bytes now → StandsFor reader.feed header bytes [] → reader.left + length bytes ≡ 2 ^ 40 → reader.is_read_out ≡ false
     → IsReading whole header bytes [] reader now
-reading_begins whole header bytes reader now opens read stands counted going = record {
+reading_begins whole header bytes reader now opens link read stands counted going = record {
+  link = link;
   opens = opens;
   stands = stands;
   read = read;
@@ -260,3 +264,21 @@ capture_begun_next whole header bytes packets packet reader now is at =
     let end = end_from-stand (record_at header bytes) 24 packets reader.feed.place is.stands.stand in
     let stand = stand_more (record_at header bytes) 24 packets reader.feed.place packet is.stands.stand (subst (λ n. record_at header bytes n ≡ Some packet) end at) in
     begun whole header bytes (packets ++ packet ∷ []) (end_of packet) reader.left is.counted is.opens stand (rest_of now) is.read.rest
+
+-- where the whole is told, its header is the one that was read
+pub told_header : (whole : Option (List ℕ)) (header : Header) (bytes : List ℕ) (packets : List Packet) (reader : CaptureReader) (now : Outside)
+    → IsReading whole header bytes packets reader now → IfSome whole (λ file. header_of file ≡ Ok header)
+told_header whole header bytes packets reader now is = header_by whole (rest_of now) is.read.rest
+  where
+    header_by : (there rest : Option (List ℕ)) → there ≡ option_map (λ r. bytes ++ r) rest → IfSome there (λ file. header_of file ≡ Ok header)
+    header_by there None same = subst (λ w. IfSome w (λ file. header_of file ≡ Ok header)) (sym same) tt
+    header_by there (Some rest) same =
+        subst (λ w. IfSome w (λ file. header_of file ≡ Ok header)) (sym same) (header_stays bytes rest (subst IsSure (sym is.opens) tt) ∙ is.opens)
+
+-- stopped while the packet that stands next is taken
+pub says_part_next : (whole : Option (List ℕ)) (header : Header) (bytes : List ℕ) (packets : List Packet) (packet : Packet) (reader : CaptureReader) (now : Outside) (wanted : List Packet → List ℕ)
+    (old : Outside) (stop : Stop) (new : Outside) → IsReading whole header bytes packets reader now → record_at header bytes (end_from 24 packets) ≡ Some packet
+    → ((others : List Packet) → DoesPart [] (wanted ((packets ++ packet ∷ []) ++ others)) [] old stop new) → SaysPart whole wanted old stop new
+says_part_next whole header bytes packets packet reader now wanted old stop new is at part =
+    let (all, others, ending, capture, same) = capture_begun_next whole header bytes packets packet reader now is at in
+    record { packets = all; ending = ending; all = capture; says = subst (λ ps. DoesPart [] (wanted ps) [] old stop new) (sym same) (part others) }

@@ -12,7 +12,7 @@ use Rattle.zk_top.specs.declared.found.Found.TheVariants.{Accepted, Refused}
 use Rattle.zk_top.specs.declared.stop.Stop.{Stop}
 use Rattle.zk_top.specs.Command.{Command, ListItems, RunScript, Help, Version, understand}
 use Rattle.zk_top.specs.Complaint.{complaint_of}
-use Rattle.zk_top.specs.Outcome.{Outcome, Report, no_files, ending_so, opened, loaded, over_capture, list_report, run_report, running, outcome_of, outcome}
+use Rattle.zk_top.specs.Outcome.{Outcome, Report, no_files, ending_so, opened, loaded, over_capture, list_report, link_in, run_report, running, outcome_of, outcome}
 use Rattle.zk_top.specs.Parts.{DoesAll, DoesPart, Fulfils, BreaksOff}
 use Rattle.zk_top.specs.Run.{IsPrefix, files_over, IsDone, OutputsBegun, StaysWithin}
 use Rattle.zk_top.proofs.Doing.{prefix_of_none, prefix_all, does_nothing_without_fault, does_both, without_fault_both, cause_since}
@@ -34,7 +34,7 @@ plain_running file script (Refused e) inputs = record { files = refl; complained
 
 plain_of : (asked : Result Command ℕ) (inputs : Files) → IsPlain (outcome_of asked inputs)
 plain_of (Err word) inputs = record { files = refl; complained = refl }
-plain_of (Ok (ListItems file)) inputs = plain_over (list_report file) (file ∷ []) (opened file (inputs file))
+plain_of (Ok (ListItems file)) inputs = plain_over (list_report file (link_in (inputs file))) (file ∷ []) (opened file (inputs file))
 plain_of (Ok (RunScript file script)) inputs = plain_running file script (loaded script (inputs script)) inputs
 plain_of (Ok Help) inputs = record { files = refl; complained = refl }
 plain_of (Ok Version) inputs = record { files = refl; complained = refl }

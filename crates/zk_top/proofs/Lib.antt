@@ -6,6 +6,7 @@ mod Dispatching
 mod Doing
 mod EntryLemmas
 mod Growth
+mod ListingLemmas
 mod OpenCapture
 mod OverCapture
 mod OverScript

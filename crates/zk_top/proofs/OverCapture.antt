@@ -22,14 +22,6 @@ use Rattle.zk_top.specs.Parts.{IsRefusal, IsOfCommand, IsReadBeyond, IsReadOf, D
 use Rattle.zk_top.specs.Run.{IsNotStopped, IsPrefix, SameAbsences}
 use Rattle.zk_top.proofs.Doing.{prefix_none, prefix_of_none, prefix_trans, without_fault_both, does_both_part}
 
--- a refusal that isn't for want of memory
-pub refused : (why : CaptureFault) (wanted : Result Capture CaptureFault) → UnlessNoMemory (Err why) wanted → why ≢ fault.NoMemory → wanted ≡ Err why
-refused (fault.Short place) wanted given other = sym given
-refused fault.Magic wanted given other = sym given
-refused fault.Version wanted given other = sym given
-refused fault.Link wanted given other = sym given
-refused fault.NoMemory wanted given other = absurd (other refl)
-
 -- Endings -------------------------------------------------------------------------------------------------------
 
 pub whole_refusal : (e : Ending) → IsRefusal e → IsNotStopped e
@@ -71,8 +63,8 @@ asked report names (Accepted capture) = refl
 asked report names (Refused e) = refl
 
 -- stopped before its capture was found
-pub broken_before : (report : Capture → Report) (file : List ℕ) (old : Outside) (stop : Stop) (new : Outside) → DoesPart (file ∷ []) [] [] old stop new
-    → BreaksOff (λ inputs. over_capture report (file ∷ []) (opened file (inputs file))) old stop new
+pub broken_before : (report : Option (List ℕ) → Capture → Report) (file : List ℕ) (old : Outside) (stop : Stop) (new : Outside) → DoesPart (file ∷ []) [] [] old stop new
+    → BreaksOff (λ inputs. over_capture (report (inputs file)) (file ∷ []) (opened file (inputs file))) old stop new
 broken_before report file old stop new part = record {
   names = part.names_part;
   said = part.said_part;
@@ -80,19 +72,20 @@ broken_before report file old stop new part = record {
   does = part.does;
   cause = part.cause;
   quiet = part.quiet;
-  names_prefix = λ inputs told. subst (λ names. IsPrefix part.names_part names) (sym (asked report (file ∷ []) (opened file (inputs file)))) part.names_prefix;
-  said_prefix = λ inputs told. let whole : List ℕ = (over_capture report (file ∷ []) (opened file (inputs file))).said in
+  names_prefix = λ inputs told. subst (λ names. IsPrefix part.names_part names) (sym (asked (report (inputs file)) (file ∷ []) (opened file (inputs file)))) part.names_prefix;
+  said_prefix = λ inputs told. let whole : List ℕ = (over_capture (report (inputs file)) (file ∷ []) (opened file (inputs file))).said in
       prefix_trans part.said_part [] whole part.said_prefix (prefix_none whole);
-  complained_prefix = λ inputs told. let whole : List ℕ = (over_capture report (file ∷ []) (opened file (inputs file))).complained in
+  complained_prefix = λ inputs told. let whole : List ℕ = (over_capture (report (inputs file)) (file ∷ []) (opened file (inputs file))).complained in
       prefix_trans part.complained_part [] whole part.complained_prefix (prefix_none whole);
   complaint_last = λ inputs told. inl (prefix_of_none part.complained_part part.complained_prefix);
 }
 
 -- stopped while its lines were said
-pub broken_within : (report : Capture → Report) (file : List ℕ) (capture : Capture) (old mid : Outside) (stop : Stop) (new : Outside) → Finds file (opened file) old (Accepted capture) mid
-    → DoesPart [] (report capture).said [] mid stop new → BreaksOff (λ inputs. over_capture report (file ∷ []) (opened file (inputs file))) old stop new
-broken_within report file capture old mid stop new found says =
-    let part : DoesPart (file ∷ []) (report capture).said [] old stop new = does_both_part (file ∷ []) [] [] (report capture).said [] old mid stop new found.does says in
+pub broken_within : (report : Option (List ℕ) → Capture → Report) (file : List ℕ) (capture : Capture) (said : List ℕ) (old mid : Outside) (stop : Stop) (new : Outside)
+    → Finds file (opened file) old (Accepted capture) mid → ((inputs : Files) → old.inputs ≡ Some inputs → said ≡ (report (inputs file) capture).said)
+    → DoesPart [] said [] mid stop new → BreaksOff (λ inputs. over_capture (report (inputs file)) (file ∷ []) (opened file (inputs file))) old stop new
+broken_within report file capture said old mid stop new found reported says =
+    let part : DoesPart (file ∷ []) said [] old stop new = does_both_part (file ∷ []) [] [] said [] old mid stop new found.does says in
     record {
       names = part.names_part;
       said = part.said_part;
@@ -100,32 +93,34 @@ broken_within report file capture old mid stop new found says =
       does = part.does;
       cause = part.cause;
       quiet = part.quiet;
-      names_prefix = λ inputs told. subst (λ names. IsPrefix part.names_part names) (sym (asked report (file ∷ []) (opened file (inputs file)))) part.names_prefix;
-      said_prefix = λ inputs told. subst (λ r. IsPrefix part.said_part (over_capture report (file ∷ []) r).said) (found.told inputs told) part.said_prefix;
-      complained_prefix = λ inputs told. let whole : List ℕ = (over_capture report (file ∷ []) (opened file (inputs file))).complained in
+      names_prefix = λ inputs told. subst (λ names. IsPrefix part.names_part names) (sym (asked (report (inputs file)) (file ∷ []) (opened file (inputs file)))) part.names_prefix;
+      said_prefix = λ inputs told. subst (λ text. IsPrefix part.said_part text)
+          (reported inputs told ∙ ap (λ r. (over_capture (report (inputs file)) (file ∷ []) r).said) (found.told inputs told)) part.said_prefix;
+      complained_prefix = λ inputs told. let whole : List ℕ = (over_capture (report (inputs file)) (file ∷ []) (opened file (inputs file))).complained in
           prefix_trans part.complained_part [] whole part.complained_prefix (prefix_none whole);
       complaint_last = λ inputs told. inl (prefix_of_none part.complained_part part.complained_prefix);
     }
 
 -- its lines were said
-pub fulfilled : (report : Capture → Report) (file : List ℕ) (capture : Capture) (old mid : Outside) (e : Ending) (new : Outside) → Finds file (opened file) old (Accepted capture) mid
-    → e ≡ end_of_capture file capture.ending → (report capture).ending ≡ end_of_capture file capture.ending → DoesAll [] (report capture).said [] mid new
-    → Fulfils (λ inputs. over_capture report (file ∷ []) (opened file (inputs file))) [] old e new
-fulfilled report file capture old mid e new found is same says = record {
+pub fulfilled : (report : Option (List ℕ) → Capture → Report) (file : List ℕ) (capture : Capture) (said : List ℕ) (old mid : Outside) (e : Ending) (new : Outside)
+    → Finds file (opened file) old (Accepted capture) mid → e ≡ end_of_capture file capture.ending
+    → ((inputs : Files) → old.inputs ≡ Some inputs → (said ≡ (report (inputs file) capture).said) × ((report (inputs file) capture).ending ≡ end_of_capture file capture.ending))
+    → DoesAll [] said [] mid new → Fulfils (λ inputs. over_capture (report (inputs file)) (file ∷ []) (opened file (inputs file))) [] old e new
+fulfilled report file capture said old mid e new found is reported says = record {
   names = file ∷ [];
-  said = (report capture).said;
-  does = without_fault_both (file ∷ []) [] [] (report capture).said [] [] old mid new found.does says.all;
+  said = said;
+  does = without_fault_both (file ∷ []) [] [] said [] [] old mid new found.does says.all;
   whole = subst IsNotStopped (sym is) (whole_end file capture.ending);
   absent = λ name same. absurd (not_absent file capture.ending name (sym is ∙ same));
   present = λ other. says.present ∙ found.present (λ name same. let never : ⊥ = cc in never);
-  ends = λ inputs told. is ∙ sym same ∙ ap (λ r. (over_capture report (file ∷ []) r).ending) (found.told inputs told);
-  names_are = λ inputs told. sym (asked report (file ∷ []) (opened file (inputs file)));
-  said_is = λ inputs told. ap (λ r. (over_capture report (file ∷ []) r).said) (found.told inputs told);
+  ends = λ inputs told. is ∙ sym (reported inputs told).1 ∙ ap (λ r. (over_capture (report (inputs file)) (file ∷ []) r).ending) (found.told inputs told);
+  names_are = λ inputs told. sym (asked (report (inputs file)) (file ∷ []) (opened file (inputs file)));
+  said_is = λ inputs told. (reported inputs told).0 ∙ ap (λ r. (over_capture (report (inputs file)) (file ∷ []) r).said) (found.told inputs told);
 }
 
 -- there is no capture
-pub fulfilled_refused : (report : Capture → Report) (file : List ℕ) (old : Outside) (e : Ending) (new : Outside) → Finds file (opened file) old (Refused e) new
-    → Fulfils (λ inputs. over_capture report (file ∷ []) (opened file (inputs file))) [] old e new
+pub fulfilled_refused : (report : Option (List ℕ) → Capture → Report) (file : List ℕ) (old : Outside) (e : Ending) (new : Outside) → Finds file (opened file) old (Refused e) new
+    → Fulfils (λ inputs. over_capture (report (inputs file)) (file ∷ []) (opened file (inputs file))) [] old e new
 fulfilled_refused report file old e new found = record {
   names = file ∷ [];
   said = [];
@@ -133,9 +128,9 @@ fulfilled_refused report file old e new found = record {
   whole = whole_refusal e (found.refusal e refl);
   absent = λ name same. found.absent name (ap Refused same);
   present = λ other. found.present (λ name same. other name (let is : e ≡ ending.NoInput name = cc in is));
-  ends = λ inputs told. ap (λ r. (over_capture report (file ∷ []) r).ending) (found.told inputs told);
-  names_are = λ inputs told. sym (asked report (file ∷ []) (opened file (inputs file)));
-  said_is = λ inputs told. ap (λ r. (over_capture report (file ∷ []) r).said) (found.told inputs told);
+  ends = λ inputs told. ap (λ r. (over_capture (report (inputs file)) (file ∷ []) r).ending) (found.told inputs told);
+  names_are = λ inputs told. sym (asked (report (inputs file)) (file ∷ []) (opened file (inputs file)));
+  said_is = λ inputs told. ap (λ r. (over_capture (report (inputs file)) (file ∷ []) r).said) (found.told inputs told);
 }
 
 -- What is found in a file -----------------------------------------------------------------------------------------

@@ -1,12 +1,9 @@
 -- Packets one after another, and their items.
 use Rattle.std.proofs.Common.{◌≡◌, List, [], ◌∷◌, ◌++◌, sym, ap, ◌∙◌, append_assoc, append-nil}
-use Rattle.std.proofs.lemmas.List.Concat.{flat_map-append}
 use Rattle.zk_base.specs.declared.time.Moment.{Moment}
 use Rattle.zk_pcap.specs.declared.records.Packet.{Packet}
 use Rattle.zk_pcap.specs.NetworkTime.{later, now, now-append}
 use Rattle.zk_top.specs.Item.{Item, items_of, items_after, seen_at}
-use Rattle.zk_top.specs.Line.{line_of, lines_of, packet_lines}
-use Rattle.zk_top.specs.Run.{IsPrefix}
 
 -- network time at one more packet
 pub next_now : (packets : List Packet) (time after : Moment) (packet : Packet) → time ≡ now packets → after ≡ later time packet.moment → after ≡ now (packets ++ packet ∷ [])
@@ -26,16 +23,3 @@ items_of-append packets others = items_after-append [] packets others
 -- the item of one more packet
 pub next_item : (packets : List Packet) (time : Moment) (packet : Packet) → time ≡ now (packets ++ packet ∷ []) → items_of (packets ++ packet ∷ []) ≡ items_of packets ++ seen_at time packet ∷ []
 next_item packets time packet is = items_of-append packets (packet ∷ []) ∙ ap (λ t. items_of packets ++ seen_at t packet ∷ []) (sym is)
-
--- the lines so far are the first ones of more packets
-pub lines_begin : (packets others : List Packet) → IsPrefix (packet_lines packets) (packet_lines (packets ++ others))
-lines_begin packets others = record {
-  rest = lines_of (items_after packets others);
-  joined = ap lines_of (items_of-append packets others) ∙ flat_map-append line_of (items_of packets) (items_after packets others);
-}
-
--- the line of one more packet
-pub next_line : (packets : List Packet) (time : Moment) (packet : Packet) → time ≡ now (packets ++ packet ∷ []) → packet_lines (packets ++ packet ∷ []) ≡ packet_lines packets ++ line_of (seen_at time packet)
-next_line packets time packet is =
-    ap lines_of (next_item packets time packet is) ∙ flat_map-append line_of (items_of packets) (seen_at time packet ∷ [])
-    ∙ ap (λ text. packet_lines packets ++ text) (append-nil (line_of (seen_at time packet)))

@@ -24,20 +24,6 @@ header = 0xd4 ∷ 0xc3 ∷ 0xb2 ∷ 0xa1 ∷ 2 ∷ 0 ∷ 4 ∷ 0 ∷ 0 ∷ 0 ∷
 cut : List ℕ
 cut = 1 ∷ 0 ∷ 0 ∷ 0 ∷ 0 ∷ 0 ∷ 0 ∷ 0 ∷ 2 ∷ 0 ∷ 0 ∷ 0 ∷ 2 ∷ 0 ∷ 0 ∷ 0 ∷ 0xff ∷ 0xff ∷ 2 ∷ 0 ∷ 0 ∷ []
 
--- no bytes at 5 s, and then none at 3 s
-backwards : List ℕ
-backwards = 5 ∷ 0 ∷ 0 ∷ 0 ∷ 0 ∷ 0 ∷ 0 ∷ 0 ∷ 0 ∷ 0 ∷ 0 ∷ 0 ∷ 0 ∷ 0 ∷ 0 ∷ 0 ∷ 3 ∷ 0 ∷ 0 ∷ 0 ∷ 0 ∷ 0 ∷ 0 ∷ 0 ∷ 0 ∷ 0 ∷ 0 ∷ 0 ∷ 0 ∷ 0 ∷ 0 ∷ 0 ∷ []
-
--- a big-endian capture with nanoseconds: no bytes of 60 at 1.999999999 s
-nanoseconds : List ℕ
-nanoseconds =
-    0xa1 ∷ 0xb2 ∷ 0x3c ∷ 0x4d ∷ 0 ∷ 2 ∷ 0 ∷ 4 ∷ 0 ∷ 0 ∷ 0 ∷ 0 ∷ 0 ∷ 0 ∷ 0 ∷ 0 ∷ 0 ∷ 4 ∷ 0 ∷ 0 ∷ 0 ∷ 0 ∷ 0 ∷ 1 ∷
-    0 ∷ 0 ∷ 0 ∷ 1 ∷ 0x3b ∷ 0x9a ∷ 0xc9 ∷ 0xff ∷ 0 ∷ 0 ∷ 0 ∷ 0 ∷ 0 ∷ 0 ∷ 0 ∷ 60 ∷ []
-
-nanoseconds_are_floored : (outcome list (one nanoseconds)).said ≡ codes "1.999999\tpacket\t1.999999\t0\t60\n"
-unfolding one list nanoseconds span_decimal digits
-nanoseconds_are_floored = refl
-
 an_empty_file_is_refused_at_its_first_byte : (outcome list (one [])).ending ≡ CaptureRefused (codes "c.pcap") 0
 unfolding one list
 an_empty_file_is_refused_at_its_first_byte = refl
@@ -50,21 +36,9 @@ a_header_alone_is_whole : (outcome list (one header)).ending ≡ Done
 unfolding one list header
 a_header_alone_is_whole = refl
 
-a_header_alone_says_nothing : (outcome list (one header)).said ≡ []
-unfolding one list header
-a_header_alone_says_nothing = refl
-
-a_cut_capture_says_its_whole_records : (outcome list (one (header ++ cut))).said ≡ codes "1.000000\tpacket\t1.000000\t2\t2\n"
-unfolding one list header cut span_decimal digits
-a_cut_capture_says_its_whole_records = refl
-
 a_cut_capture_ends_at_the_record_that_is_not_whole : (outcome list (one (header ++ cut))).ending ≡ CutShort (codes "c.pcap") 42
 unfolding one list header cut
 a_cut_capture_ends_at_the_record_that_is_not_whole = refl
-
-network_time_does_not_fall : (outcome list (one (header ++ backwards))).said ≡ codes "5.000000\tpacket\t5.000000\t0\t0\n5.000000\tpacket\t3.000000\t0\t0\n"
-unfolding one list header backwards span_decimal digits
-network_time_does_not_fall = refl
 
 a_missing_file_is_named : (outcome (codes "list" ∷ codes "x.pcap" ∷ []) (one header)).ending ≡ NoInput (codes "x.pcap")
 unfolding one
@@ -106,6 +80,10 @@ a_packet_is_seen_by_its_handler = refl
 a_run_over_a_cut_capture_ends_cut : (outcome run (two (header ++ cut) [])).ending ≡ CutShort (codes "c.pcap") 42
 unfolding sign_at name_at word_at repeated behind_comma listed call_at named_at expr_at stmt_at stmts_at block_at type_at param_at listed_params_at params_at handler_at decl_at decls_from tree_of one two run header cut dispatches_max
 a_run_over_a_cut_capture_ends_cut = refl
+
+-- no bytes at 5 s, and then none at 3 s
+backwards : List ℕ
+backwards = 5 ∷ 0 ∷ 0 ∷ 0 ∷ 0 ∷ 0 ∷ 0 ∷ 0 ∷ 0 ∷ 0 ∷ 0 ∷ 0 ∷ 0 ∷ 0 ∷ 0 ∷ 0 ∷ 3 ∷ 0 ∷ 0 ∷ 0 ∷ 0 ∷ 0 ∷ 0 ∷ 0 ∷ 0 ∷ 0 ∷ 0 ∷ 0 ∷ 0 ∷ 0 ∷ 0 ∷ 0 ∷ []
 
 the_end_has_the_last_network_time : (outcome run (two (header ++ backwards) (codes "event zeek_done() { print network_time(); }"))).said ≡ codes "5.000000\n"
 unfolding sign_at name_at word_at repeated behind_comma listed call_at named_at expr_at stmt_at stmts_at block_at type_at param_at listed_params_at params_at handler_at decl_at decls_from tree_of one two run header backwards span_decimal digits dispatches_max

@@ -3,16 +3,11 @@ use Rattle.std.proofs.Common.{◌≡◌, List, ℕ, [], ◌++◌, refl, sym, ap,
 use Rattle.zk_base.specs.Shelf.{Outside}
 use Rattle.zk_top.specs.declared.stop.Stop.{Stop}
 use Rattle.zk_top.specs.declared.stop.Stop.TheVariants.{NoMemory}
+use Rattle.zk_top.specs.Listing.{HasSaid}
 use Rattle.zk_top.specs.Parts.{DoesAll, DoesPart, HandsOver}
 use Rattle.zk_top.specs.Run.{IsPrefix}
 use Rattle.zk_top.proofs.Doing.{does_nothing_without_fault, does_both_all, does_both_part, does_part_of, prefix_all, out_of_memory}
 use Rattle.std.proofs.Common.{append-nil, Result, Ok, Err, OnOk}
-
--- what was said since the first outside, and the piece that waits, are the text
-pub record HasSaid (first : Outside) (text piece : List ℕ) (now : Outside) : Type 0 where
-  pub said : List ℕ
-  pub does : DoesAll [] said [] first now
-  pub joined : text ≡ said ++ piece
 
 pub said_nothing : (first : Outside) → HasSaid first [] [] first
 said_nothing first = record {

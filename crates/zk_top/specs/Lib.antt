@@ -15,3 +15,4 @@ pub mod Parts
 pub mod Stop
 pub mod Bodies
 pub mod Reading
+pub mod Listing

@@ -1,20 +1,69 @@
--- The line of an item, as `list` says it: its fields joined by tabs.
-use Rattle.std.specs.Prelude.{ℕ, List, [], ◌∷◌, ◌++◌, codes, decimal}
+-- The line of an item, as `list` says it: its moment and its fields, joined by tabs.
+use Rattle.std.specs.Prelude.{ℕ, List, [], ◌∷◌, ◌++◌, codes, decimal, true}
 use Rattle.std.specs.List.{flat_map}
-use Rattle.zk_text.specs.Span.{span_decimal}
+use Rattle.zk_base.specs.declared.network.Side.{Side}
+use Rattle.zk_base.specs.declared.network.Side.TheVariants as side
+use Rattle.zk_base.specs.declared.numbers.ConnNo.{ConnNo}
+use Rattle.zk_conn.specs.declared.facts.ConnState.{ConnState}
+use Rattle.zk_conn.specs.declared.facts.ConnState.TheVariants as state
+use Rattle.zk_conn.specs.declared.facts.Facts.{Facts}
 use Rattle.zk_pcap.specs.declared.records.Packet.{Packet}
-use Rattle.zk_top.specs.Item.{Item, What, Seen, items_of}
-
-abbrev pub tab : List ℕ
-tab = 9 ∷ []
+use Rattle.zk_text.specs.Address.{addr_text}
+use Rattle.zk_text.specs.Port.{proto_name}
+use Rattle.zk_text.specs.Span.{span_decimal}
+use Rattle.zk_traffic.specs.declared.item.Item.{Item}
+use Rattle.zk_traffic.specs.declared.item.What.{What}
+use Rattle.zk_traffic.specs.declared.item.What.TheVariants as what
+use Rattle.zk_traffic.specs.declared.options.Options.{Options}
+use Rattle.zk_traffic.specs.Items.{items_of}
 
 abbrev pub line_end : List ℕ
 line_end = 10 ∷ []
 
--- what an item is, and its fields, each with a tab before it
+-- a field, behind a tab
+abbrev pub field : List ℕ → List ℕ
+field text = 9 ∷ text
+
+abbrev pub side_name : Side → List ℕ
+side_name side.Orig = codes "orig"
+side_name side.Resp = codes "resp"
+
+-- the names of Zeek for the states of connections
+abbrev pub state_name : ConnState → List ℕ
+state_name state.S0 = codes "S0"
+state_name state.S1 = codes "S1"
+state_name state.S2 = codes "S2"
+state_name state.S3 = codes "S3"
+state_name state.SF = codes "SF"
+state_name state.REJ = codes "REJ"
+state_name state.RSTO = codes "RSTO"
+state_name state.RSTR = codes "RSTR"
+state_name state.RSTOS0 = codes "RSTOS0"
+state_name state.RSTRH = codes "RSTRH"
+state_name state.SH = codes "SH"
+state_name state.SHR = codes "SHR"
+state_name state.OTH = codes "OTH"
+
+-- what happens to a connection, and its number
+abbrev pub conn_fields : List ℕ → ConnNo → List ℕ
+conn_fields name conn = field name ++ field (decimal conn.0)
+
+-- the protocol and both ends, a port as its number alone
+abbrev pub ends_fields : Facts → List ℕ
+ends_fields facts =
+    field (proto_name facts.proto) ++ field (addr_text facts.orig_h) ++ field (decimal facts.orig_p)
+    ++ field (addr_text facts.resp_h) ++ field (decimal facts.resp_p)
+
+-- what an item is, and its fields
 abbrev pub fields_of : What → List ℕ
-fields_of (Seen own captured original) =
-    tab ++ codes "packet" ++ tab ++ span_decimal own.0 ++ tab ++ decimal captured ++ tab ++ decimal original
+fields_of (what.Seen own caplen len) = field (codes "packet") ++ field (span_decimal own.0) ++ field (decimal caplen) ++ field (decimal len)
+fields_of (what.Opened conn facts) = conn_fields (codes "opened") conn ++ ends_fields facts
+fields_of (what.Established conn facts) = conn_fields (codes "established") conn
+fields_of (what.Gap conn facts side from length) = conn_fields (codes "gap") conn ++ field (side_name side) ++ field (decimal from) ++ field (decimal length)
+fields_of (what.Ended conn facts side) = conn_fields (codes "ended") conn ++ field (side_name side)
+fields_of (what.GaveUp conn facts side) = conn_fields (codes "gaveup") conn ++ field (side_name side)
+fields_of (what.Reset conn facts) = conn_fields (codes "reset") conn
+fields_of (what.Removed conn facts) = conn_fields (codes "removed") conn ++ field (state_name facts.state)
 
 abbrev pub line_of : Item → List ℕ
 line_of item = span_decimal item.moment.0 ++ fields_of item.what ++ line_end
@@ -22,6 +71,10 @@ line_of item = span_decimal item.moment.0 ++ fields_of item.what ++ line_end
 abbrev pub lines_of : List Item → List ℕ
 lines_of items = flat_map line_of items
 
--- the lines of the packets of a capture
-abbrev pub packet_lines : List Packet → List ℕ
-packet_lines packets = lines_of (items_of packets)
+-- checksums are judged, each packet is an item, and a stream may hold a mebibyte above its front
+abbrev pub list_options : Options
+list_options = record { check = true; buffer = 1_048_576; packets = true }
+
+-- the lines of a capture with frames of a link type
+abbrev pub capture_lines : ℕ → List Packet → List ℕ
+capture_lines link packets = lines_of (items_of list_options link packets true)

@@ -7,7 +7,9 @@ use Rattle.zk_pcap.specs.declared.captures.Capture.{Capture}
 use Rattle.zk_pcap.specs.declared.captures.CaptureEnding.{CaptureEnding}
 use Rattle.zk_pcap.specs.declared.captures.CaptureEnding.TheVariants.{Whole, Cut}
 use Rattle.zk_pcap.specs.declared.faults.CaptureFault.{CaptureFault}
+use Rattle.zk_pcap.specs.declared.headers.Header.{Header}
 use Rattle.zk_pcap.specs.CaptureFault.{place_of}
+use Rattle.zk_pcap.specs.Header.{header_of}
 use Rattle.zk_pcap.specs.Capture.{capture_of}
 use Rattle.zk_typed.specs.declared.program.Program.{Program}
 use Rattle.zk_typed.specs.Run.{Progress, Goes, Floods}
@@ -16,7 +18,7 @@ use Rattle.zk_top.specs.declared.found.Found.TheVariants.{Accepted, Refused}
 use Rattle.zk_top.specs.About.{help_text, version_text}
 use Rattle.zk_top.specs.Command.{Command, ListItems, RunScript, Help, Version, understand}
 use Rattle.zk_top.specs.Complaint.{complaint_of}
-use Rattle.zk_top.specs.Line.{packet_lines}
+use Rattle.zk_top.specs.Line.{capture_lines}
 use Rattle.zk_top.specs.Printed.{progress_of, printed}
 use Rattle.zk_top.specs.Script.{Refusal, script_of}
 
@@ -85,13 +87,22 @@ abbrev pub over_capture : (Capture → Report) → List (List ℕ) → Found Cap
 over_capture report asked (Refused ending) = ending_so ending [] asked
 over_capture report asked (Accepted capture) = ending_so (report capture).ending (report capture).said asked
 
--- what a listing reports over a capture
-abbrev pub list_report : List ℕ → Capture → Report
-list_report file capture = record { ending = end_of_capture file capture.ending; said = packet_lines capture.packets }
+-- the link type of the frames in a file with this header, and 0 where it has none
+abbrev pub link_by : Result Header CaptureFault → ℕ
+link_by (Err fault) = 0
+link_by (Ok header) = header.link
+
+abbrev pub link_in : Option (List ℕ) → ℕ
+link_in None = 0
+link_in (Some bytes) = link_by (header_of bytes)
+
+-- what a listing reports over a capture with frames of a link type
+abbrev pub list_report : List ℕ → ℕ → Capture → Report
+list_report file link capture = record { ending = end_of_capture file capture.ending; said = capture_lines link capture.packets }
 
 -- a listing of a file with these bytes, or of none
 abbrev pub listing : List ℕ → Option (List ℕ) → Outcome
-listing file found = over_capture (list_report file) (file ∷ []) (opened file found)
+listing file found = over_capture (list_report file (link_in found)) (file ∷ []) (opened file found)
 
 -- what a run of a program reports over a capture
 abbrev pub run_report : List ℕ → Program → Capture → Report

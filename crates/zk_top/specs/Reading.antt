@@ -42,6 +42,7 @@ is_short (Err fault.NoMemory) = false
 -- The reader has read these bytes of a capture with this header, and has gone on behind these packets.
 pub record IsReading (whole : Option (List ℕ)) (header : Header) (bytes : List ℕ) (packets : List Packet) (reader : CaptureReader) (now : Outside) : Type 0 where
   pub opens : header_of bytes ≡ Ok header
+  pub link : reader.link ≡ header.link
   pub stands : StandsFor reader.feed header bytes packets
   pub read : HasRead whole bytes now
   pub counted : reader.left + length bytes ≡ 2 ^ 40

@@ -3,7 +3,7 @@ ghost use Rattle.zk_base.specs.Shelf.{Outside, is_open, rest_of};
 ghost use Rattle.zk_pcap.specs.NetworkTime.{later};
 ghost use Rattle.zk_pcap.specs.Capture.{capture_of, end_from};
 ghost use Rattle.zk_pcap.specs.Header.{header_of};
-ghost use Rattle.zk_pcap.specs.Record.{record_at};
+ghost use Rattle.zk_pcap.specs.Record.{IsBounded, record_at};
 ghost use Rattle.zk_pcap.specs.Standing.{first_record};
 ghost use Rattle.zk_pcap.specs.View.{packet_of};
 ghost use Rattle.zk_pcap.specs.declared.headers.Header.{Header as HeaderData};
@@ -25,6 +25,8 @@ pub const CHUNK: usize = 1 << 16;
 /// Its packets are lent one after another, and nothing is kept of those that were passed.
 #[derive(Debug, Drop)]
 pub struct CaptureReader {
+    /// The link type of the frames.
+    link: u16,
     feed: Feed,
     /// How many more bytes of the input count.
     left: usize,
@@ -84,6 +86,7 @@ impl CaptureReader {
         let mut feed = Feed::new(alloc, &header)?;
         feed.push(&front[HEADER_LEN..])?;
         Ok(CaptureReader {
+            link: header.link,
             feed,
             left: CAPTURE_MAX - front.len(),
             is_read_out: false,
@@ -138,10 +141,19 @@ impl CaptureReader {
         Ok(())
     }
 
+    /// The link type of the frames.
+    pub fn link(&self) -> u16
+        ensures { (whole : Option (List ℕ)) (header : HeaderData) (bytes : List ℕ) (packets : List PacketData) (now : Outside)
+            → IsReading whole header bytes packets self.now now → result ≡ header.link }
+    {
+        self.link
+    }
+
     /// The packet that stands next.
     pub fn packet(&self) -> PacketView<'_>
         requires { IsSome (first_record self.now.feed) }
-        ensures { (whole : Option (List ℕ)) (header : HeaderData) (bytes : List ℕ) (packets : List PacketData) (now : Outside)
+        ensures limits { IsBounded (packet_of result) }
+        ensures record { (whole : Option (List ℕ)) (header : HeaderData) (bytes : List ℕ) (packets : List PacketData) (now : Outside)
             → IsReading whole header bytes packets self.now now → record_at header bytes (end_from 24 packets) ≡ Some (packet_of result) }
     {
         match self.feed.next() {

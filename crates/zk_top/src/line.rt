@@ -1,41 +1,174 @@
-ghost use Rattle.std.specs.Prelude.{◌≡◌, ◌++◌, decimal, OnOk};
-ghost use Rattle.zk_top.specs.Line.{line_of, fields_of, tab};
-ghost use Rattle.zk_pcap.specs.View.{packet_of};
-ghost use Rattle.zk_top.specs.Item.{seen_at, what_seen};
+ghost use Rattle.std.specs.Prelude.{◌≡◌, ◌++◌, codes, decimal, OnOk};
+ghost use Rattle.zk_text.specs.Address.{addr_text};
+ghost use Rattle.zk_text.specs.Span.{span_decimal};
+ghost use Rattle.zk_top.specs.Line.{conn_fields, ends_fields, field, fields_of, line_of, side_name, state_name};
+ghost use Rattle.zk_traffic.specs.declared.item.What.TheVariants.{Seen, Opened};
 
 use std::alloc::AllocError;
-use zk_base::Moment;
-use zk_pcap::PacketView;
+use zk_base::{Addr, ConnNo, Moment, Side};
+use zk_conn::{ConnState, Facts};
+use zk_text::{ADDR_TEXT_MAX, addr_text, proto_name};
+use zk_traffic::{Item, What};
 use zk_value::{push_count, push_span};
 
+/// Adds the line of an item.
+pub fn push_item_line(out: &mut Vec<u8>, item: &Item) -> Result<(), AllocError>
+    ensures ok { OnOk result (out.new.items ≡ out.old.items ++ line_of item.now) }
+{
+    push_span(out, item.moment.0)?;
+    push_fields(out, &item.what)?;
+    out.push(b'\n')?;
+    Ok(())
+}
+
+/// Adds what an item is, and its fields.
+fn push_fields(out: &mut Vec<u8>, what: &What) -> Result<(), AllocError>
+    ensures ok { OnOk result (out.new.items ≡ out.old.items ++ fields_of what.now) }
+{
+    match what {
+        What::Seen { own, caplen, len } => push_seen(out, *own, *caplen, *len),
+        What::Opened { conn, facts } => push_opened(out, *conn, facts),
+        What::Established { conn, facts: _ } => push_conn(out, b"established", *conn),
+        What::Gap {
+            conn,
+            facts: _,
+            side,
+            from,
+            length,
+        } => push_gap(out, *conn, *side, *from, *length),
+        What::Ended {
+            conn,
+            facts: _,
+            side,
+        } => push_side(out, b"ended", *conn, *side),
+        What::GaveUp {
+            conn,
+            facts: _,
+            side,
+        } => push_side(out, b"gaveup", *conn, *side),
+        What::Reset { conn, facts: _ } => push_conn(out, b"reset", *conn),
+        What::Removed { conn, facts } => push_removed(out, *conn, facts.state),
+    }
+}
+
+fn push_seen(out: &mut Vec<u8>, own: Moment, caplen: u32, len: u32) -> Result<(), AllocError>
+    ensures ok { OnOk result (out.new.items ≡ out.old.items ++ fields_of (Seen own caplen len)) }
+{
+    out.extend_from_slice(b"\tpacket\t")?;
+    push_span(out, own.0)?;
+    push_number(out, u64::from(caplen))?;
+    push_number(out, u64::from(len))
+}
+
+fn push_opened(out: &mut Vec<u8>, conn: ConnNo, facts: &Facts) -> Result<(), AllocError>
+    ensures ok { OnOk result (out.new.items ≡ out.old.items ++ fields_of (Opened conn facts.now)) }
+{
+    push_conn(out, b"opened", conn)?;
+    push_ends(out, facts)
+}
+
+/// Adds the protocol and both ends of a connection.
+fn push_ends(out: &mut Vec<u8>, facts: &Facts) -> Result<(), AllocError>
+    ensures ok { OnOk result (out.new.items ≡ out.old.items ++ ends_fields facts.now) }
+{
+    push_field(out, proto_name(facts.proto))?;
+    push_addr(out, facts.orig_h)?;
+    push_number(out, u64::from(facts.orig_p))?;
+    push_addr(out, facts.resp_h)?;
+    push_number(out, u64::from(facts.resp_p))
+}
+
+fn push_gap(
+    out: &mut Vec<u8>,
+    conn: ConnNo,
+    side: Side,
+    from: u64,
+    length: u64,
+) -> Result<(), AllocError>
+    ensures ok { OnOk result (out.new.items ≡ out.old.items ++ (conn_fields (codes "gap") conn ++ field (side_name side) ++ field (decimal from) ++ field (decimal length))) }
+{
+    push_side(out, b"gap", conn, side)?;
+    push_number(out, from)?;
+    push_number(out, length)
+}
+
+/// Adds what happens to a side of a connection.
+fn push_side(out: &mut Vec<u8>, name: &[u8], conn: ConnNo, side: Side) -> Result<(), AllocError>
+    ensures ok { OnOk result (out.new.items ≡ out.old.items ++ (conn_fields name.now conn ++ field (side_name side))) }
+{
+    push_conn(out, name, conn)?;
+    push_field(out, side_name(side))
+}
+
+fn push_removed(out: &mut Vec<u8>, conn: ConnNo, state: ConnState) -> Result<(), AllocError>
+    ensures ok { OnOk result (out.new.items ≡ out.old.items ++ (conn_fields (codes "removed") conn ++ field (state_name state))) }
+{
+    push_conn(out, b"removed", conn)?;
+    push_field(out, state_name(state))
+}
+
+/// Adds what happens to a connection, and its number.
+fn push_conn(out: &mut Vec<u8>, name: &[u8], conn: ConnNo) -> Result<(), AllocError>
+    ensures ok { OnOk result (out.new.items ≡ out.old.items ++ conn_fields name.now conn) }
+{
+    push_field(out, name)?;
+    push_number(out, conn.0)
+}
+
+/// Adds a tab and a text.
+fn push_field(out: &mut Vec<u8>, text: &[u8]) -> Result<(), AllocError>
+    ensures ok { OnOk result (out.new.items ≡ out.old.items ++ field text.now) }
+{
+    out.push(b'\t')?;
+    out.extend_from_slice(text)?;
+    Ok(())
+}
+
 /// Adds a tab and the decimal digits of a number.
-fn push_count_field(out: &mut Vec<u8>, n: u64) -> Result<(), AllocError>
-    ensures ok { OnOk result (out.new.items ≡ out.old.items ++ (tab ++ decimal n)) }
+fn push_number(out: &mut Vec<u8>, n: u64) -> Result<(), AllocError>
+    ensures ok { OnOk result (out.new.items ≡ out.old.items ++ field (decimal n)) }
 {
     out.push(b'\t')?;
     push_count(out, n)
 }
 
-/// Adds what is seen of a packet, each field with a tab before it.
-fn push_packet_fields(out: &mut Vec<u8>, packet: PacketView<'_>) -> Result<(), AllocError>
-    ensures ok { OnOk result (out.new.items ≡ out.old.items ++ fields_of (what_seen (packet_of packet.entry))) }
+/// Adds a tab and the text of an address.
+fn push_addr(out: &mut Vec<u8>, addr: Addr) -> Result<(), AllocError>
+    ensures ok { OnOk result (out.new.items ≡ out.old.items ++ field (addr_text addr)) }
 {
-    out.extend_from_slice(b"\tpacket\t")?;
-    push_span(out, packet.moment.0)?;
-    push_count_field(out, packet.bytes.len() as u64)?;
-    push_count_field(out, u64::from(packet.orig_len))
+    let mut text = [0; ADDR_TEXT_MAX];
+    let Ok(len) = addr_text(addr, &mut text) else {
+        unreachable!()
+    };
+    push_field(out, &text[..len])
 }
 
-/// Adds the line of a packet that is seen at a network time.
-pub fn push_packet_line(
-    out: &mut Vec<u8>,
-    now: Moment,
-    packet: PacketView<'_>,
-) -> Result<(), AllocError>
-    ensures ok { OnOk result (out.new.items ≡ out.old.items ++ line_of (seen_at now (packet_of packet.entry))) }
+fn side_name(side: Side) -> &'static [u8]
+    ensures { result.now ≡ side_name side }
 {
-    push_span(out, now.0)?;
-    push_packet_fields(out, packet)?;
-    out.push(b'\n')?;
-    Ok(())
+    match side {
+        Side::Orig => b"orig",
+        Side::Resp => b"resp",
+    }
+}
+
+/// The name that Zeek has for a state.
+fn state_name(state: ConnState) -> &'static [u8]
+    ensures { result.now ≡ state_name state }
+{
+    match state {
+        ConnState::S0 => b"S0",
+        ConnState::S1 => b"S1",
+        ConnState::S2 => b"S2",
+        ConnState::S3 => b"S3",
+        ConnState::SF => b"SF",
+        ConnState::REJ => b"REJ",
+        ConnState::RSTO => b"RSTO",
+        ConnState::RSTR => b"RSTR",
+        ConnState::RSTOS0 => b"RSTOS0",
+        ConnState::RSTRH => b"RSTRH",
+        ConnState::SH => b"SH",
+        ConnState::SHR => b"SHR",
+        ConnState::OTH => b"OTH",
+    }
 }

@@ -1,20 +1,99 @@
-ghost use Rattle.std.specs.Prelude.{◌<◌, ◌≤◌, ℕ, List, Option, [], length, IfOk, OnOk, IfErr};
+ghost use Rattle.std.specs.Prelude.{◌≡◌, ◌<◌, ◌≤◌, ◌++◌, ◌∷◌, ℕ, Bool, true, false, List, Option, [], length, IfOk, OnOk, IfErr};
+ghost use Rattle.zk_base.specs.Shelf.{Outside};
+ghost use Rattle.zk_pcap.specs.Record.{IsBounded};
+ghost use Rattle.zk_pcap.specs.View.{packet_of};
 ghost use Rattle.zk_pcap.specs.declared.headers.Header.{Header as HeaderData};
-ghost use Rattle.zk_top.specs.Line.{packet_lines};
-ghost use Rattle.zk_top.specs.Reading.{IsReading, IsUnderWay, SaysAll, SaysPart};
+ghost use Rattle.zk_pcap.specs.declared.records.Packet.{Packet as PacketData};
+ghost use Rattle.zk_top.specs.Line.{capture_lines, lines_of, list_options};
 ghost use Rattle.zk_top.specs.Outcome.{listing};
-ghost use Rattle.zk_top.specs.Parts.{Fulfils, BreaksOff, IsOfCommand};
+ghost use Rattle.zk_top.specs.Parts.{DoesAll, DoesPart, Fulfils, BreaksOff, IsOfCommand};
+ghost use Rattle.zk_top.specs.Reading.{IsReading, IsUnderWay, SameInput, SaysAll, SaysPart};
+ghost use Rattle.zk_traffic.specs.Items.{items_of};
+ghost use Rattle.zk_traffic.specs.declared.item.Item.{Item as ItemData};
 
-use crate::capture::{CHUNK, CaptureReader, end_of, later};
+use crate::capture::{CHUNK, CaptureReader, end_of};
 use crate::found::Found;
-use crate::line::push_packet_line;
+use crate::line::push_item_line;
 use crate::output::{PIECE, make_room, say};
 use crate::stop::Stop;
 use std::alloc::Global;
-use zk_base::{Ending, Moment, Shelf};
+use zk_base::{Ending, Mem, Shelf};
+use zk_pcap::PacketView;
+use zk_traffic::{Options, Traffic};
 
-/// Says a line for each packet of a capture, in order.
-fn say_packets<S: Shelf>(
+/// Checksums are judged, each packet is an item, and a stream may hold a mebibyte above its front.
+const OPTIONS: Options = Options {
+    check: true,
+    buffer: 1_048_576,
+    packets: true,
+};
+
+/// A listing of a capture: its traffic, and the lines that are not yet said.
+#[derive(Debug, Drop)]
+pub struct Listing {
+    traffic: Traffic,
+    piece: Vec<u8>,
+}
+
+impl Listing {
+    ghost use Rattle.zk_top.specs.Listing.{HasListed, HasListedAll};
+
+    /// A listing of a capture with frames of a link type, before its first packet.
+    fn new(alloc: Global, link: u16) -> Result<Listing, Mem>
+        ensures { IfOk result (λ made. (first : Outside) → HasListed first link [] [] false made first) }
+    {
+        Ok(Listing {
+            traffic: Traffic::new(alloc, OPTIONS, link)?,
+            piece: Vec::with_capacity(alloc, PIECE)?,
+        })
+    }
+
+    /// Lists what a packet brings.
+    fn take_packet<S: Shelf>(&mut self, shelf: &mut S, packet: PacketView<'_>) -> Result<(), Stop>
+        requires { IsBounded (packet_of packet) }
+        ensures listed { OnOk result ((first : Outside) (link : ℕ) (packets : List PacketData) → HasListedAll first link packets self.old (S.outside shelf.old)
+            → HasListedAll first link (packets ++ packet_of packet.entry ∷ []) self.new (S.outside shelf.new)) }
+        ensures stopped { IfErr result (λ stop. (first : Outside) (link : ℕ) (packets : List PacketData) → HasListedAll first link packets self.old (S.outside shelf.old)
+            → DoesPart [] (lines_of (items_of list_options link (packets ++ packet_of packet.entry ∷ []) false)) [] first stop (S.outside shelf.new)) }
+        ensures input { OnOk result (SameInput (S.outside shelf.old) (S.outside shelf.new)) }
+    {
+        self.traffic.packet(packet)?;
+        self.take_items(shelf)
+    }
+
+    /// Lists what the end of the capture brings.
+    fn end<S: Shelf>(&mut self, shelf: &mut S) -> Result<(), Stop>
+        ensures said { OnOk result ((first : Outside) (link : ℕ) (packets : List PacketData) → HasListedAll first link packets self.old (S.outside shelf.old)
+            → DoesAll [] (capture_lines link packets) [] first (S.outside shelf.new)) }
+        ensures stopped { IfErr result (λ stop. (first : Outside) (link : ℕ) (packets : List PacketData) → HasListedAll first link packets self.old (S.outside shelf.old)
+            → DoesPart [] (capture_lines link packets) [] first stop (S.outside shelf.new)) }
+        ensures input { OnOk result (SameInput (S.outside shelf.old) (S.outside shelf.new)) }
+    {
+        self.traffic.end()?;
+        self.take_items(shelf)?;
+        say(shelf, &self.piece)
+    }
+
+    /// Takes the items that wait, and says what fills a piece.
+    fn take_items<S: Shelf>(&mut self, shelf: &mut S) -> Result<(), Stop>
+        ensures listed { OnOk result ((first : Outside) (link : ℕ) (packets : List PacketData) (given : List ItemData) (ended : Bool)
+            → HasListed first link packets given ended self.old (S.outside shelf.old)
+            → HasListed first link packets (items_of list_options link packets ended) ended self.new (S.outside shelf.new)) }
+        ensures stopped { IfErr result (λ stop. (first : Outside) (link : ℕ) (packets : List PacketData) (given : List ItemData) (ended : Bool)
+            → HasListed first link packets given ended self.old (S.outside shelf.old)
+            → DoesPart [] (lines_of (items_of list_options link packets ended)) [] first stop (S.outside shelf.new)) }
+        ensures input { OnOk result (SameInput (S.outside shelf.old) (S.outside shelf.new)) }
+    {
+        'items: while let Some(item) = self.traffic.next() {
+            make_room(shelf, &mut self.piece)?;
+            push_item_line(&mut self.piece, &item)?;
+        }
+        Ok(())
+    }
+}
+
+/// Lists the items of a capture, in order.
+fn list_items<S: Shelf>(
     alloc: Global,
     shelf: &mut S,
     chunk: &mut [u8],
@@ -23,20 +102,16 @@ fn say_packets<S: Shelf>(
     requires room { 0 < length chunk.old }
     requires under_way { IsUnderWay reader.old (S.outside shelf.old) }
     ensures said { OnOk result ((whole : Option (List ℕ)) (header : HeaderData) (bytes : List ℕ) → IsReading whole header bytes [] reader.old (S.outside shelf.old)
-        → SaysAll whole header packet_lines (S.outside shelf.old) reader.new (S.outside shelf.new)) }
+        → SaysAll whole header (capture_lines header.link) (S.outside shelf.old) reader.new (S.outside shelf.new)) }
     ensures stopped { IfErr result (λ stop. (whole : Option (List ℕ)) (header : HeaderData) (bytes : List ℕ) → IsReading whole header bytes [] reader.old (S.outside shelf.old)
-        → SaysPart whole packet_lines (S.outside shelf.old) stop (S.outside shelf.new)) }
+        → SaysPart whole (capture_lines header.link) (S.outside shelf.old) stop (S.outside shelf.new)) }
 {
-    let mut piece = Vec::with_capacity(alloc, PIECE)?;
-    let mut now = Moment(0);
+    let mut listing = Listing::new(alloc, reader.link())?;
     'packets: while reader.fill(shelf, chunk)? {
-        let packet = reader.packet();
-        now = later(now, packet.moment);
-        make_room(shelf, &mut piece)?;
-        push_packet_line(&mut piece, now, packet)?;
+        listing.take_packet(shelf, reader.packet())?;
         reader.advance();
     }
-    say(shelf, &piece)
+    listing.end(shelf)
 }
 
 /// Lists the items of the capture in a file.
@@ -64,7 +139,7 @@ fn list_through<S: Shelf>(
 {
     match CaptureReader::open(alloc, shelf, chunk, file)? {
         Found::Accepted(mut reader) => {
-            say_packets(alloc, shelf, chunk, &mut reader)?;
+            list_items(alloc, shelf, chunk, &mut reader)?;
             Ok(end_of(alloc, file, reader.ending())?)
         }
         Found::Refused(ending) => Ok(ending),

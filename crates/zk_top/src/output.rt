@@ -10,8 +10,8 @@ use zk_base::Shelf;
 /// Output is handed over in pieces of about this many bytes.
 pub const PIECE: usize = 1 << 16;
 
-/// A piece that has so many bytes left has room for the line of a packet.
-const ROOM: usize = 128;
+/// A piece that has so many bytes left has room for the line of an item.
+const ROOM: usize = 256;
 
 /// Says a piece that is nearly full, and begins a new one.
 pub fn make_room<S: Shelf>(shelf: &mut S, piece: &mut Vec<u8>) -> Result<(), Stop>

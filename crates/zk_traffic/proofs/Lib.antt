@@ -17,6 +17,6 @@ pub mod TakenLemmas
 pub mod NewLemmas
 pub mod DueLemmas
 mod GivenLemmas
-mod RecordLemmas
+pub mod RecordLemmas
 mod OpenLemmas
 mod BoundLemmas

@@ -1,6 +1,6 @@
 use Rattle.std.proofs.Common.{[], ◌∷◌, refl}
 use Rattle.std.proofs.lemmas.Result.{err_from_is_err_and}
-use Rattle.zk_top.specs.Outcome.{list_report}
+use Rattle.zk_top.specs.Outcome.{link_in, list_report}
 use Rattle.zk_top.proofs.Doing.{out_of_memory}
 use Rattle.zk_top.proofs.OverCapture.{broken_before}
 use Rattle.zk_top.specs.declared.stop.Stop.TheVariants.{NoMemory}
@@ -10,4 +10,4 @@ pub returns-in_err-chunk-clause-stopped : goal.returns-in_err-chunk-clause-stopp
 returns-in_err-chunk-clause-stopped g c =
     let old = g.S.Shelf.outside c.args.shelf.now in
     let p = err_from_is_err_and c.from_residual.result c.from_residual.ensures.1 in
-    rw (p.1, p.2) (broken_before (list_report c.args.file.now) c.args.file.now old NoMemory old (out_of_memory (c.args.file.now ∷ []) [] [] old old refl))
+    rw (p.1, p.2) (broken_before (λ input. list_report c.args.file.now (link_in input)) c.args.file.now old NoMemory old (out_of_memory (c.args.file.now ∷ []) [] [] old old refl))

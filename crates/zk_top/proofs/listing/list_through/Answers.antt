@@ -1,11 +1,12 @@
-use Rattle.std.proofs.Common.{refl, subst}
+use Rattle.std.proofs.Common.{refl, sym, ap, subst}
 use Rattle.std.proofs.lemmas.Result.{err_from_is_err_and}
 use Rattle.zk_base.specs.Shelf.{lies_under}
 use Rattle.zk_top.specs.declared.stop.Stop.TheVariants.{NoMemory}
-use Rattle.zk_top.specs.Outcome.{list_report}
-use Rattle.zk_top.specs.Line.{packet_lines}
+use Rattle.zk_top.specs.Outcome.{link_in, list_report}
+use Rattle.zk_top.specs.Line.{capture_lines}
 use Rattle.zk_top.specs.Reading.{FindsCapture, OpensCapture}
 use Rattle.zk_top.proofs.OpenCapture.{capture_found}
+use Rattle.zk_top.proofs.ListingLemmas.{opened_link}
 use Rattle.zk_top.proofs.OverCapture.{broken_before, broken_within, fulfilled, fulfilled_refused, command_refusal}
 use Rattle.zk_top.proofs.Said.{memory_behind}
 use Rattle.zk_top.proofs.listing.list_through.Goals as goal
@@ -13,59 +14,62 @@ use Rattle.zk_top.proofs.listing.list_through.Goals as goal
 pub returns-in_err-reader-clause-stopped : goal.returns-in_err-reader-clause-stopped
 returns-in_err-reader-clause-stopped g c =
     let p = err_from_is_err_and c.from_residual.result c.from_residual.ensures.1 in
-    rw (p.1, p.2) (broken_before (list_report c.args.file.now) c.args.file.now (g.S.Shelf.outside c.args.shelf.now) c.in_err-reader.field-0.0 (g.S.Shelf.outside c.open.new.shelf)
+    rw (p.1, p.2) (broken_before (λ input. list_report c.args.file.now (link_in input)) c.args.file.now (g.S.Shelf.outside c.args.shelf.now) c.in_err-reader.field-0.0 (g.S.Shelf.outside c.open.new.shelf)
     c.in_err-reader.ensures.stopped)
 
-pub returns-in_err-say_packets-in-Accepted-clause-stopped : goal.returns-in_err-say_packets-in-Accepted-clause-stopped
-returns-in_err-say_packets-in-Accepted-clause-stopped g c =
+pub returns-in_err-list_items-in-Accepted-clause-stopped : goal.returns-in_err-list_items-in-Accepted-clause-stopped
+returns-in_err-list_items-in-Accepted-clause-stopped g c =
     let old = g.S.Shelf.outside c.args.shelf.now in
     let mid = g.S.Shelf.outside c.open.new.shelf in
-    let new = g.S.Shelf.outside c.say_packets.new.shelf in
+    let new = g.S.Shelf.outside c.list_items.new.shelf in
     let file = c.args.file.now in
     let reader = c.in-Accepted.reader in
     let opens : OpensCapture file old reader mid = subst (λ found. FindsCapture file old found mid) c.in-Accepted.is c.in_ok-reader.ensures.found in
-    let exit = c.from_residual-in_err-say_packets-in-Accepted in
+    let exit = c.from_residual-in_err-list_items-in-Accepted in
     let p = err_from_is_err_and exit.result exit.ensures.1 in
-    let part = c.in_err-say_packets-in-Accepted.ensures.stopped (lies_under old.inputs file) opens.header opens.bytes opens.reading in
-    rw (p.1, p.2) (broken_within (list_report file) file (record { packets = part.packets; ending = part.ending }) old mid c.in_err-say_packets-in-Accepted.field-0.0 new
-    (capture_found file old reader mid part.packets part.ending opens part.all) part.says)
+    let part = c.in_err-list_items-in-Accepted.ensures.stopped (lies_under old.inputs file) opens.header opens.bytes opens.reading in
+    rw (p.1, p.2) (broken_within (λ input. list_report file (link_in input)) file (record { packets = part.packets; ending = part.ending }) (capture_lines opens.header.link part.packets) old mid c.in_err-list_items-in-Accepted.field-0.0 new
+    (capture_found file old reader mid part.packets part.ending opens part.all)
+    (λ inputs told. ap (λ l. capture_lines l part.packets) (sym (opened_link file old reader mid opens inputs told))) part.says)
 
 pub returns-in_err-end_of-in-Accepted-clause-stopped : goal.returns-in_err-end_of-in-Accepted-clause-stopped
 returns-in_err-end_of-in-Accepted-clause-stopped g c =
     let old = g.S.Shelf.outside c.args.shelf.now in
     let mid = g.S.Shelf.outside c.open.new.shelf in
-    let new = g.S.Shelf.outside c.say_packets.new.shelf in
+    let new = g.S.Shelf.outside c.list_items.new.shelf in
     let file = c.args.file.now in
     let reader = c.in-Accepted.reader in
     let opens : OpensCapture file old reader mid = subst (λ found. FindsCapture file old found mid) c.in-Accepted.is c.in_ok-reader.ensures.found in
     let exit = c.from_residual-in_err-end_of-in-Accepted in
     let p = err_from_is_err_and exit.result exit.ensures.1 in
     let whole = lies_under old.inputs file in
-    let all = c.in_ok-say_packets-in-Accepted.ensures.said whole opens.header opens.bytes opens.reading in
+    let all = c.in_ok-list_items-in-Accepted.ensures.said whole opens.header opens.bytes opens.reading in
     let capture = c.ending.ensures whole opens.header all.bytes all.packets new all.reading all.through in
-    rw (p.1, p.2) (broken_within (list_report file) file (record { packets = all.packets; ending = c.ending.result }) old mid NoMemory new
-    (capture_found file old reader mid all.packets c.ending.result opens capture) (memory_behind mid (packet_lines all.packets) new all.says))
+    rw (p.1, p.2) (broken_within (λ input. list_report file (link_in input)) file (record { packets = all.packets; ending = c.ending.result }) (capture_lines opens.header.link all.packets) old mid NoMemory new
+    (capture_found file old reader mid all.packets c.ending.result opens capture)
+    (λ inputs told. ap (λ l. capture_lines l all.packets) (sym (opened_link file old reader mid opens inputs told))) (memory_behind mid (capture_lines opens.header.link all.packets) new all.says))
 
 pub returns-in_ok-end_of-in-Accepted-clause-done : goal.returns-in_ok-end_of-in-Accepted-clause-done
 returns-in_ok-end_of-in-Accepted-clause-done g c =
     let old = g.S.Shelf.outside c.args.shelf.now in
     let mid = g.S.Shelf.outside c.open.new.shelf in
-    let new = g.S.Shelf.outside c.say_packets.new.shelf in
+    let new = g.S.Shelf.outside c.list_items.new.shelf in
     let file = c.args.file.now in
     let reader = c.in-Accepted.reader in
     let opens : OpensCapture file old reader mid = subst (λ found. FindsCapture file old found mid) c.in-Accepted.is c.in_ok-reader.ensures.found in
     let whole = lies_under old.inputs file in
-    let all = c.in_ok-say_packets-in-Accepted.ensures.said whole opens.header opens.bytes opens.reading in
+    let all = c.in_ok-list_items-in-Accepted.ensures.said whole opens.header opens.bytes opens.reading in
     let capture = c.ending.ensures whole opens.header all.bytes all.packets new all.reading all.through in
-    fulfilled (list_report file) file (record { packets = all.packets; ending = c.ending.result }) old mid c.in_ok-end_of-in-Accepted.field-0 new
-    (capture_found file old reader mid all.packets c.ending.result opens capture) c.in_ok-end_of-in-Accepted.ensures refl all.says
+    fulfilled (λ input. list_report file (link_in input)) file (record { packets = all.packets; ending = c.ending.result }) (capture_lines opens.header.link all.packets) old mid c.in_ok-end_of-in-Accepted.field-0 new
+    (capture_found file old reader mid all.packets c.ending.result opens capture) c.in_ok-end_of-in-Accepted.ensures
+    (λ inputs told. (ap (λ l. capture_lines l all.packets) (sym (opened_link file old reader mid opens inputs told)), refl)) all.says
 
 pub returns-in-Refused-clause-done : goal.returns-in-Refused-clause-done
 returns-in-Refused-clause-done g c =
     let old = g.S.Shelf.outside c.args.shelf.now in
     let new = g.S.Shelf.outside c.open.new.shelf in
     let file = c.args.file.now in
-    fulfilled_refused (list_report file) file old c.in-Refused.ending new (subst (λ found. FindsCapture file old found new) c.in-Refused.is c.in_ok-reader.ensures.found)
+    fulfilled_refused (λ input. list_report file (link_in input)) file old c.in-Refused.ending new (subst (λ found. FindsCapture file old found new) c.in-Refused.is c.in_ok-reader.ensures.found)
 
 pub returns-in-Refused-clause-command : goal.returns-in-Refused-clause-command
 returns-in-Refused-clause-command g c =

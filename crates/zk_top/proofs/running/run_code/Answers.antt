@@ -10,4 +10,4 @@ pub returns-in_err-chunk-clause-stopped : goal.returns-in_err-chunk-clause-stopp
 returns-in_err-chunk-clause-stopped g c =
     let old = g.S.Shelf.outside c.args.shelf.now in
     let p = err_from_is_err_and c.from_residual.result c.from_residual.ensures.1 in
-    rw (p.1, p.2) (λ program are. broken_before (run_report c.args.file.now program) c.args.file.now old NoMemory old (out_of_memory (c.args.file.now ∷ []) [] [] old old refl))
+    rw (p.1, p.2) (λ program are. broken_before (λ _. run_report c.args.file.now program) c.args.file.now old NoMemory old (out_of_memory (c.args.file.now ∷ []) [] [] old old refl))

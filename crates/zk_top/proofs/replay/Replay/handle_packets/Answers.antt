@@ -47,7 +47,7 @@ returns-in_err-handle_packet-clause-stopped g c =
     rw (p.1, p.2) (λ whole header bytes is.
     let (longer, packets, reading, time, goes) = c.packets.invariant.goes_on whole header bytes is in
     let (further, filled) = c.in_ok-fill.ensures.goes_on whole header longer packets reading in
-    let at = c.packet-packet.ensures whole header further packets mid filled in
+    let at = c.packet-packet.ensures.record whole header further packets mid filled in
     let is_now = next_now packets c.packets.now c.later-now.result packet time c.later-now.ensures in
     replays_part_next whole header further packets packet c.fill.new.self mid numbers c.args.self.now before stop new filled at (λ others first program world come.
     let handlers = named numbers program in
@@ -65,7 +65,7 @@ packets-smaller g c =
     let packet = packet_of c.packet-packet.result in
     let (whole, header, bytes, packets, reading) = c.packets.invariant.under_way in
     let (further, filled) = c.in_ok-fill.ensures.goes_on whole header bytes packets reading in
-    let at = c.packet-packet.ensures whole header further packets mid filled in
+    let at = c.packet-packet.ensures.record whole header further packets mid filled in
     let behind = c.advance.ensures whole header further packets packet mid filled at in
     let same = same_place whole header bytes further packets c.packets.reader c.fill.new.self old mid reading filled in
     let later = later_place whole header further packets packet c.fill.new.self c.advance.new.self mid filled at behind in
@@ -82,13 +82,13 @@ packets-preserved g c =
       under_way =
           let (whole, header, bytes, packets, reading) = c.packets.invariant.under_way in
           let (further, filled) = c.in_ok-fill.ensures.goes_on whole header bytes packets reading in
-          let at = c.packet-packet.ensures whole header further packets mid filled in
+          let at = c.packet-packet.ensures.record whole header further packets mid filled in
           let behind = c.advance.ensures whole header further packets packet mid filled at in
           (whole, header, further, packets ++ packet ∷ [], reading_on whole header further (packets ++ packet ∷ []) c.advance.new.self mid new behind c.in_ok-handle_packet.ensures.input);
       goes_on = λ whole header bytes is.
           let (longer, packets, reading, time, goes) = c.packets.invariant.goes_on whole header bytes is in
           let (further, filled) = c.in_ok-fill.ensures.goes_on whole header longer packets reading in
-          let at = c.packet-packet.ensures whole header further packets mid filled in
+          let at = c.packet-packet.ensures.record whole header further packets mid filled in
           let behind = c.advance.ensures whole header further packets packet mid filled at in
           let is_now = next_now packets c.packets.now c.later-now.result packet time c.later-now.ensures in (
             further,

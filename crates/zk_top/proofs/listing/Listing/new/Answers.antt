@@ -1,0 +1,15 @@
+use Rattle.std.proofs.Common.{[], refl, sym, subst}
+use Rattle.zk_top.specs.Line.{list_options}
+use Rattle.zk_top.specs.Listing.{HasSaid}
+use Rattle.zk_top.proofs.ListingLemmas.{no_items}
+use Rattle.zk_top.proofs.Doing.{prefix_none}
+use Rattle.zk_top.proofs.Said.{said_nothing}
+use Rattle.zk_traffic.specs.Items.{items_of}
+use Rattle.zk_top.proofs.listing.Listing.new.Goals as goal
+
+pub returns : goal.returns
+returns c first = record {
+  stands = c.in_ok-new.ensures;
+  begins = prefix_none (items_of list_options c.args.link [] _);
+  says = subst (λ piece. HasSaid first [] piece first) (sym c.in_ok-with_capacity.ensures.items) (said_nothing first);
+}

@@ -1,0 +1,142 @@
+use Rattle.std.proofs.Common.{◌≡◌, ◌≤◌, ◌<◌, ℕ, List, [], ◌∷◌, ◌++◌, true, false, Option, refl, sym, ap, subst, arith, ◌∙◌}
+use Rattle.std.proofs.lemmas.Result.{err_from_is_err_and, IfErr-weaker}
+use Rattle.zk_pcap.specs.declared.headers.Header.{Header}
+use Rattle.zk_pcap.specs.View.{packet_of}
+use Rattle.zk_top.specs.declared.stop.Stop.TheVariants.{NoMemory}
+use Rattle.zk_top.specs.Line.{capture_lines, lines_of, list_options}
+use Rattle.zk_top.specs.Listing.{HasListed, HasListedAll}
+use Rattle.zk_top.specs.Parts.{DoesAll, DoesPart}
+use Rattle.zk_top.proofs.CaptureReading.{reading_on, read_capture, says_part, says_part_next, same_place, later_place}
+use Rattle.zk_top.proofs.Doing.{out_of_memory, does_part_of, prefix_all}
+use Rattle.zk_top.proofs.ListingLemmas.{lines_begin, listed_on, no_items}
+use Rattle.zk_top.proofs.Said.{on_ok_both, stopped_after}
+use Rattle.zk_traffic.specs.Items.{items_of}
+use Rattle.zk_top.proofs.listing.list_items.Goals as goal
+
+pub returns-in_err-listing-clause-stopped : goal.returns-in_err-listing-clause-stopped
+returns-in_err-listing-clause-stopped g c =
+    let old = g.S.Shelf.outside c.args.shelf.now in
+    let p = err_from_is_err_and c.from_residual.result c.from_residual.ensures.1 in
+    rw (p.1, p.2) (λ whole header bytes is. says_part whole header bytes [] c.args.reader.now old (capture_lines header.link) old NoMemory old is
+    (λ others. out_of_memory [] (capture_lines header.link others) [] old old refl))
+
+pub packets-init : goal.packets-init
+packets-init g c =
+    let old = g.S.Shelf.outside c.args.shelf.now in
+    record {
+      under_way = c.requires.under_way;
+      goes_on = λ whole header bytes is.
+          let link = c.link.ensures whole header bytes [] old is in
+          let made = subst (λ l. HasListed old l [] [] false c.in_ok-listing.listing old) link (c.in_ok-listing.ensures old) in
+          (bytes, [], is, subst (λ given. HasListed old header.link [] given false c.in_ok-listing.listing old) (sym (no_items header.link)) made);
+    }
+
+pub returns-in_err-fill-clause-stopped : goal.returns-in_err-fill-clause-stopped
+returns-in_err-fill-clause-stopped g c =
+    let first = g.S.Shelf.outside c.args.shelf.now in
+    let old = g.S.Shelf.outside c.packets.shelf in
+    let new = g.S.Shelf.outside c.fill.new.shelf in
+    let stop = c.in_err-fill.field-0.0 in
+    let exit = c.from_residual-in_err-fill in
+    let p = err_from_is_err_and exit.result exit.ensures.1 in
+    rw (p.1, p.2) (λ whole header bytes is.
+    let (longer, packets, reading, listed) = c.packets.invariant.goes_on whole header bytes is in
+    let text = lines_of (items_of list_options header.link packets false) in
+    says_part whole header longer packets c.packets.reader old (capture_lines header.link) first stop new reading
+    (λ others. stopped_after first text c.packets.listing.piece.items (capture_lines header.link (packets ++ others)) old stop new listed.says
+    (lines_begin header.link packets others) c.in_err-fill.ensures.stopped))
+
+pub take_packet-requires : goal.take_packet-requires
+take_packet-requires g c = c.packet.ensures.limits
+
+pub returns-in_err-take_packet-clause-stopped : goal.returns-in_err-take_packet-clause-stopped
+returns-in_err-take_packet-clause-stopped g c =
+    let first = g.S.Shelf.outside c.args.shelf.now in
+    let old = g.S.Shelf.outside c.packets.shelf in
+    let mid = g.S.Shelf.outside c.fill.new.shelf in
+    let new = g.S.Shelf.outside c.take_packet.new.shelf in
+    let stop = c.in_err-take_packet.field-0.0 in
+    let packet = packet_of c.packet.result in
+    let exit = c.from_residual-in_err-take_packet in
+    let p = err_from_is_err_and exit.result exit.ensures.1 in
+    rw (p.1, p.2) (λ whole header bytes is.
+    let (longer, packets, reading, listed) = c.packets.invariant.goes_on whole header bytes is in
+    let (further, filled) = c.in_ok-fill.ensures.goes_on whole header longer packets reading in
+    let at = c.packet.ensures.record whole header further packets mid filled in
+    let part = c.in_err-take_packet.ensures.stopped first header.link packets (listed_on first header.link packets c.packets.listing old mid listed c.in_ok-fill.ensures.read) in
+    let more = packets ++ packet ∷ [] in
+    says_part_next whole header further packets packet c.fill.new.self mid (capture_lines header.link) first stop new filled at
+    (λ others. does_part_of [] [] (lines_of (items_of list_options header.link more false)) (capture_lines header.link (more ++ others)) [] [] first stop new (prefix_all [])
+    (lines_begin header.link more others) (prefix_all []) part))
+
+pub packets-smaller : goal.packets-smaller
+packets-smaller g c =
+    let old = g.S.Shelf.outside c.packets.shelf in
+    let mid = g.S.Shelf.outside c.fill.new.shelf in
+    let packet = packet_of c.packet.result in
+    let (whole, header, bytes, packets, reading) = c.packets.invariant.under_way in
+    let (further, filled) = c.in_ok-fill.ensures.goes_on whole header bytes packets reading in
+    let at = c.packet.ensures.record whole header further packets mid filled in
+    let behind = c.advance.ensures whole header further packets packet mid filled at in
+    let same = same_place whole header bytes further packets c.packets.reader c.fill.new.self old mid reading filled in
+    let later = later_place whole header further packets packet c.fill.new.self c.advance.new.self mid filled at behind in
+    omega (arith, same, later.0, later.1)
+
+pub packets-preserved : goal.packets-preserved
+packets-preserved g c =
+    let first = g.S.Shelf.outside c.args.shelf.now in
+    let old = g.S.Shelf.outside c.packets.shelf in
+    let mid = g.S.Shelf.outside c.fill.new.shelf in
+    let new = g.S.Shelf.outside c.take_packet.new.shelf in
+    let packet = packet_of c.packet.result in
+    record {
+      under_way =
+          let (whole, header, bytes, packets, reading) = c.packets.invariant.under_way in
+          let (further, filled) = c.in_ok-fill.ensures.goes_on whole header bytes packets reading in
+          let at = c.packet.ensures.record whole header further packets mid filled in
+          let behind = c.advance.ensures whole header further packets packet mid filled at in
+          (whole, header, further, packets ++ packet ∷ [], reading_on whole header further (packets ++ packet ∷ []) c.advance.new.self mid new behind c.in_ok-take_packet.ensures.input);
+      goes_on = λ whole header bytes is.
+          let (longer, packets, reading, listed) = c.packets.invariant.goes_on whole header bytes is in
+          let (further, filled) = c.in_ok-fill.ensures.goes_on whole header longer packets reading in
+          let at = c.packet.ensures.record whole header further packets mid filled in
+          let behind = c.advance.ensures whole header further packets packet mid filled at in (
+            further,
+            packets ++ packet ∷ [],
+            reading_on whole header further (packets ++ packet ∷ []) c.advance.new.self mid new behind c.in_ok-take_packet.ensures.input,
+            c.in_ok-take_packet.ensures.listed first header.link packets (listed_on first header.link packets c.packets.listing old mid listed c.in_ok-fill.ensures.read),
+          );
+    }
+
+pub returns-clause-said : goal.returns-clause-said
+returns-clause-said g c =
+    let first = g.S.Shelf.outside c.args.shelf.now in
+    let old = g.S.Shelf.outside c.packets.shelf in
+    let mid = g.S.Shelf.outside c.fill.new.shelf in
+    let new = g.S.Shelf.outside c.end.new.shelf in
+    on_ok_both c.end.result c.end.ensures.said c.end.ensures.input (λ says same whole header bytes is.
+    let (longer, packets, reading, listed) = c.packets.invariant.goes_on whole header bytes is in
+    let (further, filled) = c.in_ok-fill.ensures.goes_on whole header longer packets reading in
+    record {
+      bytes = further;
+      packets = packets;
+      reading = reading_on whole header further packets c.fill.new.self mid new filled same;
+      through = c.in_ok-fill.ensures.through c.if-branch.false whole header further packets filled;
+      says = says first header.link packets (listed_on first header.link packets c.packets.listing old mid listed c.in_ok-fill.ensures.read);
+    })
+
+pub returns-clause-stopped : goal.returns-clause-stopped
+returns-clause-stopped g c =
+    let first = g.S.Shelf.outside c.args.shelf.now in
+    let old = g.S.Shelf.outside c.packets.shelf in
+    let mid = g.S.Shelf.outside c.fill.new.shelf in
+    IfErr-weaker c.end.result _ _ (λ stop stopped whole header bytes is.
+    let (longer, packets, reading, listed) = c.packets.invariant.goes_on whole header bytes is in
+    let (further, filled) = c.in_ok-fill.ensures.goes_on whole header longer packets reading in
+    let through = c.in_ok-fill.ensures.through c.if-branch.false whole header further packets filled in
+    record {
+      packets = packets;
+      ending = _;
+      all = read_capture whole header further packets c.fill.new.self mid filled through;
+      says = stopped first header.link packets (listed_on first header.link packets c.packets.listing old mid listed c.in_ok-fill.ensures.read);
+    }) c.end.ensures.stopped

@@ -20,3 +20,4 @@ mod GivenLemmas
 pub mod RecordLemmas
 mod OpenLemmas
 mod BoundLemmas
+mod Rows

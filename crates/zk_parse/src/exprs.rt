@@ -30,6 +30,7 @@ pub struct Exprs<F> {
 }
 
 impl<F: Fn(Global, &mut Tokens<'_>, u64, Counted) -> Result<Expr, FormFault>> Exprs<F> {
+    /// A node of one of the kinds whose nesting counts.
     pub fn nested(&self, tokens: &mut Tokens<'_>, what: Counted) -> Result<Expr, FormFault>
         requires { Nests self.now.depth (F.pre self.now.nested) (F.post self.now.nested) }
         ensures { Gives (within self.now.depth SyntaxExpr (nest_of what) tokens.old) result tokens.new }

@@ -17,6 +17,7 @@ pub struct Backward {
 impl Backward {
     ghost use Rattle.zk_text.specs.Backward.{written, room};
 
+    /// Nothing written yet.
     pub fn new() -> Backward
         ensures written { written result ≡ [] }
         ensures room { room result ≡ ROOM }

@@ -1,4 +1,5 @@
 mod Rows
+mod PlaceLaws
 mod TableRows
 pub mod TurnLaws
 pub mod ValueLaws

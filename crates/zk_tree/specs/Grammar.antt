@@ -1,5 +1,5 @@
 -- The grammar of scripts, one definition for each of its forms (Zeek manual, Script Reference).
-use Rattle.std.specs.Prelude.{ℕ, Bool, true, false, List, [], ◌∷◌, Option, Some, None}
+use Rattle.std.specs.Prelude.{ℕ, Bool, false, List, [], ◌∷◌, Option, Some, None}
 use Rattle.zk_tree.specs.declared.token.Sign.TheVariants as sign
 use Rattle.zk_tree.specs.declared.keyword.Keyword.{Keyword}
 use Rattle.zk_tree.specs.declared.keyword.Keyword.TheVariants as keyword

@@ -9,3 +9,4 @@ pub mod Table
 pub mod Store
 pub mod Value
 pub mod Opening
+pub mod Places

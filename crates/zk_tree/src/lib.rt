@@ -11,6 +11,7 @@ mod laws;
 mod name;
 mod operator;
 mod place;
+mod places;
 mod stmt;
 mod token;
 mod types;

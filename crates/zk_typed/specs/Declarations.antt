@@ -31,6 +31,7 @@ use Rattle.zk_tree.specs.declared.types.Param.{Param, out-Param}
 use Rattle.zk_tree.specs.declared.types.Type.{«Type», out-Type, size-Type}
 use Rattle.zk_tree.specs.declared.types.Type.TheOpen.{Type-F}
 use Rattle.zk_tree.specs.declared.types.Type.TheOpen as tree
+use Rattle.zk_tree.specs.Places.{type_place}
 use Rattle.zk_typed.specs.declared.rule.Rule.TheVariants as rule
 use Rattle.zk_typed.specs.declared.rule.Rule.{Rule}
 use Rattle.zk_typed.specs.declared.script.literal.DefaultValue.{DefaultValue}
@@ -52,7 +53,7 @@ use Rattle.zk_typed.specs.Typing.{Typed, Env, Nothing, expr_place, interval_of, 
 use Rattle.zk_tree.specs.declared.operator.TimeUnit.{TimeUnit}
 use Rattle.zk_tree.specs.Value as plain
 use Rattle.zk_tree.specs.declared.decl.Lasting.TheVariants as lasting
-use Rattle.zk_typed.specs.Resolving.{deeper, type_place, place_in}
+use Rattle.zk_typed.specs.Resolving.{deeper, place_in}
 use Rattle.zk_tree.specs.declared.stmt.Stmt.TheOpen as stmt
 use Rattle.zk_tree.specs.declared.stmt.Stmt.TheOpen.{Stmt-F}
 use Rattle.zk_tree.specs.declared.stmt.Stmt.{Stmt, out-Stmt, size-Stmt}

@@ -28,6 +28,7 @@ use Rattle.zk_tree.specs.declared.stmt.Init.TheVariants as init
 use Rattle.zk_tree.specs.declared.stmt.Stmt.{Stmt, out-Stmt, size-Stmt}
 use Rattle.zk_tree.specs.declared.stmt.Stmt.TheOpen.{Stmt-F}
 use Rattle.zk_tree.specs.declared.stmt.Stmt.TheOpen as stmt
+use Rattle.zk_tree.specs.Places as places
 use Rattle.zk_typed.specs.declared.rule.Rule.TheVariants as rule
 use Rattle.zk_typed.specs.declared.script.log_call.LogCall.{LogCall}
 use Rattle.zk_typed.specs.declared.script.log_call.LogCall.TheVariants as log
@@ -42,7 +43,6 @@ use Rattle.zk_typed.specs.Predefined as type
 use Rattle.zk_typed.specs.Resolving.{Scripts, FieldInfo, place_in, type_named, params_of, fields_of}
 use Rattle.zk_typed.specs.Types.{ValueType, Record}
 use Rattle.zk_typed.specs.Typing.{Typed, typed, Env, at, expr_place, Nothing, Wants, Unclear, Check, number_among, is_event, is_hook, found}
-use Rattle.zk_typed.specs.Typing.{place_to}
 
 -- Calls in the texts -------------------------------------------------------------------------------------------------
 
@@ -195,7 +195,7 @@ abbrev pub named_record : Scripts → Home → Expr → Checked RecordNo
 named_record scripts home one = of_form (out-Expr one)
   where
     place : Place
-    place = place_in home (place_to (size-Expr one) one)
+    place = place_in home (places.expr_place one)
 
     of_type : ValueType → Checked RecordNo
     of_type (Record number) = Ok number

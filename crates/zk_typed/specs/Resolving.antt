@@ -16,6 +16,7 @@ use Rattle.zk_tree.specs.declared.types.Param.{Param, out-Param}
 use Rattle.zk_tree.specs.declared.types.Type.{«Type», out-Type, size-Type}
 use Rattle.zk_tree.specs.declared.types.Type.TheOpen.{Type-F}
 use Rattle.zk_tree.specs.declared.types.Type.TheOpen as written
+use Rattle.zk_tree.specs.Places.{type_place}
 use Rattle.zk_typed.specs.declared.rule.Rule.TheVariants.{Unknown, WrongType, Recursive}
 use Rattle.zk_typed.specs.declared.script.types.SimpleType.{SimpleType}
 use Rattle.zk_typed.specs.declared.script.types.SimpleType.TheVariants as simple
@@ -57,22 +58,6 @@ simple_of atomic.Interval = simple.Interval
 simple_of atomic.Addr = simple.Addr
 simple_of atomic.Port = simple.Port
 simple_of atomic.Subnet = simple.Subnet
-
-abbrev pub type_place : «Type» → ℕ
-type_place tree = of_form (out-Type tree)
-  where
-    of_form : Type-F «Type» Field Param → ℕ
-    of_form (written.Atomic place atomic) = place
-    of_form (written.Named name) = name.place
-    of_form (written.Table place keys value) = place
-    of_form (written.Set place keys) = place
-    of_form (written.Vector place item) = place
-    of_form (written.Record place fields) = place
-    of_form (written.Enum place words comma) = place
-    of_form (written.Event place params) = place
-    of_form (written.Hook place params) = place
-    of_form (written.Procedure place params) = place
-    of_form (written.Function place params «result») = place
 
 -- what a type rests on elsewhere is told there
 abbrev pub hushed : {A : Type 0} → Checked A → Checked A

@@ -1,10 +1,10 @@
 -- The typing of expressions (Zeek manual, Expressions): an expression, with the type that its place wants, has a typed form, or
 -- breaks rules. Where an int is wanted a count is converted.
-use Rattle.std.specs.Prelude.{ℕ, zero, suc, ◌+◌, ◌-◌, ◌*◌, ◌^◌, pos, Bool, true, false, ◌&&◌, List, [], ◌∷◌, ◌++◌, filter, Option, Some, None, Ok, Err, if◌then◌else◌}
+use Rattle.std.specs.Prelude.{ℕ, ◌+◌, ◌-◌, ◌*◌, ◌^◌, pos, Bool, true, false, ◌&&◌, List, [], ◌∷◌, ◌++◌, filter, Option, Some, None, Ok, Err, if◌then◌else◌}
 use Rattle.std.specs.Int.{int_min}
 use Rattle.std.specs.Str.{bytes_eq}
 use Rattle.zk_base.specs.declared.network.Addr.TheVariants.{V4}
-use Rattle.zk_tree.specs.declared.expr.Expr.{Expr, out-Expr, size-Expr}
+use Rattle.zk_tree.specs.declared.expr.Expr.{Expr, out-Expr}
 use Rattle.zk_tree.specs.declared.expr.Expr.TheOpen.{Expr-F, Part-F, Item-F}
 use Rattle.zk_tree.specs.declared.expr.Expr.TheOpen as written
 use Rattle.zk_tree.specs.declared.expr.Item.{Item, out-Item}
@@ -18,6 +18,7 @@ use Rattle.zk_tree.specs.declared.operator.Level.TheVariants as level
 use Rattle.zk_tree.specs.declared.operator.TimeUnit.{TimeUnit}
 use Rattle.zk_tree.specs.declared.operator.TimeUnit.TheVariants as unit
 use Rattle.zk_tree.specs.declared.place.Place.{Place}
+use Rattle.zk_tree.specs.Places as places
 use Rattle.zk_tree.specs.Value as plain
 use Rattle.zk_typed.specs.declared.rule.Rule.TheVariants as rule
 use Rattle.zk_typed.specs.declared.script.primitive.Binary.{Binary}
@@ -72,31 +73,9 @@ exprs (one ∷ others) = form.AndExpr one.expr (exprs others)
 abbrev pub apply : Primitive → List Typed → form.Expr
 apply one operands = form.Apply one (exprs operands)
 
--- the place of an expression: that of its first byte
-abbrev pub place_to : ℕ → Expr → ℕ
-place_to zero one = 0
-place_to (suc depth) one = of_form (place_to depth) (out-Expr one)
-  where
-    of_form : (Expr → ℕ) → Expr-F Expr Item Part Link → ℕ
-    of_form first (written.Assign one operator other) = first one
-    of_form first (written.Choice one other third) = first one
-    of_form first (written.Chain level one others) = first one
-    of_form first (written.Compare one operator other) = first one
-    of_form first (written.Unary place operator one) = place
-    of_form first (written.Post one parts) = first one
-    of_form first (written.Number place number) = place
-    of_form first (written.Interval place number unit plural) = place
-    of_form first (written.Literal place literal) = place
-    of_form first (written.Truth place truth) = place
-    of_form first (written.Name name) = name.place
-    of_form first (written.Parenthesis place inner) = place
-    of_form first (written.Size place inner) = place
-    of_form first (written.List place items) = place
-    of_form first (written.Make place container items) = place
-    of_form first (written.Hook place name items) = place
-
+-- the place of an expression
 abbrev pub expr_place : Env → Expr → Place
-expr_place env one = at env (place_to (size-Expr one) one)
+expr_place env one = at env (places.expr_place one)
 
 -- Wanted types -----------------------------------------------------------------------------------------------------
 

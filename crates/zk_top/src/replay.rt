@@ -219,6 +219,7 @@ fn line_in(out: &Out) -> &[u8]
 {
     match out {
         Out::Line(line) => line.as_slice(),
+        Out::Row { .. } => &[],
     }
 }
 

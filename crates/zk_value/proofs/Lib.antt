@@ -1,1 +1,3 @@
 pub mod PlainLaws
+pub mod StoreLemmas
+pub mod TableLemmas

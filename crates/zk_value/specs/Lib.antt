@@ -1,2 +1,5 @@
 pub mod Hashed
+pub mod Lent
+pub mod Objects
 pub mod Plain
+pub mod Slots

@@ -1,4 +1,5 @@
 use crate::shared::SharedBytes;
+use std::alloc::AllocError;
 use std::hash::{Hash, Hasher};
 use zk_base::{Addr, Moment, ObjectNo, Proto, Span};
 
@@ -27,6 +28,35 @@ pub enum Value {
     Enum(SharedBytes),
     /// A record, a vector, a set or a table.
     Object(ObjectNo),
+}
+
+/// Another handle to the same value.
+impl Clone for Value {
+    ghost use Rattle.std.specs.Prelude.{◌≡◌};
+
+    ghost is_clone = { λ value copy. copy ≡ value };
+
+    fn clone(&self) -> Result<Value, AllocError> {
+        Ok(match self {
+            Value::Bool(truth) => Value::Bool(*truth),
+            Value::Count(count) => Value::Count(*count),
+            Value::Int(int) => Value::Int(*int),
+            Value::String(bytes) => Value::String(bytes.clone()?),
+            Value::Time(moment) => Value::Time(*moment),
+            Value::Interval(span) => Value::Interval(*span),
+            Value::Addr(address) => Value::Addr(*address),
+            Value::Port { port, proto } => Value::Port {
+                port: *port,
+                proto: *proto,
+            },
+            Value::Subnet { prefix, width } => Value::Subnet {
+                prefix: *prefix,
+                width: *width,
+            },
+            Value::Enum(word) => Value::Enum(word.clone()?),
+            Value::Object(number) => Value::Object(*number),
+        })
+    }
 }
 
 impl Hash for Value {

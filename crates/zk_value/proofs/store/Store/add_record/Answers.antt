@@ -1,0 +1,8 @@
+use Rattle.std.proofs.Common.{refl}
+use Rattle.zk_value.specs.declared.store.Slot.TheVariants.{Record}
+use Rattle.zk_value.proofs.StoreLemmas.{PlacesFrom-object}
+use Rattle.zk_value.proofs.store.Store.add_record.Goals as goal
+
+pub invariant_of-self-2 : goal.invariant_of-self-2
+invariant_of-self-2 c =
+    rw (c.in_ok-push.ensures.items) (PlacesFrom-object 0 c.self.inside.slots.items c.self.inside.tables (Record c.args.of c.args.fields) refl c.self.invariant)

@@ -1,0 +1,6 @@
+pub mod Code
+pub mod Frames
+pub mod Steps
+pub mod Run
+pub mod Lowering
+pub mod Meant

@@ -1,0 +1,25 @@
+// The code of a program does what the program means.
+ghost use Rattle.zk_lower.specs.Meant.{HandlersMean, InitialsMean, ExpiriesMean, BudgetHolds};
+ghost use Rattle.zk_lower.specs.Run.{RunsByStep};
+
+/// Code that is run ends, faults at the same place, or spends its units as what it was made of does, and
+/// leaves the same world and as many units, whatever the world, the arguments and the budget. There is
+/// nothing to run.
+pub fn code_means()
+    // From each handler.
+    ensures handlers { HandlersMean }
+
+    // From each initial value of a global or a constant.
+    ensures initials { InitialsMean }
+
+    // From each expiry function, which gives the same interval.
+    ensures expiries { ExpiriesMean }
+{}
+
+/// Every run of code ends, and no body uses more units than its budget. There is nothing to run.
+pub fn code_ends()
+    // A run is its first step and then a run, whatever the code, so the steps that it may take are never too
+    // few.
+    ensures steps { RunsByStep }
+    ensures budget { BudgetHolds }
+{}

@@ -298,6 +298,16 @@ a_file_stands_in_the_place_of_its_first_load : map (λ one. one.home.file) (load
 unfolding loading count_named name trees
 a_file_stands_in_the_place_of_its_first_load = refl
 
+-- a.zeek: @load base/x global a = 1;  base/x: global b = 1;
+default_script_named : List File
+default_script_named =
+    record { name = codes "a.zeek"; decls = decl.Load 0 (codes "base/x") ∷ count_named 13 (codes "a") (expr.Number 24 1) ∷ [] } ∷
+    record { name = codes "base/x"; decls = count_named 0 (codes "b") (expr.Number 11 1) ∷ [] } ∷ []
+
+a_load_of_a_default_script_is_passed_over : map (λ one. one.home.file) (load_order default_script_named) ≡ 0 ∷ 1 ∷ []
+unfolding default_script_named count_named name trees
+a_load_of_a_default_script_is_passed_over = refl
+
 names_of_loaded_files_are_seen : errors loading ≡ []
 unfolding loading count_named name trees
 names_of_loaded_files_are_seen = refl

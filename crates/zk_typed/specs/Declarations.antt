@@ -54,10 +54,8 @@ use Rattle.zk_tree.specs.declared.operator.TimeUnit.{TimeUnit}
 use Rattle.zk_tree.specs.Value as plain
 use Rattle.zk_tree.specs.declared.decl.Lasting.TheVariants as lasting
 use Rattle.zk_typed.specs.Resolving.{deeper, place_in}
-use Rattle.zk_tree.specs.declared.stmt.Stmt.TheOpen as stmt
-use Rattle.zk_tree.specs.declared.stmt.Stmt.TheOpen.{Stmt-F}
-use Rattle.zk_tree.specs.declared.stmt.Stmt.{Stmt, out-Stmt, size-Stmt}
-use Rattle.zk_tree.specs.declared.stmt.Block.{Block, out-Block}
+use Rattle.zk_tree.specs.declared.stmt.Block.{Block}
+use Rattle.zk_typed.specs.Within.{local_types}
 use Rattle.std.specs.Prelude.{◌++◌}
 
 -- The types of globals ---------------------------------------------------------------------------------------------
@@ -266,26 +264,9 @@ type_rules scripts home one =
     nothing (both (type_of scripts home one >>= (λ type. require (not (deeper 200 scripts type)) rule.Recursive (place_in home (type_place one)))) (nested_to (size-Type one) scripts home one))
 
 -- the record types within the types of locals
-abbrev pub local_types_to : ℕ → Stmt → List «Type»
-local_types_to zero one = []
-local_types_to (suc depth) one = of_form (local_types_to depth) (out-Stmt one)
-  where
-    of_maybe : Option «Type» → List «Type»
-    of_maybe None = []
-    of_maybe (Some tree) = tree ∷ []
-
-    of_form : (Stmt → List «Type») → Stmt-F Stmt Block → List «Type»
-    of_form more (stmt.Block block) = flat_map more (out-Block block).stmts
-    of_form more (stmt.If place test a) = more a
-    of_form more (stmt.IfElse place test a b) = more a ++ more b
-    of_form more (stmt.While place test a) = more a
-    of_form more (stmt.For place keys value over a) = more a
-    of_form more (stmt.Local place name tree init) = of_maybe tree
-    of_form more other = []
-
 abbrev pub local_rules : Scripts → Home → Block → Checked (Unit {0})
 local_rules scripts home block =
-    nothing (each (λ tree. nested_to (size-Type tree) scripts home tree) (flat_map (λ one. local_types_to (size-Stmt one) one) (out-Block block).stmts))
+    nothing (each (λ tree. nested_to (size-Type tree) scripts home tree) (local_types block))
 
 abbrev pub maybe_rules : Scripts → Home → Option «Type» → Checked (Unit {0})
 maybe_rules scripts home None = Ok tt

@@ -120,12 +120,20 @@ abbrev pub body_meaning : BodyKind → Signature → Meant
 body_meaning body.Event signature = Event signature
 body_meaning body.Hook signature = Hook signature
 
+-- a name with another module before its `::`
+abbrev pub is_foreign : Home → Name → Bool
+is_foreign home name = of_module (module_in name.text)
+  where
+    of_module : Option (List ℕ) → Bool
+    of_module None = false
+    of_module (Some module_name) = not (bytes_eq module_name home.module_name)
+
 -- what a body declares beside the names that there are; the name of another module is none of its own
 abbrev pub by_body : List Declared → Home → Decl-F Decl → List Declared
 by_body names home (decl.Body place kind name params attrs block) =
-    unless (is_some (look_up names home.module_name name.text) || is_some (module_in name.text)) (declare home name (body_meaning kind (Written home params None)))
+    unless (is_some (look_up names home.module_name name.text) || is_foreign home name) (declare home name (body_meaning kind (Written home params None)))
 by_body names home (decl.Function place name params «result» block) =
-    unless (in_module names home name || is_some (module_in name.text)) (declare home name (Function (Written home params «result»)))
+    unless (in_module names home name || is_foreign home name) (declare home name (Function (Written home params «result»)))
 by_body names home other = []
 
 -- The bodies that stand in no module come first, since they are declarations for those in modules.

@@ -40,7 +40,7 @@ use Rattle.zk_typed.specs.LoadOrder.{File, Home, Stated}
 use Rattle.zk_typed.specs.Names.{Declared, Meant, KnownType, Variable, Event, Hook, Function, BuiltInFunction, Log, Signature, Node, RecordNode, EnumNode, whole_name, look_up, decl_nodes, find_whole}
 use Rattle.zk_typed.specs.Operations.{same_type}
 use Rattle.zk_typed.specs.Predefined as type
-use Rattle.zk_typed.specs.Resolving.{Scripts, FieldInfo, place_in, type_of, type_named, params_of, result_of, maybe_type, fields_of, mentions, hushed, has_attr, attr_value}
+use Rattle.zk_typed.specs.Resolving.{Scripts, FieldInfo, place_in, type_of, type_named, params_of, result_of, maybe_type, fields_of, hushed, has_attr, attr_value}
 use Rattle.zk_typed.specs.Statements.{Context, Within, InFunction, InHook, InHandler, init_typed, body_typed, added_type, Locals}
 use Rattle.zk_typed.specs.Types.{ValueType, Simple, Record}
 use Rattle.zk_typed.specs.Typing.{Typed, Env, Wanted, Nothing, Wants, Unclear, wanted_of, expr_place}
@@ -49,6 +49,7 @@ use Rattle.zk_typed.specs.Names.{Known, Written}
 use Rattle.zk_typed.specs.Statements.{Stated as Judged}
 use Rattle.zk_typed.specs.Typing.{number_among, is_variable}
 use Rattle.zk_typed.specs.Declarations.{local_rules}
+use Rattle.zk_typed.specs.Within.{mentions}
 
 -- Globals and constants --------------------------------------------------------------------------------------------
 

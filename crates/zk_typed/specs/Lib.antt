@@ -21,6 +21,7 @@ pub mod Meaning
 pub mod Dispatch
 pub mod Running
 pub mod Checked
+pub mod Within
 pub mod LoadOrder
 pub mod Names
 pub mod Resolving

@@ -1,26 +1,24 @@
 -- The names that scripts declare, and what a name means at a place (Zeek manual, Script Organization, modules).
-use Rattle.std.specs.Prelude.{ℕ, zero, suc, ◌+◌, ◌==◌, Bool, true, false, not, ◌&&◌, ◌||◌, List, [], ◌∷◌, ◌++◌, length, find, filter, flat_map, codes, Option, Some, None, is_some, if◌then◌else◌}
+use Rattle.std.specs.Prelude.{ℕ, zero, suc, ◌+◌, ◌==◌, Bool, true, false, not, ◌&&◌, ◌||◌, List, [], ◌∷◌, ◌++◌, length, find, filter, map, flat_map, codes, Option, Some, None, is_some, if◌then◌else◌}
 use Rattle.std.specs.Str.{bytes_eq}
 use Rattle.zk_tree.specs.declared.decl.Decl.{Decl, out-Decl}
 use Rattle.zk_tree.specs.declared.decl.Decl.TheOpen.{Decl-F}
 use Rattle.zk_tree.specs.declared.decl.Decl.TheOpen as decl
 use Rattle.zk_tree.specs.declared.decl.Lasting.{Lasting}
 use Rattle.zk_tree.specs.declared.name.Name.{Name}
-use Rattle.zk_tree.specs.declared.stmt.Block.{Block, out-Block}
+use Rattle.zk_tree.specs.declared.stmt.Block.{Block}
 use Rattle.zk_tree.specs.declared.stmt.Init.{Init}
-use Rattle.zk_tree.specs.declared.stmt.Stmt.{Stmt, out-Stmt, size-Stmt}
-use Rattle.zk_tree.specs.declared.stmt.Stmt.TheOpen.{Stmt-F}
-use Rattle.zk_tree.specs.declared.stmt.Stmt.TheOpen as stmt
 use Rattle.zk_tree.specs.declared.types.Attr.{Attr}
 use Rattle.zk_tree.specs.declared.types.Field.{Field, out-Field}
 use Rattle.zk_tree.specs.declared.types.Param.{Param, out-Param}
-use Rattle.zk_tree.specs.declared.types.Type.{«Type», out-Type, size-Type}
+use Rattle.zk_tree.specs.declared.types.Type.{«Type», out-Type}
 use Rattle.zk_tree.specs.declared.types.Type.TheOpen.{Type-F}
 use Rattle.zk_tree.specs.declared.types.Type.TheOpen as written
 use Rattle.zk_typed.specs.declared.script.primitive.BuiltIn.{BuiltIn}
 use Rattle.zk_typed.specs.LoadOrder.{Home, Stated}
 use Rattle.zk_typed.specs.Predefined as predefined
 use Rattle.zk_typed.specs.Types.{ValueType}
+use Rattle.zk_typed.specs.Within.{within, local_types, maybe_one}
 
 -- What names mean --------------------------------------------------------------------------------------------------
 
@@ -115,62 +113,34 @@ pub data Node : Type 0 where
   RecordNode : (home : Home) (place : ℕ) (fields : List Field) → Node
   EnumNode : (home : Home) (place : ℕ) (words : List Name) → Node
 
-abbrev pub type_nodes_to : ℕ → Home → «Type» → List Node
-type_nodes_to zero home tree = []
-type_nodes_to (suc depth) home tree = in_type (type_nodes_to depth home) home (out-Type tree)
+abbrev pub node : Home → «Type» → List Node
+node home tree = of_form (out-Type tree)
   where
-    in_params : («Type» → List Node) → List Param → List Node
-    in_params nodes params = flat_map (λ param. nodes (out-Param param).param_type) params
-
-    in_type : («Type» → List Node) → Home → Type-F «Type» Field Param → List Node
-    in_type nodes home (written.Table place keys value) = flat_map nodes keys ++ nodes value
-    in_type nodes home (written.Set place keys) = flat_map nodes keys
-    in_type nodes home (written.Vector place item) = nodes item
-    in_type nodes home (written.Record place fields) = RecordNode home place fields ∷ flat_map (λ field. nodes (out-Field field).field_type) fields
-    in_type nodes home (written.Enum place words comma) = EnumNode home place words ∷ []
-    in_type nodes home (written.Event place params) = in_params nodes params
-    in_type nodes home (written.Hook place params) = in_params nodes params
-    in_type nodes home (written.Procedure place params) = in_params nodes params
-    in_type nodes home (written.Function place params «result») = in_params nodes params ++ nodes «result»
-    in_type nodes home other = []
+    of_form : Type-F «Type» Field Param → List Node
+    of_form (written.Record place fields) = RecordNode home place fields ∷ []
+    of_form (written.Enum place words comma) = EnumNode home place words ∷ []
+    of_form other = []
 
 abbrev pub type_nodes : Home → «Type» → List Node
-type_nodes home tree = type_nodes_to (size-Type tree) home tree
+type_nodes home tree = flat_map (node home) (within tree)
 
-abbrev pub maybe_nodes : Home → Option «Type» → List Node
-maybe_nodes home None = []
-maybe_nodes home (Some tree) = type_nodes home tree
+abbrev pub field_types : List Field → List «Type»
+field_types fields = map (λ field. (out-Field field).field_type) fields
 
-abbrev pub field_nodes : Home → List Field → List Node
-field_nodes home fields = flat_map (λ field. type_nodes home (out-Field field).field_type) fields
+abbrev pub param_types : List Param → List «Type»
+param_types params = map (λ param. (out-Param param).param_type) params
 
-abbrev pub param_nodes : Home → List Param → List Node
-param_nodes home params = flat_map (λ param. type_nodes home (out-Param param).param_type) params
-
--- the types of locals
-abbrev pub stmt_nodes_to : ℕ → Home → Stmt → List Node
-stmt_nodes_to zero home one = []
-stmt_nodes_to (suc depth) home one = in_stmt (stmt_nodes_to depth home) home (out-Stmt one)
-  where
-    in_stmt : (Stmt → List Node) → Home → Stmt-F Stmt Block → List Node
-    in_stmt nodes home (stmt.Block block) = flat_map nodes (out-Block block).stmts
-    in_stmt nodes home (stmt.If place test one) = nodes one
-    in_stmt nodes home (stmt.IfElse place test one other) = nodes one ++ nodes other
-    in_stmt nodes home (stmt.While place test body) = nodes body
-    in_stmt nodes home (stmt.For place keys value over body) = nodes body
-    in_stmt nodes home (stmt.Local place name tree init) = maybe_nodes home tree
-    in_stmt nodes home other = []
-
-abbrev pub block_nodes : Home → Block → List Node
-block_nodes home block = flat_map (λ one. stmt_nodes_to (size-Stmt one) home one) (out-Block block).stmts
+-- the types that stand in a declaration
+abbrev pub decl_types : Decl-F Decl → List «Type»
+decl_types (decl.Variable place lasting name tree init attrs) = maybe_one tree
+decl_types (decl.Type place name tree) = tree ∷ []
+decl_types (decl.RedefRecord place name fields) = field_types fields
+decl_types (decl.Body place kind name params attrs body) = param_types params ++ local_types body
+decl_types (decl.Function place name params «result» body) = param_types params ++ (maybe_one «result» ++ local_types body)
+decl_types other = []
 
 abbrev pub decl_nodes : Home → Decl-F Decl → List Node
-decl_nodes home (decl.Variable place lasting name tree init attrs) = maybe_nodes home tree
-decl_nodes home (decl.Type place name tree) = type_nodes home tree
-decl_nodes home (decl.RedefRecord place name fields) = field_nodes home fields
-decl_nodes home (decl.Body place kind name params attrs body) = param_nodes home params ++ block_nodes home body
-decl_nodes home (decl.Function place name params «result» body) = param_nodes home params ++ maybe_nodes home «result» ++ block_nodes home body
-decl_nodes home other = []
+decl_nodes home one = flat_map (type_nodes home) (decl_types one)
 
 abbrev pub all_nodes : List Stated → List Node
 all_nodes stated = flat_map (λ one. decl_nodes one.home (out-Decl one.decl)) stated

@@ -13,7 +13,7 @@ use Rattle.zk_tree.specs.declared.types.Atomic.TheVariants as atomic
 use Rattle.zk_tree.specs.declared.types.Attr.{Attr}
 use Rattle.zk_tree.specs.declared.types.Field.{Field, out-Field}
 use Rattle.zk_tree.specs.declared.types.Param.{Param, out-Param}
-use Rattle.zk_tree.specs.declared.types.Type.{«Type», out-Type, size-Type}
+use Rattle.zk_tree.specs.declared.types.Type.{«Type», out-Type}
 use Rattle.zk_tree.specs.declared.types.Type.TheOpen.{Type-F}
 use Rattle.zk_tree.specs.declared.types.Type.TheOpen as written
 use Rattle.zk_tree.specs.Places.{type_place}
@@ -28,6 +28,7 @@ use Rattle.zk_typed.specs.Predefined.{record_no}
 use Rattle.zk_typed.specs.Types.{ValueType, Simple, Record, Table, Set, Vector}
 use Rattle.zk_typed.specs.Program.{Field as KnownField, RecordType}
 use Rattle.zk_typed.specs.Checked.{Broken}
+use Rattle.zk_typed.specs.Within.{mentions}
 use Rattle.zk_typed.specs.declared.rule.Rule.{Rule}
 
 -- what all scripts declare: the declarations in load order, their record types and enums, and their names
@@ -63,29 +64,6 @@ simple_of atomic.Subnet = simple.Subnet
 abbrev pub hushed : {A : Type 0} → Checked A → Checked A
 hushed (Ok a) = Ok a
 hushed (Err rules) = elsewhere
-
--- the names that a type mentions
-abbrev pub mentions_to : ℕ → «Type» → List Name
-mentions_to zero tree = []
-mentions_to (suc depth) tree = in_type (mentions_to depth) (out-Type tree)
-  where
-    in_params : («Type» → List Name) → List Param → List Name
-    in_params more params = flat_map (λ param. more (out-Param param).param_type) params
-
-    in_type : («Type» → List Name) → Type-F «Type» Field Param → List Name
-    in_type more (written.Named name) = name ∷ []
-    in_type more (written.Table place keys value) = flat_map more keys ++ more value
-    in_type more (written.Set place keys) = flat_map more keys
-    in_type more (written.Vector place item) = more item
-    in_type more (written.Record place fields) = flat_map (λ field. more (out-Field field).field_type) fields
-    in_type more (written.Event place params) = in_params more params
-    in_type more (written.Hook place params) = in_params more params
-    in_type more (written.Procedure place params) = in_params more params
-    in_type more (written.Function place params «result») = in_params more params ++ more «result»
-    in_type more other = []
-
-abbrev pub mentions : «Type» → List Name
-mentions tree = mentions_to (size-Type tree) tree
 
 -- a name leads to a declared type: it is its name, or that of a type which mentions a name that leads there
 abbrev pub leads_by : (Home → Name → Bool) → List ℕ → Option Declared → Bool

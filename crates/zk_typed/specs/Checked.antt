@@ -3,10 +3,7 @@
 use Rattle.std.specs.Prelude.{Bool, List, [], ◌∷◌, ◌++◌, Option, Some, None, Result, Ok, Err, if◌then◌else◌}
 use Rattle.zk_tree.specs.declared.place.Place.{Place}
 use Rattle.zk_typed.specs.declared.rule.Rule.{Rule}
-
-pub record Broken : Type 0 where
-  pub rule : Rule
-  pub place : Place
+pub use Rattle.zk_typed.specs.declared.refusal.Broken.{Broken}
 
 abbrev pub Checked : Type 0 → Type 0
 Checked A = Result A (List Broken)

@@ -22,6 +22,7 @@ pub mod Dispatch
 pub mod Running
 pub mod Checked
 pub mod Within
+pub mod Tells
 pub mod LoadOrder
 pub mod Names
 pub mod Resolving

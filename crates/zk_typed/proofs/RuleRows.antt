@@ -319,3 +319,83 @@ circle = file (count_named 0 (codes "a") (expr.Name (name 11 (codes "b"))) ∷ c
 types_that_rest_on_each_other : errors circle ≡ told rule.WrongType 11 ++ told rule.WrongType 25
 unfolding circle count_named file told name trees
 types_that_rest_on_each_other = refl
+
+-- Broken parts ------------------------------------------------------------------------------------------------------
+
+-- event zeek_init() { local s = VALUE; }
+local_value : Expr → List File
+local_value value = file (handler (stmt.Local 20 (name 26 (codes "s")) None (Some (init.Value value)) ∷ []) ∷ [])
+
+-- local s = set([1]);
+a_single_key_in_brackets : errors (local_value (expr.Make 30 container.Set (item.Value (expr.List 34 (item.Value (expr.Number 35 1) ∷ [])) ∷ []))) ≡ told rule.WrongType 34
+unfolding local_value file handler told name trees
+a_single_key_in_brackets = refl
+
+-- local s = set($a=1);
+a_member_that_names_a_field : errors (local_value (expr.Make 30 container.Set (item.Field 34 (name 35 (codes "a")) (expr.Number 37 1) ∷ []))) ≡ told rule.WrongType 34
+unfolding local_value file handler told name trees
+a_member_that_names_a_field = refl
+
+-- local s = fmt("%d", $a=y);
+a_broken_value_behind_the_name_of_a_field :
+    errors (local_value (expr.Post (expr.Name (name 30 (codes "fmt"))) (part.Call (item.Value (string 34 (codes "%d")) ∷ item.Field 40 (name 41 (codes "a")) (expr.Name (name 43 (codes "y"))) ∷ []) ∷ []))) ≡ told rule.Unknown 43
+unfolding local_value file handler told string name trees
+a_broken_value_behind_the_name_of_a_field = refl
+
+-- local s = table([1] = y);
+a_broken_entry_where_no_type_is_wanted :
+    errors (local_value (expr.Make 30 container.Table (item.Value (expr.Assign (expr.List 36 (item.Value (expr.Number 37 1) ∷ [])) assigning.Set (expr.Name (name 42 (codes "y")))) ∷ []))) ≡ told rule.Unknown 42
+unfolding local_value file handler told name trees
+a_broken_entry_where_no_type_is_wanted = refl
+
+-- global x: count = { y };
+a_broken_member_of_braces :
+    errors (file (decl.Variable 0 lasting.Global (name 7 (codes "x")) (Some (count_at 10)) (Some (init.Braces 18 (expr.Name (name 20 (codes "y")) ∷ []) false)) [] ∷ [])) ≡ told rule.Unknown 20
+unfolding file told count_at name trees
+a_broken_member_of_braces = refl
+
+-- global f: function() = VALUE;
+function_with : Expr → List File
+function_with value = file (decl.Variable 0 lasting.Global (name 7 (codes "f")) (Some (written.Procedure 10 [])) (Some (init.Value value)) [] ∷ [])
+
+a_broken_value_of_a_function : errors (function_with (expr.Name (name 23 (codes "y")))) ≡ told rule.Unknown 23
+unfolding function_with file told name trees
+a_broken_value_of_a_function = refl
+
+a_value_of_a_function : errors (function_with (expr.Number 23 5)) ≡ told rule.WrongType 23
+unfolding function_with file told name trees
+a_value_of_a_function = refl
+
+-- type R: record { a: count &default="q" &b; };
+one_wrong_attribute_hides_no_other :
+    errors (file (decl.Type 0 (name 5 (codes "R")) (written.Record 8 (
+    roll-Field (record { name = name 17 (codes "a"); field_type = count_at 20; attrs = attr 26 (codes "default") (Some (string 35 (codes "q"))) ∷ attr 39 (codes "b") None ∷ [] }) ∷ [])) ∷ [])) ≡
+    told rule.WrongType 35 ++ told rule.Attribute 39
+unfolding file told attr count_at string name trees
+one_wrong_attribute_hides_no_other = refl
+
+-- redef record NAME += { b: TYPE &optional; };
+field_added : List ℕ → «Type» → Decl
+field_added text type =
+    decl.RedefRecord 60 (name 73 text) (roll-Field (record { name = name 80 (codes "b"); field_type = type; attrs = attr 110 (codes "optional") None ∷ [] }) ∷ [])
+
+-- redef record R += { b: record { c: y; } &optional; };
+a_broken_type_within_an_added_field :
+    errors (file (one_field ∷ field_added (codes "R") (written.Record 83 (roll-Field (record { name = name 92 (codes "c"); field_type = written.Named (name 95 (codes "y")); attrs = [] }) ∷ [])) ∷ [])) ≡ told rule.Unknown 95
+unfolding one_field logged field_added file told attr count_at name trees
+a_broken_type_within_an_added_field = refl
+
+-- redef record connection += { b: connection &optional; };
+an_added_field_that_leads_back : errors (file (field_added (codes "connection") (written.Named (name 83 (codes "connection"))) ∷ [])) ≡ told rule.Recursive 83
+unfolding field_added file told attr name trees
+an_added_field_that_leads_back = refl
+
+-- event zeek_init() { Log::create_stream(L, [$path="A", $columns=y]); }
+every_setting_is_judged :
+    errors (file (
+    decl.RedefEnum 0 (name 0 (codes "Log::ID")) (name 0 (codes "L") ∷ []) false ∷
+    handler (stmt.Expr (call (codes "Log::create_stream") (item.Value (named (codes "L")) ∷ item.Value (expr.List 42 (
+    item.Field 43 (name 44 (codes "path")) (string 49 (codes "A")) ∷ item.Field 54 (name 55 (codes "columns")) (expr.Name (name 63 (codes "y"))) ∷ [])) ∷ [])) ∷ []) ∷ [])) ≡
+    told rule.Format 49 ++ told rule.Unknown 63
+unfolding call named file handler told string name trees
+every_setting_is_judged = refl

@@ -46,7 +46,7 @@ use Rattle.zk_typed.specs.LoadOrder.{Home}
 use Rattle.zk_typed.specs.Names.{Declared, Meant, Variable, Function, Signature, whole_name, look_up}
 use Rattle.zk_typed.specs.Operations.{same_type, same_simple}
 use Rattle.zk_typed.specs.Predefined as type
-use Rattle.zk_typed.specs.Resolving.{Scripts, place_in, type_of, leads, hushed, params_of, result_of, attr_value}
+use Rattle.zk_typed.specs.Resolving.{Scripts, place_in, type_of, leads, hushed, params_of, result_of}
 use Rattle.zk_typed.specs.Statements.{init_typed}
 use Rattle.zk_typed.specs.Types.{ValueType, Simple, Record, Table, Set, Vector}
 use Rattle.zk_typed.specs.Typing.{Typed, Env, Nothing, expr_place, interval_of, is_variable}
@@ -56,7 +56,6 @@ use Rattle.zk_tree.specs.declared.decl.Lasting.TheVariants as lasting
 use Rattle.zk_typed.specs.Resolving.{deeper, place_in}
 use Rattle.zk_tree.specs.declared.stmt.Block.{Block}
 use Rattle.zk_typed.specs.Within.{local_types}
-use Rattle.std.specs.Prelude.{◌++◌}
 
 -- The types of globals ---------------------------------------------------------------------------------------------
 
@@ -191,22 +190,26 @@ default_typed env wanted one = of_literal (literal_of one)
 
 -- Attributes -------------------------------------------------------------------------------------------------------
 
--- an attribute: whether it may stand, and whether it has a value exactly where it should
-abbrev pub attr_rules : Home → (List ℕ → Bool) → (List ℕ → Bool) → List (List ℕ) → List Attr → Checked (Unit {0})
-attr_rules home allowed valued before [] = Ok tt
-attr_rules home allowed valued before (attr ∷ attrs) =
-    both (require (stands && fitting (valued attr.name) (is_some attr.value)) rule.Attribute (place_in home attr.place))
-    (attr_rules home allowed valued (attr.name ∷ before) attrs) >> Ok tt
+abbrev pub is_one_of : List (List ℕ) → List ℕ → Bool
+is_one_of names name = list_any (λ other. bytes_eq other name) names
+
+abbrev pub is_expiry : List ℕ → Bool
+is_expiry = is_one_of (codes "create_expire" ∷ codes "read_expire" ∷ codes "write_expire" ∷ [])
+
+-- Attributes one by one: whether each may stand, not twice and beside no other expiry, and has a value exactly where it
+-- should. The value of one that may stand is judged.
+abbrev pub attr_rules : Home → (List ℕ → Bool) → (List ℕ → Bool) → (Attr → Checked (Unit {0})) → List (List ℕ) → List Attr → Checked (Unit {0})
+attr_rules home allowed valued value_rules before [] = Ok tt
+attr_rules home allowed valued value_rules before (attr ∷ attrs) =
+    both (require (stands && fitting (valued attr.name) (is_some attr.value)) rule.Attribute (place_in home attr.place) >> value_rules attr)
+    (attr_rules home allowed valued value_rules (attr.name ∷ before) attrs) >> Ok tt
   where
     stands : Bool
-    stands = allowed attr.name && not (list_any (λ other. bytes_eq other attr.name) before)
+    stands = allowed attr.name && not (is_one_of before attr.name) && not (is_expiry attr.name && list_any is_expiry before)
 
     fitting : Bool → Bool → Bool
     fitting true given = given
     fitting false given = not given
-
-abbrev pub is_one_of : List (List ℕ) → List ℕ → Bool
-is_one_of names name = list_any (λ other. bytes_eq other name) names
 
 abbrev pub with_value : List ℕ → Bool
 with_value = is_one_of (codes "default" ∷ codes "create_expire" ∷ codes "read_expire" ∷ codes "write_expire" ∷ codes "expire_func" ∷ codes "priority" ∷ [])
@@ -230,7 +233,7 @@ field_attribute one name =
 abbrev pub nothing : {A : Type 0} → Checked A → Checked (Unit {0})
 nothing one = one >> Ok tt
 
--- the value of a field's `&default`, where the attribute may stand there
+-- the value of a field's `&default`, the one attribute of fields that has one
 abbrev pub field_default : Env → ValueType → Option Expr → Checked (Unit {0})
 field_default env type None = Ok tt
 field_default env type (Some one) = nothing (default_typed env type one)
@@ -239,8 +242,7 @@ abbrev pub field_rules : Scripts → Home → List (List ℕ) → Field → Chec
 field_rules scripts home before field =
     both (require (not (is_one_of before (out-Field field).name.text)) rule.Twice (place_in home (out-Field field).name.place))
     (type_of scripts home (out-Field field).field_type >>= (λ type.
-    attr_rules home (field_attribute type) with_value [] (out-Field field).attrs >>
-    field_default (env_at scripts home) type (attr_value (codes "default") (out-Field field).attrs))) >> Ok tt
+    attr_rules home (field_attribute type) with_value (λ attr. field_default (env_at scripts home) type attr.value) [] (out-Field field).attrs)) >> Ok tt
 
 abbrev pub fields_rules : (Home → List (List ℕ) → Field → Checked (Unit {0})) → Home → List (List ℕ) → List Field → Checked (Unit {0})
 fields_rules rules home before [] = Ok tt
@@ -259,14 +261,20 @@ nested_to (suc depth) scripts home one = of_form (nested_to depth scripts home) 
         fields_rules (λ home before field. nothing (both (field_rules scripts home before field) (nested (out-Field field).field_type))) home [] fields
     of_form nested other = Ok tt
 
-abbrev pub type_rules : Scripts → Home → «Type» → Checked (Unit {0})
-type_rules scripts home one =
-    nothing (both (type_of scripts home one >>= (λ type. require (not (deeper 200 scripts type)) rule.Recursive (place_in home (type_place one)))) (nested_to (size-Type one) scripts home one))
+-- What there is within a type: it nests not deeper than so many, and its record types keep their rules. What else is broken
+-- in it is told where it is asked for.
+abbrev pub parts_rules : ℕ → Scripts → Home → «Type» → Checked (Unit {0})
+parts_rules most scripts home one = nothing (both (of_type (type_of scripts home one)) (nested_to (size-Type one) scripts home one))
+  where
+    of_type : Checked ValueType → Checked (Unit {0})
+    of_type (Ok type) = require (not (deeper most scripts type)) rule.Recursive (place_in home (type_place one))
+    of_type (Err rules) = Ok tt
 
--- the record types within the types of locals
+abbrev pub type_rules : Scripts → Home → «Type» → Checked (Unit {0})
+type_rules scripts home one = nothing (both (type_of scripts home one) (parts_rules 200 scripts home one))
+
 abbrev pub local_rules : Scripts → Home → Block → Checked (Unit {0})
-local_rules scripts home block =
-    nothing (each (λ tree. nested_to (size-Type tree) scripts home tree) (local_types block))
+local_rules scripts home block = nothing (each (parts_rules 200 scripts home) (local_types block))
 
 abbrev pub maybe_rules : Scripts → Home → Option «Type» → Checked (Unit {0})
 maybe_rules scripts home None = Ok tt
@@ -324,9 +332,6 @@ is_made (init.Value one) = of_form (out-Expr one)
 abbrev pub only_made : Scripts → List ℕ → Bool
 only_made scripts whole = list_all (λ one. not (is_set one.1) || is_made one.2) (values_of scripts whole)
 
-abbrev pub is_expiry : List ℕ → Bool
-is_expiry = is_one_of (codes "create_expire" ∷ codes "read_expire" ∷ codes "write_expire" ∷ [])
-
 abbrev pub is_table : ValueType → Bool
 is_table (Table keys value) = true
 is_table other = false
@@ -348,12 +353,6 @@ const_attribute name = bytes_eq name (codes "redef")
 abbrev pub allowed_in : Lasting → Bool → ValueType → List ℕ → Bool
 allowed_in lasting.Global made type = global_attribute made type
 allowed_in lasting.Const made type = const_attribute
-
--- a second expiry beside another one
-abbrev pub expiry_rules : Home → Bool → List Attr → Checked (Unit {0})
-expiry_rules home seen [] = Ok tt
-expiry_rules home seen (attr ∷ attrs) =
-    both (require (not (seen && is_expiry attr.name)) rule.Attribute (place_in home attr.place)) (expiry_rules home (seen || is_expiry attr.name) attrs) >> Ok tt
 
 -- an expiry is a literal interval
 abbrev pub expiry_value : Env → Expr → Checked DefaultValue
@@ -414,5 +413,4 @@ attr_checked env type attr = of_value attr.value
 
 abbrev pub global_attrs : Scripts → Home → Lasting → List ℕ → ValueType → List Attr → Checked (Unit {0})
 global_attrs scripts home lasting whole type attrs =
-    both (attr_rules home (allowed_in lasting (only_made scripts whole) type) with_value [] attrs) (expiry_rules home false attrs) >>
-    nothing (each (attr_checked (env_at scripts home) type) attrs)
+    attr_rules home (allowed_in lasting (only_made scripts whole) type) with_value (attr_checked (env_at scripts home) type) [] attrs

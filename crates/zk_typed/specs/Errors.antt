@@ -40,7 +40,7 @@ use Rattle.zk_typed.specs.LoadOrder.{File, Home, Stated}
 use Rattle.zk_typed.specs.Names.{Declared, Meant, KnownType, Variable, Event, Hook, Function, BuiltInFunction, Log, Signature, Node, RecordNode, EnumNode, whole_name, look_up, decl_nodes, find_whole}
 use Rattle.zk_typed.specs.Operations.{same_type}
 use Rattle.zk_typed.specs.Predefined as type
-use Rattle.zk_typed.specs.Resolving.{Scripts, FieldInfo, place_in, type_of, type_named, params_of, result_of, maybe_type, fields_of, hushed, has_attr, attr_value}
+use Rattle.zk_typed.specs.Resolving.{Scripts, FieldInfo, place_in, type_of, type_named, params_of, result_of, maybe_type, fields_of, hushed, has_attr}
 use Rattle.zk_typed.specs.Statements.{Context, Within, InFunction, InHook, InHandler, init_typed, body_typed, added_type, Locals}
 use Rattle.zk_typed.specs.Types.{ValueType, Simple, Record}
 use Rattle.zk_typed.specs.Typing.{Typed, Env, Wanted, Nothing, Wants, Unclear, wanted_of, expr_place}
@@ -48,7 +48,7 @@ use Rattle.zk_typed.specs.Making.{is_container}
 use Rattle.zk_typed.specs.Names.{Known, Written}
 use Rattle.zk_typed.specs.Statements.{Stated as Judged}
 use Rattle.zk_typed.specs.Typing.{number_among, is_variable}
-use Rattle.zk_typed.specs.Declarations.{local_rules}
+use Rattle.zk_typed.specs.Declarations.{local_rules, parts_rules}
 use Rattle.zk_typed.specs.Within.{mentions}
 
 -- Globals and constants --------------------------------------------------------------------------------------------
@@ -79,13 +79,22 @@ signature_rules scripts (Known params) = Ok tt
 signature_rules scripts (Written home params «result») =
     nothing (both (param_rules scripts home [] params) (maybe_rules scripts home «result»))
 
+-- a name of events, hooks or functions is given no value
+abbrev pub no_value : Scripts → Home → Option Init → Checked (Unit {0})
+no_value scripts home None = Ok tt
+no_value scripts home (Some one) = init_checked scripts home Nothing one >> broken rule.WrongType (init_place (env_at scripts home) one)
+
+abbrev pub bodiless_rules : Scripts → Home → Signature → Option Init → List Attr → Checked (Unit {0})
+bodiless_rules scripts home signature init attrs =
+    nothing (both (both (signature_rules scripts signature) (no_value scripts home init)) (attr_rules home const_attribute with_value (λ attr. Ok tt) [] attrs))
+
 -- a declaration of a value, or of an event, a hook or a function
 abbrev pub variable_rules : Scripts → Home → Place → Name → Option «Type» → Option Init → List Attr → Meant → Checked (Unit {0})
 variable_rules scripts home place name tree init attrs (Variable same lasting other given more) =
     value_rules scripts home place tree init >>= (λ type. global_attrs scripts home lasting (whole_name home.module_name name.text) type attrs)
-variable_rules scripts home place name tree init attrs (Event signature) = signature_rules scripts signature >> attr_rules home const_attribute with_value [] attrs
-variable_rules scripts home place name tree init attrs (Hook signature) = signature_rules scripts signature >> attr_rules home const_attribute with_value [] attrs
-variable_rules scripts home place name tree init attrs (Function signature) = signature_rules scripts signature >> attr_rules home const_attribute with_value [] attrs
+variable_rules scripts home place name tree init attrs (Event signature) = bodiless_rules scripts home signature init attrs
+variable_rules scripts home place name tree init attrs (Hook signature) = bodiless_rules scripts home signature init attrs
+variable_rules scripts home place name tree init attrs (Function signature) = bodiless_rules scripts home signature init attrs
 variable_rules scripts home place name tree init attrs other = Ok tt
 
 -- Values given anew ------------------------------------------------------------------------------------------------
@@ -131,7 +140,7 @@ redef_record_rules scripts before home name fields (Ok type) = of_type type
   where
     of_type : ValueType → Checked (Unit {0})
     of_type (Record number) =
-        fields_rules (λ home earlier field. nothing (both (field_rules scripts home earlier field) (added_rules scripts home number.0 field)))
+        fields_rules (λ home earlier field. nothing (both (both (field_rules scripts home earlier field) (parts_rules 199 scripts home (out-Field field).field_type)) (added_rules scripts home number.0 field)))
         home (field_names (fields_of before number.0)) fields
     of_type other = broken rule.WrongType (place_in home name.place)
 
@@ -207,7 +216,7 @@ result_wanted scripts home (Some tree) = Some (wanted_of (type_of scripts home t
 abbrev pub event_rules : Scripts → Home → Place → BodyKind → Name → List Param → List Attr → Block → Checked (Unit {0})
 event_rules scripts home place kind name params attrs block =
     nothing (both (both (param_rules scripts home [] params) (head_rules scripts home place name (kind_of kind) params None (look_up scripts.names home.module_name name.text)))
-    (both (attr_rules home (is_one_of (codes "priority" ∷ [])) with_value [] attrs >> priority_rules scripts home (attr_value (codes "priority") attrs))
+    (both (attr_rules home (is_one_of (codes "priority" ∷ [])) with_value (λ attr. priority_rules scripts home attr.value) [] attrs)
     (both (local_rules scripts home block) (body_made scripts home (within_of kind) params block).made)))
 
 -- an earlier body of the same function

@@ -29,7 +29,7 @@ use Rattle.zk_typed.specs.declared.script.primitive.Unary.TheVariants as unary
 use Rattle.zk_typed.specs.declared.script.types.SimpleType.TheVariants as simple
 use Rattle.zk_typed.specs.Checked.{Checked, broken, ◌>>=◌, ◌>>◌, both, require}
 use Rattle.zk_typed.specs.Forms as form
-use Rattle.zk_typed.specs.Making.{container_typed, brackets_typed, item_values, post_typed, called_name, hook_typed}
+use Rattle.zk_typed.specs.Making.{container_typed, brackets_typed, members_in, post_typed, called_name, hook_typed}
 use Rattle.zk_typed.specs.Names.{Declared, Meant, Variable}
 use Rattle.zk_typed.specs.Operations.{same_type, relation_of}
 use Rattle.zk_typed.specs.Predefined as type
@@ -208,7 +208,7 @@ expr_to (suc depth) env wanted one = of_form (expr_to depth env) (out-Expr one)
     of_form check (written.Parenthesis place inner) = check wanted inner
     of_form check (written.Size place inner) = fitting (check Nothing inner >>= size_typed (expr_place env inner))
     of_form check (written.List place items) = brackets_typed check env (at env place) items wanted
-    of_form check (written.Make place container items) = container_typed check env (at env place) container (item_values items) wanted
+    of_form check (written.Make place container items) = container_typed check env (at env place) container (members_in check env items) wanted
     of_form check (written.Hook place name items) = fitting (hook_typed check env (at env place) name items (found env name))
 
 abbrev pub expr_typed : Env → Wanted → Expr → Checked Typed

@@ -3,6 +3,7 @@
 use Rattle.std.specs.Prelude.{ℕ, zero, suc, ◌+◌, ◌==◌, nat_le, Bool, true, false, not, ◌&&◌, ◌||◌, List, [], ◌∷◌, ◌++◌, length, map, filter, flat_map, codes, Option, Some, None, Ok, Err, if◌then◌else◌, bytes_eq}
 use Rattle.std.specs.Char.{to_ascii_lowercase}
 use Rattle.std.specs.List.{list_any, list_all}
+use Rattle.std.specs.Option.{option_map}
 use Rattle.zk_base.specs.declared.numbers.EventNo.{EventNo}
 use Rattle.zk_base.specs.declared.numbers.HookNo.{HookNo}
 use Rattle.zk_base.specs.declared.numbers.LogId.{LogId}
@@ -33,7 +34,7 @@ use Rattle.zk_typed.specs.declared.rule.Rule.TheVariants as rule
 use Rattle.zk_typed.specs.declared.script.log_call.LogCall.{LogCall}
 use Rattle.zk_typed.specs.declared.script.log_call.LogCall.TheVariants as log
 use Rattle.zk_typed.specs.declared.script.primitive.Primitive.TheVariants as primitive
-use Rattle.zk_typed.specs.Checked.{Checked, broken, ◌>>=◌, ◌>>◌, both, each, require, or_broken}
+use Rattle.zk_typed.specs.Checked.{Checked, broken, elsewhere, ◌>>=◌, ◌>>◌, both, each, require, or_broken}
 use Rattle.zk_typed.specs.Columns.{type_name}
 use Rattle.zk_typed.specs.Forms as form
 use Rattle.zk_typed.specs.LoadOrder.{Home}
@@ -42,7 +43,7 @@ use Rattle.zk_typed.specs.Operations.{same_type}
 use Rattle.zk_typed.specs.Predefined as type
 use Rattle.zk_typed.specs.Resolving.{Scripts, FieldInfo, place_in, type_named, params_of, fields_of}
 use Rattle.zk_typed.specs.Types.{ValueType, Record}
-use Rattle.zk_typed.specs.Typing.{Typed, typed, Env, at, expr_place, Nothing, Wants, Unclear, Check, number_among, is_event, is_hook, found}
+use Rattle.zk_typed.specs.Typing.{Typed, typed, Env, at, expr_place, Nothing, Wants, Unclear, Wanted, Check, number_among, is_event, is_hook, found, on_item}
 
 -- Calls in the texts -------------------------------------------------------------------------------------------------
 
@@ -205,41 +206,64 @@ named_record scripts home one = of_form (out-Expr one)
     of_form (written.Name name) = type_named scripts home name >>= of_type
     of_form other = broken rule.WrongType place
 
--- the record type that a call of `create_stream` gives to a word
-abbrev pub created_in : Scripts → List ℕ → Call → List RecordNo
+abbrev pub optional : {A : Type 0} → (Expr → Checked A) → Option Expr → Checked (Option A)
+optional check None = Ok None
+optional check (Some one) = check one >>= (λ given. Ok (Some given))
+
+-- the record type that `$columns` names
+abbrev pub columns_type : Scripts → Home → List Item → Checked (Option RecordNo)
+columns_type scripts home items = optional (named_record scripts home) (setting (codes "columns") items)
+
+abbrev pub if_known : Checked (Option RecordNo) → Option RecordNo
+if_known (Ok one) = one
+if_known (Err rules) = None
+
+-- the record type that a call of `create_stream` gives to a word, where it is known
+abbrev pub created_in : Scripts → List ℕ → Call → List (Option RecordNo)
 created_in scripts word call = of_items call.items
   where
-    of_columns : Option Expr → List RecordNo
-    of_columns None = []
-    of_columns (Some one) = of_type (named_record scripts call.home one)
-      where
-        of_type : Checked RecordNo → List RecordNo
-        of_type (Ok number) = number ∷ []
-        of_type (Err rules) = []
+    of_settings : Option (List Item) → Option RecordNo
+    of_settings None = None
+    of_settings (Some items) = if_known (columns_type scripts call.home items)
 
-    of_settings : Option (List Item) → List RecordNo
-    of_settings None = []
-    of_settings (Some items) = of_columns (setting (codes "columns") items)
+    of_others : List Item → Option RecordNo
+    of_others (one ∷ []) = of_settings (settings (item_expr one))
+    of_others others = None
 
-    of_word : Option Declared → Expr → List RecordNo
-    of_word None one = []
-    of_word (Some declared) one = if bytes_eq declared.name word then of_settings (settings one) else []
+    of_word : Option Declared → List Item → List (Option RecordNo)
+    of_word None others = []
+    of_word (Some declared) others = if bytes_eq declared.name word then of_others others ∷ [] else []
 
-    of_items : List Item → List RecordNo
-    of_items (first ∷ second ∷ []) = of_word (word_of scripts call.home (item_expr first)) (item_expr second)
-    of_items other = []
+    of_items : List Item → List (Option RecordNo)
+    of_items [] = []
+    of_items (first ∷ others) = of_word (word_of scripts call.home (item_expr first)) others
 
--- the record types that are given to a word
-abbrev pub stream_types : Scripts → List ℕ → List RecordNo
-stream_types scripts word = flat_map (created_in scripts word) (filter (creates scripts) (all_calls scripts))
+-- what two streams of one log say
+abbrev pub agreed : Option RecordNo → Option RecordNo → Option (Option RecordNo)
+agreed None other = Some other
+agreed one None = Some one
+agreed (Some one) (Some other) = if one.0 == other.0 then Some (Some one) else None
 
--- a log has one record type
-abbrev pub one_type : List RecordNo → Option RecordNo
+-- A log has one record type. It has none where it has no stream or two of different types, and it isn't known where its
+-- streams are broken.
+abbrev pub one_type : List (Option RecordNo) → Option (Option RecordNo)
 one_type [] = None
-one_type (first ∷ others) = if list_all (λ other. other.0 == first.0) others then Some first else None
+one_type (first ∷ others) = of_others others (one_type others)
+  where
+    of_others : List (Option RecordNo) → Option (Option RecordNo) → Option (Option RecordNo)
+    of_others [] more = Some first
+    of_others others None = None
+    of_others others (Some other) = agreed first other
+
+abbrev pub log_type : Scripts → List ℕ → Option (Option RecordNo)
+log_type scripts word = one_type (flat_map (created_in scripts word) (filter (creates scripts) (all_calls scripts)))
 
 abbrev pub stream_type : Scripts → List ℕ → Option RecordNo
-stream_type scripts word = one_type (stream_types scripts word)
+stream_type scripts word = of_type (log_type scripts word)
+  where
+    of_type : Option (Option RecordNo) → Option RecordNo
+    of_type None = None
+    of_type (Some type) = type
 
 -- Columns ------------------------------------------------------------------------------------------------------------
 
@@ -304,14 +328,10 @@ path_literal env one = or_broken (text_of one) rule.Format (expr_place env one) 
 abbrev pub log_path : Env → Expr → Checked (List ℕ)
 log_path env one = path_literal env one >>= (λ bytes. require (not (bytes_eq bytes (codes "reporter"))) rule.Twice (expr_place env one) >> Ok bytes)
 
-abbrev pub optional : {A : Type 0} → (Expr → Checked A) → Option Expr → Checked (Option A)
-optional check None = Ok None
-optional check (Some one) = check one >>= (λ given. Ok (Some given))
-
 -- without `$path`, that of the word's module in lower case
-abbrev pub path_or_module : Env → Place → Declared → Option Expr → Checked (List ℕ)
-path_or_module env place word (Some one) = log_path env one
-path_or_module env place word None = of_module (map to_ascii_lowercase (module_or_none (module_in word.name)))
+abbrev pub path_or_module : Place → Declared → Option (List ℕ) → Checked (List ℕ)
+path_or_module place word (Some path) = Ok path
+path_or_module place word None = of_module (map to_ascii_lowercase (module_or_none (module_in word.name)))
   where
     of_module : List ℕ → Checked (List ℕ)
     of_module bytes = require (is_path bytes) rule.Format place >> (require (not (bytes_eq bytes (codes "reporter"))) rule.Twice place >> Ok bytes)
@@ -321,15 +341,20 @@ same_types [] [] = true
 same_types (a ∷ xs) (b ∷ ys) = same_type a b && same_types xs ys
 same_types xs ys = false
 
-abbrev pub named_signature : Env → (Meant → Option Signature) → List ValueType → Expr → Checked Declared
+-- a name of a kind with parameters of these types, where they are known
+abbrev pub named_signature : Env → (Meant → Option Signature) → Option (List ValueType) → Expr → Checked Declared
 named_signature env kind wanted one = of_form (out-Expr one)
   where
     place : Place
     place = expr_place env one
 
+    of_params : Option (List ValueType) → List ValueType → Checked (Unit {0})
+    of_params None params = Ok tt
+    of_params (Some types) params = require (same_types params types) rule.WrongType place
+
     of_kind : Declared → Option Signature → Checked Declared
     of_kind declared None = broken rule.WrongType place
-    of_kind declared (Some signature) = params_of env.scripts signature >>= (λ params. require (same_types params wanted) rule.WrongType place >> Ok declared)
+    of_kind declared (Some signature) = params_of env.scripts signature >>= (λ params. of_params wanted params >> Ok declared)
 
     of_declared : Option Declared → Checked Declared
     of_declared None = broken rule.Unknown place
@@ -348,20 +373,25 @@ hook_kind (Hook signature) = Some signature
 hook_kind other = None
 
 -- `$ev` takes the record
-abbrev pub event_setting : Env → RecordNo → Expr → Checked EventNo
-event_setting env number one = named_signature env event_kind (Record number ∷ []) one >>= (λ declared. Ok (record { 0 = number_among is_event env.scripts declared }))
+abbrev pub event_setting : Env → Option RecordNo → Expr → Checked EventNo
+event_setting env number one =
+    named_signature env event_kind (option_map (λ one. Record one ∷ []) number) one >>= (λ declared. Ok (record { 0 = number_among is_event env.scripts declared }))
 
 -- `$policy` takes the record, the word and the filter
-abbrev pub policy_setting : Env → RecordNo → Expr → Checked HookNo
+abbrev pub policy_setting : Env → Option RecordNo → Expr → Checked HookNo
 policy_setting env number one =
-    named_signature env hook_kind (Record number ∷ type.log_id ∷ Record type.filter_record ∷ []) one >>= (λ declared. Ok (record { 0 = number_among is_hook env.scripts declared }))
+    named_signature env hook_kind (option_map (λ one. Record one ∷ type.log_id ∷ Record type.filter_record ∷ []) number) one >>= (λ declared. Ok (record { 0 = number_among is_hook env.scripts declared }))
 
 -- the names of `set("a", "b")`
 abbrev pub names_setting : Env → Expr → Checked (List (List ℕ))
 names_setting env one = of_form (out-Expr one)
   where
+    literal_in : Item-F Expr Item Part Link → Option (List ℕ)
+    literal_in (written.Value value) = text_of value
+    literal_in (written.Item::Field place name value) = None
+
     literal_item : Item → Checked (List ℕ)
-    literal_item item = or_broken (text_of (item_expr item)) rule.Format (expr_place env one)
+    literal_item item = or_broken (literal_in (out-Item item)) rule.Format (expr_place env one)
 
     of_container : Container → List Item → Checked (List (List ℕ))
     of_container container.Set items = each literal_item items
@@ -378,16 +408,16 @@ abbrev pub setting_name : Item-F Expr Item Part Link → List (List ℕ) → Lis
 setting_name (written.Item::Field place name value) before = name.text ∷ before
 setting_name (written.Value value) before = before
 
-abbrev pub setting_rules : Env → List (List ℕ) → List (List ℕ) → Item-F Expr Item Part Link → Checked (Unit {0})
-setting_rules env allowed before (written.Item::Field place name value) =
+abbrev pub setting_rules : Check → Env → List (List ℕ) → List (List ℕ) → Item-F Expr Item Part Link → Checked (Unit {0})
+setting_rules check env allowed before (written.Item::Field place name value) =
     require (among name.text allowed) rule.Field (at env place) >> require (not (among name.text before)) rule.Twice (at env place)
-setting_rules env allowed before (written.Value value) = broken rule.WrongType (expr_place env value)
+setting_rules check env allowed before (written.Value value) = check Nothing value >> broken rule.WrongType (expr_place env value)
 
 -- no other settings than these, and none twice
-abbrev pub only_settings : Env → List (List ℕ) → List (List ℕ) → List Item → Checked (Unit {0})
-only_settings env allowed before [] = Ok tt
-only_settings env allowed before (item ∷ items) =
-    both (setting_rules env allowed before (out-Item item)) (only_settings env allowed (setting_name (out-Item item) before) items) >> Ok tt
+abbrev pub only_settings : Check → Env → List (List ℕ) → List (List ℕ) → List Item → Checked (Unit {0})
+only_settings check env allowed before [] = Ok tt
+only_settings check env allowed before (item ∷ items) =
+    both (setting_rules check env allowed before (out-Item item)) (only_settings check env allowed (setting_name (out-Item item) before) items) >> Ok tt
 
 -- Calls --------------------------------------------------------------------------------------------------------------
 
@@ -397,13 +427,16 @@ log_form call = typed type.bool (form.Apply (primitive.Log call) form.NoExpr)
 abbrev pub log_no : Env → Declared → LogId
 log_no env word = record { 0 = number_among is_log_word env.scripts word }
 
-abbrev pub create_typed : Env → Place → Declared → Place → List Item → Checked Typed
-create_typed env place word brackets items =
-    only_settings env (codes "columns" ∷ codes "ev" ∷ codes "path" ∷ codes "policy" ∷ []) [] items >>
-    (or_broken (setting (codes "columns") items) rule.Field brackets >>= named_record env.scripts env.home >>= (λ number.
-    both (optional (event_setting env number) (setting (codes "ev") items))
-    (both (path_or_module env place word (setting (codes "path") items)) (optional (policy_setting env number) (setting (codes "policy") items))) >>= (λ parts.
-    Ok (log_form (log.Create (log_no env word) parts.0 parts.1.0 parts.1.1 (places_of (λ leaf. leaf.log) 0 (leaves env.scripts number)))))))
+-- All settings are judged. That one is missing is told of the brackets, and what is wrong with the module's path of the call.
+abbrev pub create_typed : Check → Env → Place → Declared → Place → List Item → Checked Typed
+create_typed check env place word brackets items =
+    let columns = columns_type env.scripts env.home items in
+    both (only_settings check env (codes "columns" ∷ codes "ev" ∷ codes "path" ∷ codes "policy" ∷ []) [] items)
+    (both (both columns (optional (event_setting env (if_known columns)) (setting (codes "ev") items)))
+    (both (optional (log_path env) (setting (codes "path") items)) (optional (policy_setting env (if_known columns)) (setting (codes "policy") items)))) >>= (λ parts.
+    or_broken parts.1.0.0 rule.Field brackets >>= (λ number.
+    path_or_module place word parts.1.1.0 >>= (λ path.
+    Ok (log_form (log.Create (log_no env word) parts.1.0.1 path parts.1.1.1 (places_of (λ leaf. leaf.log) 0 (leaves env.scripts number)))))))
 
 -- the columns that a filter keeps: those that are included, all where none is named, but those that are excluded
 abbrev pub keeps : Option (List (List ℕ)) → Option (List (List ℕ)) → LeafInfo → Bool
@@ -413,14 +446,20 @@ keeps included excluded leaf = is_in included true && not (is_in excluded false)
     is_in None otherwise = otherwise
     is_in (Some names) otherwise = among leaf.name names
 
-abbrev pub filter_typed : Env → Place → Declared → RecordNo → Place → List Item → Checked Typed
-filter_typed env place word number brackets items =
-    only_settings env (codes "name" ∷ codes "path" ∷ codes "include" ∷ codes "exclude" ∷ codes "policy" ∷ []) [] items >>
-    (both (or_broken (setting (codes "name") items) rule.Field brackets >>= path_literal env) (optional (log_path env) (setting (codes "path") items)) >>= (λ first.
-    both (both (optional (names_setting env) (setting (codes "include") items)) (optional (names_setting env) (setting (codes "exclude") items)))
-    (optional (policy_setting env number) (setting (codes "policy") items)) >>= (λ second.
-    Ok (log_form (log.AddFilter (log_no env word) first.0 first.1 second.1
-    (places_of (keeps second.0.0 second.0.1) 0 (logged (leaves env.scripts number))))))))
+-- what the type of a log says, where it is known
+abbrev pub of_known : {A : Type 0} → Option RecordNo → (RecordNo → A) → Checked A
+of_known None of_type = elsewhere
+of_known (Some number) of_type = Ok (of_type number)
+
+abbrev pub filter_typed : Check → Env → Declared → Option RecordNo → Place → List Item → Checked Typed
+filter_typed check env word known brackets items =
+    both (both (only_settings check env (codes "name" ∷ codes "path" ∷ codes "include" ∷ codes "exclude" ∷ codes "policy" ∷ []) [] items)
+    (both (optional (path_literal env) (setting (codes "name") items)) (optional (log_path env) (setting (codes "path") items))))
+    (both (both (optional (names_setting env) (setting (codes "include") items)) (optional (names_setting env) (setting (codes "exclude") items)))
+    (optional (policy_setting env known) (setting (codes "policy") items))) >>= (λ parts.
+    or_broken parts.0.1.0 rule.Field brackets >>= (λ name.
+    of_known known (λ number. log_form (log.AddFilter (log_no env word) name parts.0.1.1 parts.1.1
+    (places_of (keeps parts.1.0.0 parts.1.0.1) 0 (logged (leaves env.scripts number)))))))
 
 abbrev pub bracketed : Expr → Option (ℕ × List Item)
 bracketed one = of_form (out-Expr one)
@@ -436,26 +475,35 @@ with_settings check env typing one = of_brackets (bracketed one)
     of_brackets None = check Unclear one >> broken rule.WrongType (expr_place env one)
     of_brackets (Some items) = typing (at env items.0) items.1
 
--- what a call of the log framework does with a word that has a stream of one record type
-abbrev pub log_of : Check → Env → Place → LogFunction → Declared → RecordNo → List Expr → Checked Typed
-log_of check env place CreateStream word number (one ∷ []) = with_settings check env (create_typed env place word) one
-log_of check env place AddFilter word number (one ∷ []) = with_settings check env (filter_typed env place word number) one
-log_of check env place RemoveFilter word number (one ∷ []) = path_literal env one >>= (λ name. Ok (log_form (log.RemoveFilter (log_no env word) name)))
-log_of check env place RemoveDefaultFilter word number [] = Ok (log_form (log.RemoveFilter (log_no env word) (codes "default")))
-log_of check env place Write word number (one ∷ []) = check (Wants (Record number)) one >>= (λ row. Ok (typed type.bool (form.Write (log_no env word) row.expr)))
-log_of check env place other word number args = each (check Unclear) args >> broken rule.Arguments place
+abbrev pub row_wanted : Option RecordNo → Wanted
+row_wanted None = Unclear
+row_wanted (Some number) = Wants (Record number)
+
+-- what a call of the log framework does with a word that has a stream
+abbrev pub log_of : Check → Env → Place → LogFunction → Declared → Option RecordNo → List Item → Checked Typed
+log_of check env place CreateStream word known (one ∷ []) = on_item check env (with_settings check env (create_typed check env place word)) one
+log_of check env place AddFilter word known (one ∷ []) = on_item check env (with_settings check env (filter_typed check env word known)) one
+log_of check env place RemoveFilter word known (one ∷ []) = on_item check env (path_literal env) one >>= (λ name. Ok (log_form (log.RemoveFilter (log_no env word) name)))
+log_of check env place RemoveDefaultFilter word known [] = Ok (log_form (log.RemoveFilter (log_no env word) (codes "default")))
+log_of check env place Write word known (one ∷ []) = on_item check env (check (row_wanted known)) one >>= (λ row. Ok (typed type.bool (form.Write (log_no env word) row.expr)))
+log_of check env place other word known args = each (on_item check env (check Unclear)) args >> broken rule.Arguments place
+
+-- the word of a log that has a stream, with its record type
+abbrev pub log_word : Check → Env → Expr → Checked (Declared × Option RecordNo)
+log_word check env one = of_word (word_of env.scripts env.home one)
+  where
+    wrong : Checked (Declared × Option RecordNo)
+    wrong = check Nothing one >> broken rule.WrongType (expr_place env one)
+
+    of_type : Declared → Option (Option RecordNo) → Checked (Declared × Option RecordNo)
+    of_type word None = wrong
+    of_type word (Some type) = Ok (word, type)
+
+    of_word : Option Declared → Checked (Declared × Option RecordNo)
+    of_word None = wrong
+    of_word (Some word) = of_type word (log_type env.scripts word.name)
 
 abbrev pub log_typed : Check → Env → Place → LogFunction → List Item → Checked Typed
 log_typed check env place function [] = broken rule.Arguments place
-log_typed check env place function (first ∷ others) = of_word (word_of env.scripts env.home (item_expr first))
-  where
-    wrong : Checked Typed
-    wrong = check Nothing (item_expr first) >> broken rule.WrongType (expr_place env (item_expr first))
-
-    of_type : Declared → Option RecordNo → Checked Typed
-    of_type word None = wrong
-    of_type word (Some number) = log_of check env place function word number (map item_expr others)
-
-    of_word : Option Declared → Checked Typed
-    of_word None = wrong
-    of_word (Some word) = of_type word (stream_type env.scripts word.name)
+log_typed check env place function (first ∷ others) =
+    on_item check env (log_word check env) first >>= (λ word. log_of check env place function word.0 word.1 others)

@@ -34,17 +34,13 @@ use Rattle.zk_typed.specs.Predefined as type
 use Rattle.zk_typed.specs.Predefined.{record_no}
 use Rattle.zk_typed.specs.Resolving.{FieldInfo, fields_of, params_of, result_of, type_named}
 use Rattle.zk_typed.specs.Types.{ValueType, Simple, Record, Table, Set, Vector}
-use Rattle.zk_typed.specs.Typing.{Typed, typed, Env, at, exprs, apply, expr_place, Wanted, Nothing, Wants, Unclear, wanted_of, Check, fits, simple_type, printable, found, number_among, is_function, is_hook, local_named}
+use Rattle.zk_typed.specs.Typing.{Typed, typed, Env, at, exprs, apply, expr_place, Wanted, Nothing, Wants, Unclear, wanted_of, Check, fits, simple_type, printable, found, number_among, is_function, is_hook, local_named, on_item, left_of_in}
 use Rattle.zk_tree.specs.declared.expr.Literal.{Literal}
 
 -- Arguments ----------------------------------------------------------------------------------------------------------
 
 abbrev pub argument : Check → Env → Wanted → Item → Checked Typed
-argument check env wanted item = of_item (out-Item item)
-  where
-    of_item : Item-F Expr Item Part Link → Checked Typed
-    of_item (written.Value value) = check wanted value
-    of_item (written.Item::Field place name value) = check Nothing value >> broken rule.WrongType (at env place)
+argument check env wanted = on_item check env (check wanted)
 
 -- the arguments that have a parameter
 abbrev pub matched : Check → Env → List ValueType → List Item → Checked (List Typed)
@@ -183,13 +179,15 @@ record_typed check env place number items =
 abbrev pub plain_shape : List SimpleType → Shape
 plain_shape keys = record { keys = length keys; expiry = None; default = None }
 
-abbrev pub item_values : List Item → List Expr
-item_values [] = []
-item_values (item ∷ items) = of_item (out-Item item) (item_values items)
-  where
-    of_item : Item-F Expr Item Part Link → List Expr → List Expr
-    of_item (written.Value value) others = value ∷ others
-    of_item (written.Item::Field place name value) others = value ∷ others
+-- the members of a container, by what each is to be
+abbrev pub Members : Type 0
+Members = (Expr → Checked (List Typed)) → Checked (List (List Typed))
+
+abbrev pub members_in : Check → Env → List Item → Members
+members_in check env items judge = each (on_item check env judge) items
+
+abbrev pub one_value : Check → Wanted → Expr → Checked (List Typed)
+one_value check wanted one = check wanted one >>= (λ value. Ok (value ∷ []))
 
 -- the keys of a member: one, or several in brackets
 abbrev pub bracketed : Expr → Option (ℕ × List Item)
@@ -231,15 +229,35 @@ entry check env keys value one = of_form (out-Expr one)
     of_form (written.Assign left assigning.Set right) = of_brackets right (bracketed left)
     of_form other = wrong
 
+-- a member where no container of its kind is wanted: an entry by its keys and its value, and several keys one by one
+abbrev pub loose : Check → Env → Wanted → Expr → Checked (List Typed)
+loose check env wanted one = of_form (out-Expr one)
+  where
+    of_keys : Option (ℕ × List Item) → Checked (List Typed)
+    of_keys None = one_value check wanted one
+    of_keys (Some items) = each (argument check env wanted) items.1
+
+    of_entry : Expr → Option (ℕ × List Item) → Checked (List Typed)
+    of_entry right None = one_value check wanted one
+    of_entry right (Some items) = both (each (argument check env wanted) items.1) (check wanted right) >>= (λ parts. Ok (parts.0 ++ parts.1 ∷ []))
+
+    of_form : Expr-F Expr Item Part Link → Checked (List Typed)
+    of_form (written.Assign left assigning.Set right) = of_entry right (bracketed left)
+    of_form other = of_keys (bracketed one)
+
+abbrev pub loosely : Check → Env → Container → Wanted → Expr → Checked (List Typed)
+loosely check env container.Vector wanted = one_value check wanted
+loosely check env other wanted = loose check env wanted
+
 -- a container of a type that is wanted
-abbrev pub wanted_container : Check → Env → Place → Container → List Expr → ValueType → Checked Typed
-wanted_container check env place container.Table items (Table keys value) =
-    each (entry check env keys value) items >>= (λ parts. Ok (typed (Table keys value) (apply (primitive.NewTable (plain_shape keys)) (joined parts))))
-wanted_container check env place container.Set items (Set keys) =
-    each (member_keys check env keys) items >>= (λ parts. Ok (typed (Set keys) (apply (primitive.NewSet (plain_shape keys)) (joined parts))))
-wanted_container check env place container.Vector items (Vector item) =
-    each (check (Wants item)) items >>= (λ parts. Ok (typed (Vector item) (apply primitive.NewVector parts)))
-wanted_container check env place made items other = each (check Nothing) items >> broken rule.WrongType place
+abbrev pub wanted_container : Check → Env → Place → Container → Members → ValueType → Checked Typed
+wanted_container check env place container.Table members (Table keys value) =
+    members (entry check env keys value) >>= (λ parts. Ok (typed (Table keys value) (apply (primitive.NewTable (plain_shape keys)) (joined parts))))
+wanted_container check env place container.Set members (Set keys) =
+    members (member_keys check env keys) >>= (λ parts. Ok (typed (Set keys) (apply (primitive.NewSet (plain_shape keys)) (joined parts))))
+wanted_container check env place container.Vector members (Vector item) =
+    members (one_value check (Wants item)) >>= (λ parts. Ok (typed (Vector item) (apply primitive.NewVector (joined parts))))
+wanted_container check env place made members other = members (loosely check env made Nothing) >> broken rule.WrongType place
 
 abbrev pub types_same : ValueType → List Typed → Bool
 types_same type others = list_all (λ one. same_type one.type type) others
@@ -249,14 +267,6 @@ abbrev pub vector_alone : Place → List Typed → Checked Typed
 vector_alone place [] = broken rule.WrongType place
 vector_alone place (first ∷ others) =
     require (types_same first.type others) rule.WrongType place >> Ok (typed (Vector first.type) (apply primitive.NewVector (first ∷ others)))
-
--- the keys of a member where no type is wanted
-abbrev pub keys_alone : Check → Env → Expr → Checked (List Typed)
-keys_alone check env one = of_brackets (bracketed one)
-  where
-    of_brackets : Option (ℕ × List Item) → Checked (List Typed)
-    of_brackets None = check Nothing one >>= (λ key. Ok (key ∷ []))
-    of_brackets (Some items) = each (argument check env Nothing) items.1
 
 abbrev pub simple_types : Place → List Typed → Checked (List SimpleType)
 simple_types place ones = each (simple_type place) ones
@@ -272,23 +282,29 @@ set_alone place (first ∷ others) = simple_types place first >>= (λ keys.
     fitting (key ∷ keys) [] = true
     fitting (key ∷ keys) (one ∷ ones) = same_type one.type (Simple key) && fitting keys ones
 
-abbrev pub container_alone : Check → Env → Place → Container → List Expr → Checked Typed
-container_alone check env place container.Set items = each (keys_alone check env) items >>= set_alone place
-container_alone check env place container.Vector items = each (check Nothing) items >>= vector_alone place
-container_alone check env place container.Table items = broken rule.WrongType place
+abbrev pub container_alone : Check → Env → Place → Container → Members → Checked Typed
+container_alone check env place container.Set members = members (left_of_in check env) >>= set_alone place
+container_alone check env place container.Vector members = members (one_value check Nothing) >>= (λ parts. vector_alone place (joined parts))
+container_alone check env place container.Table members = members (loose check env Nothing) >> broken rule.WrongType place
 
-abbrev pub container_typed : Check → Env → Place → Container → List Expr → Wanted → Checked Typed
-container_typed check env place made items Nothing = container_alone check env place made items
-container_typed check env place made items Unclear = each (check Unclear) items >> elsewhere
-container_typed check env place made items (Wants wanted) = wanted_container check env place made items wanted
+abbrev pub container_typed : Check → Env → Place → Container → Members → Wanted → Checked Typed
+container_typed check env place made members Nothing = container_alone check env place made members
+container_typed check env place made members Unclear = members (loosely check env made Unclear) >> elsewhere
+container_typed check env place made members (Wants wanted) = wanted_container check env place made members wanted
 
 -- braces make what is wanted
 abbrev pub braces_typed : Check → Env → Place → List Expr → Wanted → Checked Typed
-braces_typed check env place items (Wants (Table keys value)) = wanted_container check env place container.Table items (Table keys value)
-braces_typed check env place items (Wants (Set keys)) = wanted_container check env place container.Set items (Set keys)
-braces_typed check env place items (Wants (Vector item)) = wanted_container check env place container.Vector items (Vector item)
-braces_typed check env place items Unclear = each (check Unclear) items >> elsewhere
-braces_typed check env place items other = broken rule.WrongType place
+braces_typed check env place values wanted = of_wanted wanted
+  where
+    members : Members
+    members judge = each judge values
+
+    of_wanted : Wanted → Checked Typed
+    of_wanted (Wants (Table keys value)) = wanted_container check env place container.Table members (Table keys value)
+    of_wanted (Wants (Set keys)) = wanted_container check env place container.Set members (Set keys)
+    of_wanted (Wants (Vector item)) = wanted_container check env place container.Vector members (Vector item)
+    of_wanted Unclear = members (loose check env Unclear) >> elsewhere
+    of_wanted other = members (loose check env Nothing) >> broken rule.WrongType place
 
 abbrev pub brackets_typed : Check → Env → Place → List Item → Wanted → Checked Typed
 brackets_typed check env place items Unclear = each (argument check env Unclear) items >> elsewhere
@@ -358,18 +374,21 @@ option_verbs (Some text) = verbs text
 abbrev pub printed : Check → Env → Expr → Checked Typed
 printed check env one = check Nothing one >>= printable env one
 
-abbrev pub fmt_typed : Check → Env → Place → List Expr → Checked Called
+-- the text of `fmt`, a literal, with its verbs
+abbrev pub format_text : Check → Env → Expr → Checked (Typed × List ℕ)
+format_text check env one = check Nothing one >>= (λ text. or_broken (option_verbs (text_literal one)) rule.Format (expr_place env one) >>= (λ verbs. Ok (text, verbs)))
+
+abbrev pub fmt_typed : Check → Env → Place → List Item → Checked Called
 fmt_typed check env place [] = broken rule.Arguments place
 fmt_typed check env place (text ∷ others) =
-    both (check Nothing text >> or_broken (option_verbs (text_literal text)) rule.Format (expr_place env text)) (each (printed check env) others) >>= (λ parts.
-    require (verbs_take parts.0 parts.1) rule.Format place >>
-    (check Nothing text >>= (λ first. gives (typed type.string (built_in_call built_in.Fmt (first ∷ parts.1))))))
+    both (on_item check env (format_text check env) text) (each (on_item check env (printed check env)) others) >>= (λ parts.
+    require (verbs_take parts.0.1 parts.1) rule.Format place >> gives (typed type.string (built_in_call built_in.Fmt (parts.0.0 ∷ parts.1))))
 
-abbrev pub cat_typed : Check → Env → List Expr → Checked Called
-cat_typed check env values = each (printed check env) values >>= (λ args. gives (typed type.string (built_in_call built_in.Cat args)))
+abbrev pub cat_typed : Check → Env → List Item → Checked Called
+cat_typed check env items = each (on_item check env (printed check env)) items >>= (λ args. gives (typed type.string (built_in_call built_in.Cat args)))
 
-abbrev pub copy_typed : Check → Env → Place → List Expr → Checked Called
-copy_typed check env place values = each (check Nothing) values >>= of_one
+abbrev pub copy_typed : Check → Env → Place → List Item → Checked Called
+copy_typed check env place items = each (argument check env Nothing) items >>= of_one
   where
     of_one : List Typed → Checked Called
     of_one (one ∷ []) = gives (typed one.type (built_in_call built_in.Copy (one ∷ [])))
@@ -380,18 +399,10 @@ by_row check env place function items None = broken rule.WrongType place
 by_row check env place function items (Some row) =
     arguments check env place (Ok row.0) items >>= (λ args. gives (typed row.1 (built_in_call function args)))
 
--- the arguments of a call that take no wanted type
-abbrev pub unnamed : Env → Item → Checked Expr
-unnamed env item = of_item (out-Item item)
-  where
-    of_item : Item-F Expr Item Part Link → Checked Expr
-    of_item (written.Value value) = Ok value
-    of_item (written.Item::Field place name value) = broken rule.WrongType (at env place)
-
 abbrev pub built_in_typed : Check → Env → Place → BuiltIn → List Item → Checked Called
-built_in_typed check env place built_in.Fmt items = each (unnamed env) items >>= fmt_typed check env place
-built_in_typed check env place built_in.Cat items = each (unnamed env) items >>= cat_typed check env
-built_in_typed check env place built_in.Copy items = each (unnamed env) items >>= copy_typed check env place
+built_in_typed check env place built_in.Fmt items = fmt_typed check env place items
+built_in_typed check env place built_in.Cat items = cat_typed check env items
+built_in_typed check env place built_in.Copy items = copy_typed check env place items
 built_in_typed check env place function items = by_row check env place function items (built_in_type function)
 
 abbrev pub with_result : ℕ → List Typed → Option ValueType → Checked Called

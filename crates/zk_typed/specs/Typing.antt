@@ -304,21 +304,21 @@ membership turned first second keys right = of_form (in_form keys right)
     of_form (Some one) = Ok (typed type.bool (negated turned one))
     of_form None = broken rule.WrongType (if is_left_of_in keys then second else first)
 
--- the values of the items of brackets, where none names a field
-abbrev pub item_value : Check → Env → Item → Checked Typed
-item_value check env item = of_item (out-Item item)
-  where
-    of_item : Item-F Expr Item Part Link → Checked Typed
-    of_item (written.Value value) = check Nothing value
-    of_item (written.Item::Field place name value) = broken rule.WrongType (at env place)
+-- An item that is to be a value. One that names a field is wrong there, once its value is right.
+abbrev pub value_in : {A : Type 0} → Check → Env → (Expr → Checked A) → Item-F Expr Item Part Link → Checked A
+value_in check env judge (written.Value value) = judge value
+value_in check env judge (written.Item::Field place name value) = check Nothing value >> broken rule.WrongType (at env place)
 
--- the left operand of `in`: several keys in brackets, or one
+abbrev pub on_item : {A : Type 0} → Check → Env → (Expr → Checked A) → Item → Checked A
+on_item check env judge item = value_in check env judge (out-Item item)
+
+-- keys whose types no place asks, as the left operand of `in`: several in brackets, or one
 abbrev pub left_of_in : Check → Env → Expr → Checked (List Typed)
 left_of_in check env one = of_form (out-Expr one)
   where
     of_items : ℕ → List Item → Checked (List Typed)
-    of_items place (first ∷ second ∷ others) = each (item_value check env) (first ∷ second ∷ others)
-    of_items place items = each (item_value check env) items >> broken rule.WrongType (at env place)
+    of_items place (first ∷ second ∷ others) = each (on_item check env (check Nothing)) (first ∷ second ∷ others)
+    of_items place items = each (on_item check env (check Nothing)) items >> broken rule.WrongType (at env place)
 
     of_form : Expr-F Expr Item Part Link → Checked (List Typed)
     of_form (written.List place items) = of_items place items

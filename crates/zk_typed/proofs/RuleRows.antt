@@ -10,6 +10,7 @@ use Rattle.zk_tree.specs.declared.expr.Expr.TheVariants as expr
 use Rattle.zk_tree.specs.declared.expr.Literal.TheVariants as literal
 use Rattle.zk_tree.specs.declared.expr.Part.TheVariants as part
 use Rattle.zk_tree.specs.declared.stmt.Block.{roll-Block}
+use Rattle.zk_tree.specs.declared.stmt.Init.{Init}
 use Rattle.zk_tree.specs.declared.stmt.Init.TheVariants as init
 use Rattle.zk_tree.specs.declared.stmt.Stmt.{Stmt}
 use Rattle.zk_tree.specs.declared.stmt.Stmt.TheVariants as stmt
@@ -18,6 +19,8 @@ use Rattle.zk_tree.specs.declared.types.Param.{Param, roll-Param}
 use Rattle.zk_tree.specs.declared.types.Type.{«Type»}
 use Rattle.zk_tree.specs.declared.types.Type.TheVariants as written
 use Rattle.zk_tree.specs.Opening.{trees}
+use Rattle.zk_tree.specs.Table.{entry_at}
+use Rattle.zk_text.specs.Span.{span_decimal}
 use Rattle.zk_typed.specs.declared.rule.Rule.{Rule}
 use Rattle.zk_typed.specs.declared.rule.Rule.TheVariants as rule
 use Rattle.std.specs.Fmt.{digits}
@@ -33,7 +36,7 @@ use Rattle.zk_tree.specs.declared.expr.Item.{Item}
 use Rattle.zk_tree.specs.declared.expr.Item.TheVariants as item
 use Rattle.zk_tree.specs.declared.operator.Container.TheVariants as container
 use Rattle.zk_tree.specs.declared.types.Field.{Field, roll-Field}
-use Rattle.zk_typed.specs.Log.{One, Text}
+use Rattle.zk_typed.specs.Log.{One, Text, Plain}
 use Rattle.zk_tree.specs.declared.types.Attr.{Attr}
 use Rattle.zk_tree.specs.declared.operator.Prefix.TheVariants as prefix
 use Rattle.zk_tree.specs.declared.operator.Level.TheVariants as level
@@ -399,3 +402,29 @@ every_setting_is_judged :
     told rule.Format 49 ++ told rule.Unknown 63
 unfolding call named file handler told string name trees
 every_setting_is_judged = refl
+
+-- Values that are added to no value ---------------------------------------------------------------------------------
+
+-- global x: TYPE &redef; redef x += VALUE; event zeek_init() { print PRINTED; }
+added_to_none : «Type» → Init → Expr → List File
+added_to_none type value printed = file (
+    decl.Variable 0 lasting.Global (name 7 (codes "x")) (Some type) None (attr 17 (codes "redef") None ∷ []) ∷
+    decl.Redef 24 (name 30 (codes "x")) redefining.Add value ∷ handler (stmt.Print 60 (printed ∷ []) ∷ []) ∷ [])
+
+-- with x: set[subnet], { 10.0.0.0/8 } and |x|
+subnets_added : List File
+subnets_added = added_to_none (written.Set 10 (written.Atomic 14 atomic.Subnet ∷ [])) (init.Braces 35 (expr.Literal 37 (literal.Subnet 167772160 8) ∷ []) false) (expr.Size 66 (expr.Name (name 67 (codes "x"))))
+
+values_are_added_to_an_empty_set : (world_in (run (typed_program subnets_added) 1000 [] (record { 0 = pos 0 }))).lines ≡ codes "1" ∷ []
+unfolding subnets_added added_to_none file handler attr name trees digits dispatches_max entry_at
+values_are_added_to_an_empty_set = refl
+
+-- with x: count, 5 and 1
+count_added : List File
+count_added = added_to_none (count_at 10) (init.Value (expr.Number 35 5)) (expr.Number 66 1)
+
+a_count_is_added_to_no_value :
+    map (λ row. row.cells) (world_in (run (typed_program count_added) 1000 [] (record { 0 = pos 0 }))).rows ≡
+    (One (Plain (codes "0.000000")) ∷ One (Plain (codes "Reporter::ERROR")) ∷ One (Text (codes "Unset")) ∷ One (Text (codes "s.zeek, byte 0")) ∷ []) ∷ []
+unfolding count_added added_to_none file handler count_at attr name trees digits dispatches_max span_decimal
+a_count_is_added_to_no_value = refl

@@ -128,9 +128,14 @@ abbrev pub given_value : Scripts → ValueType → Home × Redefining × Init �
 given_value scripts one given = option_and_then (λ wanted.
     option_map (λ made. made.expr) (if_checked (init_typed (env_at scripts given.0) (Wants wanted) given.2))) (redef_wants given.1 one)
 
-abbrev pub first_given : Scripts → ValueType → List (Home × Redefining × Init) → Option form.Expr
-first_given scripts one [] = empty_of one
-first_given scripts one (given ∷ others) = elim (is_set given.1) [ true ↦ given_value scripts one given | false ↦ empty_of one ]
+-- what values are added to where no `=` gives one: a new empty container, and else the name itself, which has no value
+abbrev pub added_to : ℕ → Option form.Expr → form.Expr
+added_to number None = form.Global number
+added_to number (Some made) = made
+
+abbrev pub first_given : Scripts → ℕ → ValueType → List (Home × Redefining × Init) → Option form.Expr
+first_given scripts number one [] = empty_of one
+first_given scripts number one (given ∷ others) = elim (is_set given.1) [ true ↦ given_value scripts one given | false ↦ Some (added_to number (empty_of one)) ]
 
 abbrev pub later_given : List (Home × Redefining × Init) → List (Home × Redefining × Init)
 later_given [] = []
@@ -171,7 +176,7 @@ global_made scripts number one home attrs =
     record {
       place = place_of_variable one.name scripts.stated;
       global_type = type;
-      initial = option_map (shaped expiry (default_of scripts home type attrs)) (first_given scripts type given);
+      initial = option_map (shaped expiry (default_of scripts home type attrs)) (first_given scripts number type given);
       added = all_given scripts type (later_given given);
       expiry = expiry;
       expire_func = function_number scripts home (attr_value (codes "expire_func") attrs);

@@ -393,6 +393,11 @@ an_added_field_that_leads_back : errors (file (field_added (codes "connection") 
 unfolding field_added file told attr name trees
 an_added_field_that_leads_back = refl
 
+-- type R: record { a: count &log; }; redef record R += { b: R &optional; };
+an_added_field_is_told_alone : errors (file (one_field ∷ field_added (codes "R") (written.Named (name 83 (codes "R"))) ∷ [])) ≡ told rule.Recursive 83
+unfolding one_field logged field_added file told attr count_at name trees
+an_added_field_is_told_alone = refl
+
 -- event zeek_init() { Log::create_stream(L, [$path="A", $columns=y]); }
 every_setting_is_judged :
     errors (file (

@@ -42,18 +42,17 @@ use Rattle.zk_typed.specs.declared.script.literal.Sign.TheVariants.{Plain, Conve
 use Rattle.zk_typed.specs.declared.script.types.SimpleType.{SimpleType}
 use Rattle.zk_typed.specs.declared.script.types.SimpleType.TheVariants as simple
 use Rattle.zk_typed.specs.Checked.{Checked, Broken, broken, elsewhere, ◌>>=◌, ◌>>◌, both, each, require}
-use Rattle.zk_typed.specs.LoadOrder.{Home}
+use Rattle.zk_typed.specs.LoadOrder.{Home, Stated}
 use Rattle.zk_typed.specs.Names.{Declared, Meant, Variable, Function, Signature, whole_name, look_up}
 use Rattle.zk_typed.specs.Operations.{same_type, same_simple}
 use Rattle.zk_typed.specs.Predefined as type
-use Rattle.zk_typed.specs.Resolving.{Scripts, place_in, type_of, leads, hushed, params_of, result_of}
+use Rattle.zk_typed.specs.Resolving.{Scripts, place_in, type_of, deeper, leads, hushed, params_of, result_of}
 use Rattle.zk_typed.specs.Statements.{init_typed}
 use Rattle.zk_typed.specs.Types.{ValueType, Simple, Record, Table, Set, Vector}
 use Rattle.zk_typed.specs.Typing.{Typed, Env, Nothing, expr_place, interval_of, is_variable}
 use Rattle.zk_tree.specs.declared.operator.TimeUnit.{TimeUnit}
 use Rattle.zk_tree.specs.Value as plain
 use Rattle.zk_tree.specs.declared.decl.Lasting.TheVariants as lasting
-use Rattle.zk_typed.specs.Resolving.{deeper, place_in}
 use Rattle.zk_tree.specs.declared.stmt.Block.{Block}
 use Rattle.zk_typed.specs.Within.{local_types}
 
@@ -261,20 +260,36 @@ nested_to (suc depth) scripts home one = of_form (nested_to depth scripts home) 
         fields_rules (λ home before field. nothing (both (field_rules scripts home before field) (nested (out-Field field).field_type))) home [] fields
     of_form nested other = Ok tt
 
--- What there is within a type: it nests not deeper than so many, and its record types keep their rules. What else is broken
--- in it is told where it is asked for.
-abbrev pub parts_rules : ℕ → Scripts → Home → «Type» → Checked (Unit {0})
-parts_rules most scripts home one = nothing (both (of_type (type_of scripts home one)) (nested_to (size-Type one) scripts home one))
+-- fields that are added are no deeper than a record's may be
+abbrev pub adds_well : Scripts → Stated → Bool
+adds_well scripts one = of_decl (out-Decl one.decl)
+  where
+    fits : Checked ValueType → Bool
+    fits (Ok type) = not (deeper 199 scripts type)
+    fits (Err rules) = true
+
+    of_decl : Decl-F Decl → Bool
+    of_decl (decl.RedefRecord place name fields) = list_all (λ field. fits (type_of scripts one.home (out-Field field).field_type)) fields
+    of_decl other = true
+
+-- too deep without the fields that are told where they are added
+abbrev pub is_too_deep : Scripts → ValueType → Bool
+is_too_deep scripts = deeper 200 (record scripts { stated = filter (adds_well scripts) scripts.stated })
+
+-- What there is within a type: it isn't too deep, and its record types keep their rules. What else is broken in it is told
+-- where it is asked for.
+abbrev pub parts_rules : (ValueType → Bool) → Scripts → Home → «Type» → Checked (Unit {0})
+parts_rules too_deep scripts home one = nothing (both (of_type (type_of scripts home one)) (nested_to (size-Type one) scripts home one))
   where
     of_type : Checked ValueType → Checked (Unit {0})
-    of_type (Ok type) = require (not (deeper most scripts type)) rule.Recursive (place_in home (type_place one))
+    of_type (Ok type) = require (not (too_deep type)) rule.Recursive (place_in home (type_place one))
     of_type (Err rules) = Ok tt
 
 abbrev pub type_rules : Scripts → Home → «Type» → Checked (Unit {0})
-type_rules scripts home one = nothing (both (type_of scripts home one) (parts_rules 200 scripts home one))
+type_rules scripts home one = nothing (both (type_of scripts home one) (parts_rules (is_too_deep scripts) scripts home one))
 
 abbrev pub local_rules : Scripts → Home → Block → Checked (Unit {0})
-local_rules scripts home block = nothing (each (parts_rules 200 scripts home) (local_types block))
+local_rules scripts home block = nothing (each (parts_rules (is_too_deep scripts) scripts home) (local_types block))
 
 abbrev pub maybe_rules : Scripts → Home → Option «Type» → Checked (Unit {0})
 maybe_rules scripts home None = Ok tt

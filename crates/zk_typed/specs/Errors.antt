@@ -40,7 +40,7 @@ use Rattle.zk_typed.specs.LoadOrder.{File, Home, Stated}
 use Rattle.zk_typed.specs.Names.{Declared, Meant, KnownType, Variable, Event, Hook, Function, BuiltInFunction, Log, Signature, Node, RecordNode, EnumNode, whole_name, look_up, decl_nodes, find_whole}
 use Rattle.zk_typed.specs.Operations.{same_type}
 use Rattle.zk_typed.specs.Predefined as type
-use Rattle.zk_typed.specs.Resolving.{Scripts, FieldInfo, place_in, type_of, type_named, params_of, result_of, maybe_type, fields_of, hushed, has_attr}
+use Rattle.zk_typed.specs.Resolving.{Scripts, FieldInfo, place_in, type_of, type_named, params_of, result_of, maybe_type, fields_of, deeper, hushed, has_attr}
 use Rattle.zk_typed.specs.Statements.{Context, Within, InFunction, InHook, InHandler, init_typed, body_typed, added_type, Locals}
 use Rattle.zk_typed.specs.Types.{ValueType, Simple, Record}
 use Rattle.zk_typed.specs.Typing.{Typed, Env, Wanted, Nothing, Wants, Unclear, wanted_of, expr_place}
@@ -140,7 +140,7 @@ redef_record_rules scripts before home name fields (Ok type) = of_type type
   where
     of_type : ValueType → Checked (Unit {0})
     of_type (Record number) =
-        fields_rules (λ home earlier field. nothing (both (both (field_rules scripts home earlier field) (parts_rules 199 scripts home (out-Field field).field_type)) (added_rules scripts home number.0 field)))
+        fields_rules (λ home earlier field. nothing (both (both (field_rules scripts home earlier field) (parts_rules (deeper 199 scripts) scripts home (out-Field field).field_type)) (added_rules scripts home number.0 field)))
         home (field_names (fields_of before number.0)) fields
     of_type other = broken rule.WrongType (place_in home name.place)
 

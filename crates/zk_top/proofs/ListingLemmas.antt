@@ -13,14 +13,13 @@ use Rattle.zk_pcap.specs.declared.records.Packet.{Packet}
 use Rattle.zk_pcap.specs.Header.{header_of}
 use Rattle.zk_top.specs.declared.listing.Listing.{Listing}
 use Rattle.zk_top.specs.Line.{line_of, lines_of, list_options, capture_lines}
-use Rattle.zk_top.specs.Listing.{HasListed, HasListedAll}
+use Rattle.zk_top.specs.Listing.{HasListed, HasListedAll, ItemsStay}
 use Rattle.zk_top.specs.Outcome.{link_by, link_in}
 use Rattle.zk_top.specs.Parts.{DoesAll}
 use Rattle.zk_top.specs.Run.{IsPrefix}
 use Rattle.zk_top.proofs.Said.{said_on}
 use Rattle.zk_traffic.specs.declared.item.Item.{Item}
 use Rattle.zk_traffic.specs.Items.{items_of, items_so_far}
-use Rattle.zk_traffic.proofs.RecordLemmas.{items_longer}
 
 -- ---- items and their lines
 
@@ -51,15 +50,15 @@ pub next_line : (given : List Item) (item : Item) → lines_of (given ++ item �
 next_line given item = flat_map-append line_of given (item ∷ []) ∙ ap (λ text. lines_of given ++ text) (append-nil (line_of item))
 
 -- the items of the packets so far are the first ones of more
-pub items_begin : (link : ℕ) (packets others : List Packet) (ended : Bool) → IsPrefix (items_of list_options link packets false) (items_of list_options link (packets ++ others) ended)
-items_begin link packets others ended = let stay = items_longer list_options link packets others ended in record { rest = stay.0; joined = stay.1 }
+pub items_begin : ItemsStay → (link : ℕ) (packets others : List Packet) (ended : Bool) → IsPrefix (items_of list_options link packets false) (items_of list_options link (packets ++ others) ended)
+items_begin stay link packets others ended = let behind = stay list_options link packets others ended in record { rest = behind.0; joined = behind.1 }
 
 -- and so at the end
-pub items_end : (link : ℕ) (packets : List Packet) → IsPrefix (items_of list_options link packets false) (items_of list_options link packets true)
-items_end link packets = subst (λ ps. IsPrefix (items_of list_options link packets false) (items_of list_options link ps true)) (append-nil packets) (items_begin link packets [] true)
+pub items_end : ItemsStay → (link : ℕ) (packets : List Packet) → IsPrefix (items_of list_options link packets false) (items_of list_options link packets true)
+items_end stay link packets = subst (λ ps. IsPrefix (items_of list_options link packets false) (items_of list_options link ps true)) (append-nil packets) (items_begin stay link packets [] true)
 
-pub lines_begin : (link : ℕ) (packets others : List Packet) → IsPrefix (lines_of (items_of list_options link packets false)) (capture_lines link (packets ++ others))
-lines_begin link packets others = lines_prefix (items_of list_options link packets false) (items_of list_options link (packets ++ others) true) (items_begin link packets others true)
+pub lines_begin : ItemsStay → (link : ℕ) (packets others : List Packet) → IsPrefix (lines_of (items_of list_options link packets false)) (capture_lines link (packets ++ others))
+lines_begin stay link packets others = lines_prefix (items_of list_options link packets false) (items_of list_options link (packets ++ others) true) (items_begin stay link packets others true)
 
 -- no packet has no item
 pub no_items : (link : ℕ) → items_of list_options link [] false ≡ []

@@ -7,6 +7,7 @@ use Rattle.zk_top.specs.Line.{lines_of, list_options}
 use Rattle.zk_top.specs.Parts.{DoesAll}
 use Rattle.zk_top.specs.Run.{IsPrefix}
 use Rattle.zk_traffic.specs.declared.item.Item.{Item}
+use Rattle.zk_traffic.specs.declared.options.Options.{Options}
 use Rattle.zk_traffic.specs.Items.{items_of}
 use Rattle.zk_traffic.specs.Standing.{StandsFor}
 
@@ -15,6 +16,12 @@ pub record HasSaid (first : Outside) (text piece : List ℕ) (now : Outside) : T
   pub said : List ℕ
   pub does : DoesAll [] said [] first now
   pub joined : text ≡ said ++ piece
+
+-- the items of the packets so far are the first ones, whatever else comes
+abbrev pub ItemsStay : Type 0
+ItemsStay =
+    (options : Options) (link : ℕ) (packets others : List Packet) (ended : Bool)
+    → (rest : List Item) × (items_of options link (packets ++ others) ended ≡ items_of options link packets false ++ rest)
 
 -- These items of the packets so far, and of the end or not, were given, and their lines are said or wait.
 pub record HasListed (first : Outside) (link : ℕ) (packets : List Packet) (given : List Item) (ended : Bool) (listing : Listing) (now : Outside) : Type 0 where

@@ -28,4 +28,6 @@ pub use entry::run;
 #[cfg(test)]
 mod grammar_tests;
 #[cfg(test)]
+mod list_tests;
+#[cfg(test)]
 mod tests;

@@ -19,7 +19,7 @@ use crate::stop::Stop;
 use std::alloc::Global;
 use zk_base::{Ending, Mem, Shelf};
 use zk_pcap::PacketView;
-use zk_traffic::{Options, Traffic};
+use zk_traffic::{Options, Traffic, items_stay};
 
 /// Checksums are judged, each packet is an item, and a stream may hold a mebibyte above its front.
 const OPTIONS: Options = Options {
@@ -57,6 +57,7 @@ impl Listing {
             → DoesPart [] (lines_of (items_of list_options link (packets ++ packet_of packet.entry ∷ []) false)) [] first stop (S.outside shelf.new)) }
         ensures input { OnOk result (SameInput (S.outside shelf.old) (S.outside shelf.new)) }
     {
+        items_stay();
         self.traffic.packet(packet)?;
         self.take_items(shelf)
     }
@@ -69,6 +70,7 @@ impl Listing {
             → DoesPart [] (capture_lines link packets) [] first stop (S.outside shelf.new)) }
         ensures input { OnOk result (SameInput (S.outside shelf.old) (S.outside shelf.new)) }
     {
+        items_stay();
         self.traffic.end()?;
         self.take_items(shelf)?;
         say(shelf, &self.piece)
@@ -106,6 +108,7 @@ fn list_items<S: Shelf>(
     ensures stopped { IfErr result (λ stop. (whole : Option (List ℕ)) (header : HeaderData) (bytes : List ℕ) → IsReading whole header bytes [] reader.old (S.outside shelf.old)
         → SaysPart whole (capture_lines header.link) (S.outside shelf.old) stop (S.outside shelf.new)) }
 {
+    items_stay();
     let mut listing = Listing::new(alloc, reader.link())?;
     'packets: while reader.fill(shelf, chunk)? {
         listing.take_packet(shelf, reader.packet())?;

@@ -27,7 +27,7 @@ const NANOSECONDS: [u8; 40] = [
 ];
 
 /// The words of a command line, joined by blanks.
-fn words(alloc: Global, line: &[u8]) -> Result<Vec<Word>, Mem> {
+pub fn words(alloc: Global, line: &[u8]) -> Result<Vec<Word>, Mem> {
     let mut words = Vec::new(alloc);
     for word in line.split(|byte| *byte == b' ') {
         words.push(Word::from(Bytes::copy_of(alloc, word)?))?;
@@ -36,7 +36,7 @@ fn words(alloc: Global, line: &[u8]) -> Result<Vec<Word>, Mem> {
 }
 
 /// Two inputs, `c.pcap` and `s.zeek`, with these bytes.
-fn inputs(alloc: Global, capture: &[u8], script: &[u8]) -> Result<Vec<(Bytes, Bytes)>, Mem> {
+pub fn inputs(alloc: Global, capture: &[u8], script: &[u8]) -> Result<Vec<(Bytes, Bytes)>, Mem> {
     let mut inputs = Vec::new(alloc);
     inputs.push((
         Bytes::copy_of(alloc, b"c.pcap")?,

@@ -44,7 +44,7 @@ returns-in_err-fill-clause-stopped g c =
     let text = lines_of (items_of list_options header.link packets false) in
     says_part whole header longer packets c.packets.reader old (capture_lines header.link) first stop new reading
     (λ others. stopped_after first text c.packets.listing.piece.items (capture_lines header.link (packets ++ others)) old stop new listed.says
-    (lines_begin header.link packets others) c.in_err-fill.ensures.stopped))
+    (lines_begin c.items_stay.ensures header.link packets others) c.in_err-fill.ensures.stopped))
 
 pub take_packet-requires : goal.take_packet-requires
 take_packet-requires g c = c.packet.ensures.limits
@@ -67,7 +67,7 @@ returns-in_err-take_packet-clause-stopped g c =
     let more = packets ++ packet ∷ [] in
     says_part_next whole header further packets packet c.fill.new.self mid (capture_lines header.link) first stop new filled at
     (λ others. does_part_of [] [] (lines_of (items_of list_options header.link more false)) (capture_lines header.link (more ++ others)) [] [] first stop new (prefix_all [])
-    (lines_begin header.link more others) (prefix_all []) part))
+    (lines_begin c.items_stay.ensures header.link more others) (prefix_all []) part))
 
 pub packets-smaller : goal.packets-smaller
 packets-smaller g c =

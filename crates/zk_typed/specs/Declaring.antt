@@ -21,7 +21,7 @@ use Rattle.zk_typed.specs.declared.script.primitive.BuiltIn.TheVariants as built
 use Rattle.zk_typed.specs.declared.script.types.SimpleType.TheVariants as simple
 use Rattle.zk_typed.specs.Checked.{Checked}
 use Rattle.zk_typed.specs.LoadOrder.{File, Home, Stated, load_order}
-use Rattle.zk_typed.specs.Names.{Declared, Meant, KnownType, WrittenType, Word, Variable, Event, Hook, Function, BuiltInFunction, Log, Signature, Known, Written, CreateStream, AddFilter, RemoveFilter, RemoveDefaultFilter, Write, Node, RecordNode, EnumNode, declare, whole_name, module_in, module_or_none, look_up, enum_number, all_nodes, decl_nodes}
+use Rattle.zk_typed.specs.Names.{Declared, Meant, KnownType, WrittenType, Word, Variable, Event, Hook, Function, BuiltInFunction, Log, Signature, Known, Written, CreateStream, AddFilter, RemoveFilter, RemoveDefaultFilter, Write, Node, RecordNode, EnumNode, declare, whole_name, module_in, look_up, enum_number, all_nodes, decl_nodes}
 use Rattle.zk_typed.specs.Predefined as predefined
 use Rattle.zk_typed.specs.Program.{Event as EventType}
 use Rattle.zk_typed.specs.Resolving.{Scripts, type_named}
@@ -30,7 +30,7 @@ use Rattle.zk_typed.specs.Types.{ValueType, Simple}
 -- Predefined names -------------------------------------------------------------------------------------------------
 
 abbrev pub everywhere : List ℕ → Meant → Declared
-everywhere name meant = record { name = name; module_name = module_or_none (module_in name); exported = true; meant = meant }
+everywhere name meant = record { name = name; exported = true; meant = meant }
 
 -- the built-in functions by their names
 abbrev pub built_ins : List Declared

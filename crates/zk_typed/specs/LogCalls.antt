@@ -38,7 +38,7 @@ use Rattle.zk_typed.specs.Checked.{Checked, broken, elsewhere, ◌>>=◌, ◌>>�
 use Rattle.zk_typed.specs.Columns.{type_name}
 use Rattle.zk_typed.specs.Forms as form
 use Rattle.zk_typed.specs.LoadOrder.{Home}
-use Rattle.zk_typed.specs.Names.{Declared, Meant, Word, Event, Hook, Log, LogFunction, CreateStream, AddFilter, RemoveFilter, RemoveDefaultFilter, Write, Signature, look_up, module_in, module_or_none}
+use Rattle.zk_typed.specs.Names.{Declared, Meant, Word, Event, Hook, Log, LogFunction, CreateStream, AddFilter, RemoveFilter, RemoveDefaultFilter, Write, Signature, look_up, module_of}
 use Rattle.zk_typed.specs.Operations.{same_type}
 use Rattle.zk_typed.specs.Predefined as type
 use Rattle.zk_typed.specs.Resolving.{Scripts, FieldInfo, place_in, type_named, params_of, fields_of}
@@ -331,7 +331,7 @@ log_path env one = path_literal env one >>= (λ bytes. require (not (bytes_eq by
 -- without `$path`, that of the word's module in lower case
 abbrev pub path_or_module : Place → Declared → Option (List ℕ) → Checked (List ℕ)
 path_or_module place word (Some path) = Ok path
-path_or_module place word None = of_module (map to_ascii_lowercase (module_or_none (module_in word.name)))
+path_or_module place word None = of_module (map to_ascii_lowercase (module_of word.name))
   where
     of_module : List ℕ → Checked (List ℕ)
     of_module bytes = require (is_path bytes) rule.Format place >> (require (not (bytes_eq bytes (codes "reporter"))) rule.Twice place >> Ok bytes)

@@ -1,5 +1,7 @@
 -- The names that scripts declare, and what a name means at a place (Zeek manual, Script Organization, modules).
-use Rattle.std.specs.Prelude.{ℕ, zero, suc, ◌+◌, ◌==◌, Bool, true, false, not, ◌&&◌, ◌||◌, List, [], ◌∷◌, ◌++◌, length, find, filter, map, flat_map, codes, Option, Some, None, is_some, if◌then◌else◌}
+use Rattle.std.specs.Prelude.{ℕ, zero, suc, ◌+◌, ◌==◌, Bool, true, false, not, ◌&&◌, ◌||◌, List, [], ◌∷◌, ◌++◌, length, find, filter, map, flat_map, codes, nat_eq, Option, Some, None, is_some, if◌then◌else◌}
+use Rattle.std.specs.List.{starts_with}
+use Rattle.std.specs.Option.{option_map, unwrap_or}
 use Rattle.std.specs.Str.{bytes_eq}
 use Rattle.zk_tree.specs.declared.decl.Decl.{Decl, out-Decl}
 use Rattle.zk_tree.specs.declared.decl.Decl.TheOpen.{Decl-F}
@@ -48,10 +50,9 @@ pub data Meant : Type 0 where
   BuiltInFunction : (function : BuiltIn) → Meant
   Log : (function : LogFunction) → Meant
 
--- a name with its module, the module where it is seen, and what it means
+-- a name, whether it is seen outside its module, and what it means
 pub record Declared : Type 0 where
   pub name : List ℕ
-  pub module_name : List ℕ
   pub exported : Bool
   pub meant : Meant
 
@@ -60,15 +61,10 @@ pub record Declared : Type 0 where
 -- the part before `::`, where the name has one
 abbrev pub module_in : List ℕ → Option (List ℕ)
 module_in [] = None
-module_in (byte ∷ bytes) = elim (is_mark byte bytes) [ true ↦ Some [] | false ↦ behind byte (module_in bytes) ]
-  where
-    is_mark : ℕ → List ℕ → Bool
-    is_mark byte [] = false
-    is_mark byte (next ∷ bytes) = byte == 58 && next == 58
-
-    behind : ℕ → Option (List ℕ) → Option (List ℕ)
-    behind byte None = None
-    behind byte (Some front) = Some (byte ∷ front)
+module_in (byte ∷ bytes) = elim (starts_with nat_eq (byte ∷ bytes) (codes "::")) [
+  | true ↦ Some []
+  | false ↦ option_map (λ front. byte ∷ front) (module_in bytes)
+]
 
 abbrev pub with_module : List ℕ → List ℕ → List ℕ
 with_module [] name = name
@@ -78,24 +74,19 @@ with_module (byte ∷ bytes) name = (byte ∷ bytes) ++ codes "::" ++ name
 abbrev pub whole_name : List ℕ → List ℕ → List ℕ
 whole_name module_name name = if is_some (module_in name) then name else with_module module_name name
 
-abbrev pub module_or_none : Option (List ℕ) → List ℕ
-module_or_none None = []
-module_or_none (Some module_name) = module_name
+-- the module of a name, which is empty for none
+abbrev pub module_of : List ℕ → List ℕ
+module_of name = unwrap_or (module_in name) []
 
 abbrev pub declare : Home → Name → Meant → Declared
-declare home name meant = record {
-  name = whole_name home.module_name name.text;
-  module_name = module_or_none (module_in (whole_name home.module_name name.text));
-  exported = home.exported;
-  meant = meant;
-}
+declare home name meant = record { name = whole_name home.module_name name.text; exported = home.exported; meant = meant }
 
 -- a name of no module is seen everywhere, and one that isn't exported in its own module alone
-abbrev pub is_seen : List ℕ → Declared → Bool
-is_seen from_module one = one.exported || bytes_eq one.module_name [] || bytes_eq one.module_name from_module
+abbrev pub is_open : List ℕ → List ℕ → Bool
+is_open from_module whole = bytes_eq (module_of whole) [] || bytes_eq (module_of whole) from_module
 
 abbrev pub find_whole : List Declared → List ℕ → List ℕ → Option Declared
-find_whole names from_module whole = find (λ one. bytes_eq one.name whole && is_seen from_module one) names
+find_whole names from_module whole = find (λ one. bytes_eq one.name whole && (one.exported || is_open from_module whole)) names
 
 abbrev pub first_of : {A : Type 0} → Option A → Option A → Option A
 first_of (Some a) b = Some a

@@ -1,0 +1,18 @@
+//! The names that scripts declare, found by module.
+#![tactic(auto)]
+
+mod declared;
+mod home;
+mod index;
+mod inner;
+mod name;
+mod node;
+mod order;
+mod table;
+mod types;
+mod whole;
+
+pub use declared::{Declared, LogFunction, Meant, Signature};
+pub use home::{Home, Stated};
+pub use node::Node;
+pub use table::Table;

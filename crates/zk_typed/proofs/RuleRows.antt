@@ -408,6 +408,31 @@ every_setting_is_judged :
 unfolding call named file handler told string name trees
 every_setting_is_judged = refl
 
+-- redef enum Log::ID += { L }; type R: record { a: count &log; };
+-- event zeek_init() { Log::create_stream(L, [$columns=R]); CALL; }
+with_log : Expr → List File
+with_log one = file (
+    decl.RedefEnum 0 (name 0 (codes "Log::ID")) (name 0 (codes "L") ∷ []) false ∷ one_field ∷
+    handler (
+    stmt.Expr (call (codes "Log::create_stream") (item.Value (named (codes "L")) ∷ item.Value (expr.List 0 (given (codes "columns") (named (codes "R")) ∷ given (codes "path") (string 0 (codes "x")) ∷ [])) ∷ [])) ∷
+    stmt.Expr one ∷ []) ∷ [])
+
+call_at : List ℕ → List Item → Expr
+call_at text items = expr.Post (expr.Name (name 70 text)) (part.Call (item.Value (named (codes "L")) ∷ items) ∷ [])
+
+vector_at : ℕ → Item
+vector_at place = item.Value (expr.Make place container.Vector [])
+
+-- Log::create_stream(L, vector());
+what_is_no_settings : errors (with_log (call_at (codes "Log::create_stream") (vector_at 92 ∷ []))) ≡ told rule.WrongType 92
+unfolding with_log call_at vector_at one_field logged call given named file handler told count_at string name trees
+what_is_no_settings = refl
+
+-- Log::remove_default_filter(L, vector());
+an_argument_too_many : errors (with_log (call_at (codes "Log::remove_default_filter") (vector_at 100 ∷ []))) ≡ told rule.Arguments 70
+unfolding with_log call_at vector_at one_field logged call given named file handler told count_at string name trees
+an_argument_too_many = refl
+
 -- Values that are added to no value ---------------------------------------------------------------------------------
 
 -- global x: TYPE &redef; redef x += VALUE; event zeek_init() { print PRINTED; }

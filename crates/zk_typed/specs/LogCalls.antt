@@ -472,21 +472,27 @@ abbrev pub with_settings : Check → Env → (Place → List Item → Checked Ty
 with_settings check env typing one = of_brackets (bracketed one)
   where
     of_brackets : Option (ℕ × List Item) → Checked Typed
-    of_brackets None = check Unclear one >> broken rule.WrongType (expr_place env one)
+    of_brackets None = check Nothing one >> broken rule.WrongType (expr_place env one)
     of_brackets (Some items) = typing (at env items.0) items.1
 
 abbrev pub row_wanted : Option RecordNo → Wanted
 row_wanted None = Unclear
 row_wanted (Some number) = Wants (Record number)
 
--- what a call of the log framework does with a word that has a stream
+-- what a call of the log framework does with a word that has a stream and its other argument
+abbrev pub log_with : Check → Env → Place → LogFunction → Declared → Option RecordNo → Expr → Checked Typed
+log_with check env place CreateStream word known one = with_settings check env (create_typed check env place word) one
+log_with check env place AddFilter word known one = with_settings check env (filter_typed check env word known) one
+log_with check env place RemoveFilter word known one = path_literal env one >>= (λ name. Ok (log_form (log.RemoveFilter (log_no env word) name)))
+log_with check env place RemoveDefaultFilter word known one = broken rule.Arguments place
+log_with check env place Write word known one = check (row_wanted known) one >>= (λ row. Ok (typed type.bool (form.Write (log_no env word) row.expr)))
+
 abbrev pub log_of : Check → Env → Place → LogFunction → Declared → Option RecordNo → List Item → Checked Typed
-log_of check env place CreateStream word known (one ∷ []) = on_item check env (with_settings check env (create_typed check env place word)) one
-log_of check env place AddFilter word known (one ∷ []) = on_item check env (with_settings check env (filter_typed check env word known)) one
-log_of check env place RemoveFilter word known (one ∷ []) = on_item check env (path_literal env) one >>= (λ name. Ok (log_form (log.RemoveFilter (log_no env word) name)))
 log_of check env place RemoveDefaultFilter word known [] = Ok (log_form (log.RemoveFilter (log_no env word) (codes "default")))
-log_of check env place Write word known (one ∷ []) = on_item check env (check (row_wanted known)) one >>= (λ row. Ok (typed type.bool (form.Write (log_no env word) row.expr)))
-log_of check env place other word known args = each (on_item check env (check Unclear)) args >> broken rule.Arguments place
+log_of check env place RemoveDefaultFilter word known args = broken rule.Arguments place
+log_of check env place function word known [] = broken rule.Arguments place
+log_of check env place function word known (one ∷ []) = on_item check env (log_with check env place function word known) one
+log_of check env place function word known (one ∷ others) = on_item check env (log_with check env place function word known) one >> broken rule.Arguments place
 
 -- the word of a log that has a stream, with its record type
 abbrev pub log_word : Check → Env → Expr → Checked (Declared × Option RecordNo)

@@ -433,6 +433,42 @@ an_argument_too_many : errors (with_log (call_at (codes "Log::remove_default_fil
 unfolding with_log call_at vector_at one_field logged call given named file handler told count_at string name trees
 an_argument_too_many = refl
 
+-- event zeek_init() { Log::create_stream(L, [$columns=R, $path="x"]); local L = 1; Log::remove_default_filter(L); }
+a_local_hides_a_word :
+    errors (file (
+    decl.RedefEnum 0 (name 0 (codes "Log::ID")) (name 0 (codes "L") ∷ []) false ∷ one_field ∷
+    handler (
+    stmt.Expr (call (codes "Log::create_stream") (item.Value (named (codes "L")) ∷ item.Value (expr.List 0 (given (codes "columns") (named (codes "R")) ∷ given (codes "path") (string 0 (codes "x")) ∷ [])) ∷ [])) ∷
+    stmt.Local 70 (name 76 (codes "L")) None (Some (init.Value (expr.Number 80 1))) ∷
+    stmt.Expr (call (codes "Log::remove_default_filter") (item.Value (expr.Name (name 110 (codes "L"))) ∷ [])) ∷ []) ∷ [])) ≡ told rule.WrongType 110
+unfolding one_field logged call given named file handler told count_at string name trees
+a_local_hides_a_word = refl
+
+-- event zeek_init() { local NAME = 1; STATEMENT }
+hidden_by : List ℕ → Stmt → List File
+hidden_by text one = file (one_field ∷ handler (stmt.Local 20 (name 26 text) None (Some (init.Value (expr.Number 30 1))) ∷ one ∷ []) ∷ [])
+
+-- with zeek_done and event zeek_done();
+a_local_hides_an_event : errors (hidden_by (codes "zeek_done") (stmt.Event 40 (name 46 (codes "zeek_done")) [])) ≡ told rule.WrongType 46
+unfolding hidden_by one_field logged file handler told count_at name trees
+a_local_hides_an_event = refl
+
+-- with R and local x: R;
+a_local_hides_a_type : errors (hidden_by (codes "R") (stmt.Local 40 (name 46 (codes "x")) (Some (written.Named (name 49 (codes "R")))) None)) ≡ told rule.WrongType 49
+unfolding hidden_by one_field logged file handler told count_at name trees
+a_local_hides_a_type = refl
+
+-- with R and Log::create_stream(L, [$path="x", $columns=R]);
+a_local_hides_columns :
+    errors (file (
+    decl.RedefEnum 0 (name 0 (codes "Log::ID")) (name 0 (codes "L") ∷ []) false ∷ one_field ∷
+    handler (
+    stmt.Local 20 (name 26 (codes "R")) None (Some (init.Value (expr.Number 30 1))) ∷
+    stmt.Expr (call (codes "Log::create_stream") (item.Value (named (codes "L")) ∷ item.Value (expr.List 0 (given (codes "path") (string 0 (codes "x")) ∷ given (codes "columns") (expr.Name (name 80 (codes "R"))) ∷ [])) ∷ [])) ∷ []) ∷ [])) ≡
+    told rule.WrongType 80
+unfolding one_field logged call given named file handler told count_at string name trees
+a_local_hides_columns = refl
+
 -- Values that are added to no value ---------------------------------------------------------------------------------
 
 -- global x: TYPE &redef; redef x += VALUE; event zeek_init() { print PRINTED; }

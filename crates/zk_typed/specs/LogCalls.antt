@@ -43,7 +43,7 @@ use Rattle.zk_typed.specs.Operations.{same_type}
 use Rattle.zk_typed.specs.Predefined as type
 use Rattle.zk_typed.specs.Resolving.{Scripts, FieldInfo, place_in, type_named, params_of, fields_of}
 use Rattle.zk_typed.specs.Types.{ValueType, Record}
-use Rattle.zk_typed.specs.Typing.{Typed, typed, Env, at, expr_place, Nothing, Wants, Unclear, Wanted, Check, number_among, is_event, is_hook, found, on_item}
+use Rattle.zk_typed.specs.Typing.{Typed, typed, Env, at, expr_place, Nothing, Wants, Unclear, Wanted, Check, number_among, is_event, is_hook, is_local, found, on_item}
 
 -- Calls in the texts -------------------------------------------------------------------------------------------------
 
@@ -167,12 +167,12 @@ abbrev pub if_word : Option Declared → Option Declared
 if_word None = None
 if_word (Some one) = if is_log_word one then Some one else None
 
--- the word of an argument that is one of `Log::ID`
-abbrev pub word_of : Scripts → Home → Expr → Option Declared
-word_of scripts home one = of_form (out-Expr one)
+-- the word of an argument that is one of `Log::ID`, by what its name means
+abbrev pub word_of : (Name → Option Declared) → Expr → Option Declared
+word_of meaning one = of_form (out-Expr one)
   where
     of_form : Expr-F Expr Item Part Link → Option Declared
-    of_form (written.Name name) = if_word (look_up scripts.names home.module_name name.text)
+    of_form (written.Name name) = if_word (meaning name)
     of_form other = None
 
 -- the items of a bracketed argument
@@ -236,7 +236,7 @@ created_in scripts word call = of_items call.items
 
     of_items : List Item → List (Option RecordNo)
     of_items [] = []
-    of_items (first ∷ others) = of_word (word_of scripts call.home (item_expr first)) others
+    of_items (first ∷ others) = of_word (word_of (λ name. look_up scripts.names call.home.module_name name.text) (item_expr first)) others
 
 -- what two streams of one log say
 abbrev pub agreed : Option RecordNo → Option RecordNo → Option (Option RecordNo)
@@ -427,10 +427,18 @@ log_form call = typed type.bool (form.Apply (primitive.Log call) form.NoExpr)
 abbrev pub log_no : Env → Declared → LogId
 log_no env word = record { 0 = number_among is_log_word env.scripts word }
 
+-- a name that no local hides
+abbrev pub not_local : Env → Expr → Checked (Unit {0})
+not_local env one = of_form (out-Expr one)
+  where
+    of_form : Expr-F Expr Item Part Link → Checked (Unit {0})
+    of_form (written.Name name) = require (not (is_local env name)) rule.WrongType (expr_place env one)
+    of_form other = Ok tt
+
 -- All settings are judged. That one is missing is told of the brackets, and what is wrong with the module's path of the call.
 abbrev pub create_typed : Check → Env → Place → Declared → Place → List Item → Checked Typed
 create_typed check env place word brackets items =
-    let columns = columns_type env.scripts env.home items in
+    let columns = optional (not_local env) (setting (codes "columns") items) >> columns_type env.scripts env.home items in
     both (only_settings check env (codes "columns" ∷ codes "ev" ∷ codes "path" ∷ codes "policy" ∷ []) [] items)
     (both (both columns (optional (event_setting env (if_known columns)) (setting (codes "ev") items)))
     (both (optional (log_path env) (setting (codes "path") items)) (optional (policy_setting env (if_known columns)) (setting (codes "policy") items)))) >>= (λ parts.
@@ -496,7 +504,7 @@ log_of check env place function word known (one ∷ others) = on_item check env 
 
 -- the word of a log that has a stream, with its record type
 abbrev pub log_word : Check → Env → Expr → Checked (Declared × Option RecordNo)
-log_word check env one = of_word (word_of env.scripts env.home one)
+log_word check env one = of_word (word_of (found env) one)
   where
     wrong : Checked (Declared × Option RecordNo)
     wrong = check Nothing one >> broken rule.WrongType (expr_place env one)

@@ -34,7 +34,7 @@ use Rattle.zk_typed.specs.Predefined as type
 use Rattle.zk_typed.specs.Predefined.{record_no}
 use Rattle.zk_typed.specs.Resolving.{FieldInfo, fields_of, params_of, result_of, type_named}
 use Rattle.zk_typed.specs.Types.{ValueType, Simple, Record, Table, Set, Vector}
-use Rattle.zk_typed.specs.Typing.{Typed, typed, Env, at, exprs, apply, expr_place, Wanted, Nothing, Wants, Unclear, wanted_of, Check, fits, simple_type, printable, found, number_among, is_function, is_hook, local_named, on_item, left_of_in}
+use Rattle.zk_typed.specs.Typing.{Typed, typed, Env, at, exprs, apply, expr_place, Wanted, Nothing, Wants, Unclear, wanted_of, Check, fits, simple_type, printable, found, number_among, is_function, is_hook, on_item, left_of_in}
 use Rattle.zk_tree.specs.declared.expr.Literal.{Literal}
 
 -- Arguments ----------------------------------------------------------------------------------------------------------
@@ -477,11 +477,8 @@ called_name first (part ∷ parts) = of_both (out-Expr first) (out-Part part)
     of_both (written.Name name) (written.Call items) = Some (name, items, parts)
     of_both one other = None
 
--- a local's name hides a function's
 abbrev pub call_of : Check → Env → Name → List Item → Checked Called
-call_of check env name items =
-    if is_some (local_named name.text 0 env.locals) then wrong_name rule.WrongType (at env name.place) (each (argument check env Unclear) items)
-    else call_typed check env name items (found env name)
+call_of check env name items = call_typed check env name items (found env name)
 
 abbrev pub post_typed : Check → Env → Place → Expr → List Part → Option (Name × List Item × List Part) → Checked Typed
 post_typed check env place first parts None = parts_typed check env place (check Nothing first) parts

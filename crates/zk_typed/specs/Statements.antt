@@ -43,6 +43,7 @@ use Rattle.zk_typed.specs.Operations.{same_type}
 use Rattle.zk_typed.specs.Predefined as type
 use Rattle.zk_typed.specs.Resolving.{Scripts, params_of, type_of, hushed}
 use Rattle.zk_typed.specs.Types.{ValueType, Simple, Record, Table, Set, Vector}
+use Rattle.zk_typed.specs.Within.{mentions}
 use Rattle.zk_typed.specs.Typing.{Typed, Env, LocalName, Wanted, Nothing, Wants, Unclear, wanted_of, Check, at, exprs, expr_place, found, is_event, number_among, local_named}
 
 -- what a body is of: a function with what its result has to be, a hook, or a handler
@@ -269,10 +270,13 @@ as_names (Some name) numbers = split numbers
 abbrev pub do_with : Place → Action → form.Exprs → Checked form.Stmt
 do_with place action operands = Ok (form.Do place action operands)
 
--- the type that a `local` is declared with
-abbrev pub local_type : Context → Option «Type» → Option (Checked ValueType)
-local_type context None = None
-local_type context (Some tree) = Some (type_of context.scripts context.home tree)
+-- the type that a `local` is declared with, whose names no local hides
+abbrev pub local_type : Context → Locals → Option «Type» → Option (Checked ValueType)
+local_type context locals None = None
+local_type context locals (Some tree) = Some (each seen (mentions tree) >> type_of context.scripts context.home tree)
+  where
+    seen : Name → Checked (Unit {0})
+    seen name = require (not (is_some (local_named name.text 0 locals))) rule.WrongType (place_of context name.place)
 
 abbrev pub local_wants : Option (Checked ValueType) → Wanted
 local_wants None = Nothing
@@ -304,7 +308,7 @@ type_for None (Err rules) = elsewhere
 
 abbrev pub local_stated : Context → Locals → ℕ → Name → Option «Type» → Option Init → Stated
 local_stated context locals place name tree init =
-    let type = local_type context tree in
+    let type = local_type context locals tree in
     let made = local_value context locals (place_of context place) type init in
     let twice = require (not (is_some (local_named name.text 0 locals))) rule.Twice (place_of context place) in
     stated (made >>= (λ one. twice >> Ok one.1)) (locals ++ record { name = name.text; type = type_for type made } ∷ [])

@@ -1,9 +1,10 @@
 -- The typing of expressions (Zeek manual, Expressions): an expression, with the type that its place wants, has a typed form, or
 -- breaks rules. Where an int is wanted a count is converted.
-use Rattle.std.specs.Prelude.{ℕ, ◌+◌, ◌-◌, ◌*◌, ◌^◌, pos, Bool, true, false, ◌&&◌, List, [], ◌∷◌, ◌++◌, filter, Option, Some, None, Ok, Err, if◌then◌else◌}
+use Rattle.std.specs.Prelude.{ℕ, ◌+◌, ◌-◌, ◌*◌, ◌^◌, pos, Bool, true, false, ◌&&◌, List, [], ◌∷◌, ◌++◌, filter, Option, Some, None, Ok, Err, is_some, if◌then◌else◌}
 use Rattle.std.specs.Int.{int_min}
 use Rattle.std.specs.Str.{bytes_eq}
 use Rattle.zk_base.specs.declared.network.Addr.TheVariants.{V4}
+use Rattle.zk_tree.specs.declared.decl.Lasting.TheVariants as lasting
 use Rattle.zk_tree.specs.declared.expr.Expr.{Expr, out-Expr}
 use Rattle.zk_tree.specs.declared.expr.Expr.TheOpen.{Expr-F, Part-F, Item-F}
 use Rattle.zk_tree.specs.declared.expr.Expr.TheOpen as written
@@ -175,13 +176,19 @@ is_function one = of_meant one.meant
 abbrev pub number_among : (Declared → Bool) → Scripts → Declared → ℕ
 number_among kind scripts one = count_before (λ other. bytes_eq other.name one.name) (filter kind scripts.names)
 
-abbrev pub found : Env → Name → Option Declared
-found env name = look_up env.scripts.names env.home.module_name name.text
-
 -- the number and the type of a local
 abbrev pub local_named : List ℕ → ℕ → List LocalName → Option (ℕ × Checked ValueType)
 local_named name number [] = None
 local_named name number (one ∷ others) = elim (bytes_eq one.name name) [ true ↦ Some (number, one.type) | false ↦ local_named name (number + 1) others ]
+
+abbrev pub is_local : Env → Name → Bool
+is_local env name = is_some (local_named name.text 0 env.locals)
+
+-- what a name means; a local hides what else has its name, and is a variable
+abbrev pub found : Env → Name → Option Declared
+found env name =
+    if is_local env name then Some (record { name = name.text; exported = false; meant = Variable env.home lasting.Global None None [] })
+    else look_up env.scripts.names env.home.module_name name.text
 
 -- a name that a value has; the name of an event, a hook, a function or a type has none
 abbrev pub declared_value : Env → Place → Option Declared → Checked Typed

@@ -1,8 +1,1 @@
-pub mod LoopLaws
-pub mod Depth
-pub mod Codes
-pub mod FirstTokens
-pub mod Exact
-pub mod Theorem
-pub mod Scripts
 pub mod TreeLaws

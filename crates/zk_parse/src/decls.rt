@@ -2,16 +2,13 @@ ghost use Rattle.std.specs.Prelude.{◌≡◌};
 ghost use Rattle.zk_tree.specs.declared.decl.Decl.{Decl as SyntaxDecl};
 ghost use Rattle.zk_tree.specs.Grammar as grammar;
 ghost use Rattle.zk_tree.specs.Rules.{ADecl};
-ghost use Rattle.zk_parse.specs.Reading.{Gives, NestsOf, read, unread, within};
+ghost use Rattle.zk_reader.specs.Reading.{Gives, NestsOf, read, unread, within};
 
-use crate::fault::FormFault;
-use crate::inits::{initial, variable};
-use crate::lists::{Element, up_to_brace};
 use crate::stmts::{Stmts, nested_stmt};
-use crate::tokens::Tokens;
-use crate::types::{Types, attrs, nested_type, words};
 use sqlite_items::Items;
 use std::alloc::Global;
+use zk_expr::{attrs, fields, initial, params, signature, typed, variable, words};
+use zk_reader::{Element, FormFault, Tokens, up_to_brace};
 use zk_tree::{Attr, Block, Decl, Field, Init, Keyword, Name, Param, Redefinition, Sign, Type};
 
 /// Statements between braces.
@@ -25,62 +22,6 @@ fn block(alloc: Global, tokens: &mut Tokens<'_>, depth: u64) -> Result<Block, Fo
         nested: nested_stmt,
     };
     stmts.block(tokens)
-}
-
-/// Parameters between parentheses.
-#[tactic(auto, unfolding(zk_tree::specs::Grammar::params))]
-fn params(alloc: Global, tokens: &mut Tokens<'_>, depth: u64) -> Result<Items<Param>, FormFault>
-    ensures { Gives (read (within depth) grammar.params tokens.old) result tokens.new }
-{
-    let types = Types {
-        alloc,
-        depth,
-        nested: nested_type,
-    };
-    types.params(tokens)
-}
-
-/// `(..)`, `(..): RESULT`
-#[tactic(auto, unfolding(zk_tree::specs::Grammar::signature))]
-fn signature(
-    alloc: Global,
-    tokens: &mut Tokens<'_>,
-    depth: u64,
-) -> Result<(Items<Param>, Option<Type>), FormFault>
-    ensures { Gives (read (within depth) grammar.signature tokens.old) result tokens.new }
-{
-    let types = Types {
-        alloc,
-        depth,
-        nested: nested_type,
-    };
-    types.signature(tokens)
-}
-
-/// `NAME: TYPE`
-#[tactic(auto, unfolding(zk_tree::specs::Grammar::typed))]
-fn typed(alloc: Global, tokens: &mut Tokens<'_>, depth: u64) -> Result<(Name, Type), FormFault>
-    ensures { Gives (read (within depth) grammar.typed tokens.old) result tokens.new }
-{
-    let types = Types {
-        alloc,
-        depth,
-        nested: nested_type,
-    };
-    types.typed(tokens)
-}
-
-/// Fields between braces.
-#[tactic(auto, unfolding(zk_tree::specs::Grammar::fields))]
-fn fields(alloc: Global, tokens: &mut Tokens<'_>, depth: u64) -> Result<Items<Field>, FormFault>
-    ensures { Gives (read (within depth) grammar.fields tokens.old) result tokens.new }
-{
-    let types = Types {
-        alloc,
-        depth,
-        nested: nested_type,
-    };
-    types.fields(tokens)
 }
 
 /// `module NAME;`

@@ -1,8 +1,6 @@
 ghost use Rattle.std.specs.Prelude.{◌≡◌};
 ghost use Rattle.zk_parse.specs.declared.fault.ParseFault.TheVariants as fault;
-ghost use Rattle.zk_parse.specs.declared.fault.FormFault.TheVariants as form;
 
-use std::alloc::AllocError;
 use thiserror::Error;
 use zk_base::Mem;
 
@@ -18,35 +16,10 @@ pub enum ParseFault {
     NoMemory,
 }
 
-impl From<AllocError> for ParseFault {
+impl From<Mem> for ParseFault {
     ghost from_gives = { λ _ e. e ≡ fault.NoMemory };
 
-    fn from(_: AllocError) -> ParseFault {
+    fn from(_: Mem) -> ParseFault {
         ParseFault::NoMemory
-    }
-}
-
-/// Why a form was not read from the front of tokens.
-#[derive(Clone, Copy, Debug, PartialEq, Eq)]
-pub enum FormFault {
-    /// The tokens don't begin with it.
-    NoForm,
-    /// Memory ran out.
-    NoMemory,
-}
-
-impl From<Mem> for FormFault {
-    ghost from_gives = { λ _ e. e ≡ form.NoMemory };
-
-    fn from(_: Mem) -> FormFault {
-        FormFault::NoMemory
-    }
-}
-
-impl From<AllocError> for FormFault {
-    ghost from_gives = { λ _ e. e ≡ form.NoMemory };
-
-    fn from(_: AllocError) -> FormFault {
-        FormFault::NoMemory
     }
 }

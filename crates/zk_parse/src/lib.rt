@@ -2,16 +2,9 @@
 #![tactic(auto)]
 
 mod decls;
-mod exprs;
 mod fault;
-mod inits;
-mod lists;
-mod operands;
 mod parsing;
 mod stmts;
-mod tokens;
-mod turns;
-mod types;
 
 pub use fault::ParseFault;
-pub use parsing::parse;
+pub use parsing::{Front, parse, parse_front};

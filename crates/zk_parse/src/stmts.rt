@@ -2,16 +2,12 @@ ghost use Rattle.std.specs.Prelude.{◌≡◌};
 ghost use Rattle.zk_tree.specs.declared.stmt.Stmt.{Stmt as SyntaxStmt};
 ghost use Rattle.zk_tree.specs.Grammar as grammar;
 ghost use Rattle.zk_tree.specs.Rules.{AStmt};
-ghost use Rattle.zk_parse.specs.Reading.{Gives, NestsOf, read, unread, within};
+ghost use Rattle.zk_reader.specs.Reading.{Gives, NestsOf, read, unread, within};
 
-use crate::exprs::Counted;
-use crate::fault::FormFault;
-use crate::inits::{exprs, named_args, variable};
-use crate::lists::{Element, listed, up_to_brace};
-use crate::operands::nested_expr;
-use crate::tokens::Tokens;
 use sqlite_items::{Boxed, Items};
 use std::alloc::Global;
+use zk_expr::{Counted, exprs, named_args, nested_expr, variable};
+use zk_reader::{Element, FormFault, Tokens, listed, up_to_brace};
 use zk_tree::{Block, Expr, Item, Keys, Keyword, Name, Sign, Stmt};
 
 /// `NAME`, `[NAME, ..]`

@@ -1,0 +1,4 @@
+pub mod CellLemmas
+pub mod DateLemmas
+pub mod Rows
+pub mod TextLemmas

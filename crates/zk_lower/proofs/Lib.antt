@@ -12,4 +12,5 @@ pub mod Ending
 pub mod Lies
 pub mod Laid
 pub mod Means
+pub mod Budgets
 mod Rows

@@ -164,7 +164,7 @@ keeps_enter : {A : Type 0} {body : Does A} (locals : ℕ) (args : List Value) �
 keeps_enter {body = body} locals args keeps = record { by = λ state. entered state.units (body (record state { locals = first_locals locals args })) state.locals (keeps.by (record state { locals = first_locals locals args })) }
 
 module _ (program : Program) (c : Calls) (keep : CallsKeep c) where
-  keeps_function_body : (args : List Value) (place : Place) (function : Option Function) → Keeps (function_body program c args place function)
+  pub keeps_function_body : (args : List Value) (place : Place) (function : Option Function) → Keeps (function_body program c args place function)
   keeps_function_body args place None = keeps_misfit place
   keeps_function_body args place (Some one) = keeps_bind (keeps_enter one.locals args (does_keeps program c keep one.body)) (λ flow. keeps_pure (result_of flow))
 

@@ -1,5 +1,5 @@
 -- The code of a program does what the program means.
-use Rattle.std.proofs.Common.{◌≡◌, ◌≤◌, ℕ, zero, suc, ◌+◌, List, [], ◌∷◌, length, Option, Some, None, refl, ap, ◌∙◌, arith}
+use Rattle.std.proofs.Common.{◌≡◌, ℕ, zero, suc, ◌+◌, List, [], ◌∷◌, length, Option, Some, None, refl, ap, ◌∙◌, arith}
 use Rattle.std.specs.Prelude.{slice_get}
 use Rattle.std.specs.Option.{option_map}
 use Rattle.zk_tree.specs.declared.place.Place.{Place}
@@ -14,15 +14,13 @@ use Rattle.zk_typed.specs.Program.{Program, Global, Function, Handler}
 use Rattle.zk_typed.specs.State.{State, World}
 use Rattle.zk_lower.specs.Code.{BodyCode}
 use Rattle.zk_lower.specs.Lowering.{lowered, handler_ops, handler_found, initial_code, initials_code, entry_of, globals_found, globals_at}
-use Rattle.zk_lower.specs.Meant.{begin, run_body, run_initial, without_names, run_found, run_expiry, HandlersMean, InitialsMean, ExpiriesMean, BudgetHolds}
+use Rattle.zk_lower.specs.Meant.{begin, run_body, run_initial, without_names, run_found, run_expiry, HandlersMean, InitialsMean, ExpiriesMean}
 use Rattle.zk_lower.specs.Run.{run}
 use Rattle.zk_lower.proofs.Calls.{calls_run}
 use Rattle.zk_lower.proofs.Ending.{left_same, body_ends, initial_runs}
 use Rattle.zk_lower.proofs.Laid.{placed_at, code_stands, handlers_here, initials_here}
 use Rattle.zk_lower.proofs.Lies.{HasAt, has_front, has_back, body_lies, initial_lies}
-use Rattle.zk_lower.proofs.MeaningUnits.{does_keeps, calls_keep}
 use Rattle.zk_lower.proofs.Standing.{BodyAt, FunctionAt}
-use Rattle.zk_lower.proofs.Units.{AtMost}
 
 module _ (program : Program) where
   handler_means : (one : Handler) (at : ℕ) → BodyAt (lowered program).ops one.body at → (args : List Value) (world : World) (budget : ℕ) → left (run (lowered program) (begin at (first_locals one.locals args) world budget)) ≡ left (handler_body program one args world budget)
@@ -107,14 +105,3 @@ module _ (program : Program) (args : List Value) (world : World) (budget : ℕ) 
 
 pub expiries_mean : ExpiriesMean
 expiries_mean program number args world budget = expiries_at program args world budget program.globals (globals_at program) 0 number
-
--- Budgets ----------------------------------------------------------------------------------------------------------
-
-left_within : {A : Type 0} (most : ℕ) (ran : Ran A) → AtMost most ran → (left ran).units ≤ most
-left_within most (Gives a state) h = h
-left_within most (Faults kind place world units) h = h
-left_within most (Spent place world) h = omega arith
-
-pub budget_holds : BudgetHolds
-budget_holds program handler args world budget = left_within budget (handler_body program handler args world budget)
-    ((does_keeps program (all_calls program) (calls_keep program depth_max) handler.body).by (record { world = world; locals = first_locals handler.locals args; units = budget }))

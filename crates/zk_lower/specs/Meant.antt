@@ -8,7 +8,7 @@ use Rattle.zk_typed.specs.declared.ends.FaultKind.TheVariants.{Unset}
 use Rattle.zk_typed.specs.Dispatch.{Left, left, handler_body, initial_body, expiry_body, interval_of}
 use Rattle.zk_typed.specs.Does.{Ran, Gives, Faults, Spent, and_then, ◌>>=◌, or_fault}
 use Rattle.zk_typed.specs.Meaning.{first_locals}
-use Rattle.zk_typed.specs.Program.{Program, Handler}
+use Rattle.zk_typed.specs.Program.{Program, Handler, Global}
 use Rattle.zk_typed.specs.State.{World}
 use Rattle.zk_lower.specs.Code.{BodyCode, Code}
 use Rattle.zk_lower.specs.Frames.{Machine}
@@ -84,6 +84,12 @@ InitialsMean = (program : Program) (number : ℕ) (world : World) (budget : ℕ)
 abbrev pub ExpiriesMean : Type 0
 ExpiriesMean = (program : Program) (number : ℕ) (args : List Value) (world : World) (budget : ℕ) → expiry_run (lowered program) number args world budget ≡ expiry_left program number args world budget
 
--- No body uses more units than its budget.
-abbrev pub BudgetHolds : Type 0
-BudgetHolds = (program : Program) (handler : Handler) (args : List Value) (world : World) (budget : ℕ) → (left (handler_body program handler args world budget)).units ≤ budget
+-- No handler, no initial value and no expiry function uses more units than its budget.
+abbrev pub HandlersWithin : Type 0
+HandlersWithin = (program : Program) (handler : Handler) (args : List Value) (world : World) (budget : ℕ) → (left (handler_body program handler args world budget)).units ≤ budget
+
+abbrev pub InitialsWithin : Type 0
+InitialsWithin = (program : Program) (number : ℕ) (global : Global) (world : World) (budget : ℕ) → (left (initial_body program number global world budget)).units ≤ budget
+
+abbrev pub ExpiriesWithin : Type 0
+ExpiriesWithin = (program : Program) (global : Global) (args : List Value) (world : World) (budget : ℕ) → (left (expiry_body program global args world budget)).units ≤ budget

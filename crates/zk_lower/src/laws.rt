@@ -1,5 +1,5 @@
 // The code of a program does what the program means.
-ghost use Rattle.zk_lower.specs.Meant.{HandlersMean, InitialsMean, ExpiriesMean, BudgetHolds};
+ghost use Rattle.zk_lower.specs.Meant.{HandlersMean, InitialsMean, ExpiriesMean, HandlersWithin, InitialsWithin, ExpiriesWithin};
 ghost use Rattle.zk_lower.specs.Run.{RunsByStep};
 
 /// Code that is run ends, faults at the same place, or spends its units as what it was made of does, and
@@ -16,10 +16,13 @@ pub fn code_means()
     ensures expiries { ExpiriesMean }
 {}
 
-/// Every run of code ends, and no body uses more units than its budget. There is nothing to run.
+/// Every run of code ends, and nothing that is dispatched uses more units than its budget. There is
+/// nothing to run.
 pub fn code_ends()
     // A run is its first step and then a run, whatever the code, so the steps that it may take are never too
     // few.
     ensures steps { RunsByStep }
-    ensures budget { BudgetHolds }
+    ensures handlers { HandlersWithin }
+    ensures initials { InitialsWithin }
+    ensures expiries { ExpiriesWithin }
 {}

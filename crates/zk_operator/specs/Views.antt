@@ -1,5 +1,5 @@
 -- What the Rust types stand for.
-use Rattle.std.specs.Prelude.{◌≡◌}
+use Rattle.std.specs.Prelude.{List, [], ◌∷◌}
 use Rattle.zk_operator.specs.declared.operands.Typed.{Typed as RustTyped}
 use Rattle.zk_operator.specs.declared.operands.Wanted.{Wanted as RustWanted}
 use Rattle.zk_operator.specs.declared.operands.Wanted.TheVariants as wanted
@@ -16,3 +16,7 @@ abbrev pub wanted_in : RustWanted → Wanted
 wanted_in wanted.Nothing = Nothing
 wanted_in (wanted.Type one) = Wants (type_of one.now)
 wanted_in wanted.Unclear = Unclear
+
+abbrev pub typed_all : List RustTyped → List Typed
+typed_all [] = []
+typed_all (one ∷ others) = typed_of one ∷ typed_all others

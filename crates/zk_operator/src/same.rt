@@ -38,13 +38,15 @@ pub fn same_keys(a: &[SimpleType], b: &[SimpleType]) -> bool
 {
     let mut others = b;
     for key in a {
-        let Some((first, rest)) = others.split_first() else {
-            return false;
-        };
-        if !same_simple(*key, *first) {
-            return false;
+        match others.split_first() {
+            None => return false,
+            Some((first, rest)) => {
+                if !same_simple(*key, *first) {
+                    return false;
+                }
+                others = rest;
+            }
         }
-        others = rest;
     }
     others.is_empty()
 }

@@ -47,9 +47,7 @@ fn literal_of(alloc: Global, one: &Expr) -> Result<Option<(Literal, SimpleType)>
     ensures { IfOk result (λ found. found ≡ spec.literal_of one.now) }
 {
     match one {
-        Expr::Number { number, .. } => {
-            Ok(Some((Literal::Count(*number), SimpleType::Count)))
-        }
+        Expr::Number { number, .. } => { Ok(Some((Literal::Count(*number), SimpleType::Count))) }
         Expr::Interval { number, unit, .. } => {
             let span = interval_of(*number, *unit);
             Ok(Some((Literal::Interval(span), SimpleType::Interval)))
@@ -77,7 +75,9 @@ fn minus_operand(one: &Expr) -> Option<&Expr>
 {
     match one {
         Expr::Unary {
-            operator, operand, ..
+            operator,
+            operand,
+            ..
         } => match operator {
             Prefix::Negate => Some(operand.get()),
             Prefix::Not | Prefix::Increment | Prefix::Decrement => None,
@@ -152,7 +152,9 @@ fn empty_container(one: &Expr) -> Option<Container>
 {
     match one {
         Expr::Make {
-            container, items, ..
+            container,
+            items,
+            ..
         } => {
             if items.is_empty() {
                 Some(*container)

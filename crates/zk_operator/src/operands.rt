@@ -33,9 +33,13 @@ pub enum Wanted<'a> {
 }
 
 pub const COUNT: ValueType = ValueType::Simple(SimpleType::Count);
+
 pub const INT: ValueType = ValueType::Simple(SimpleType::Int);
+
 pub const INTERVAL: ValueType = ValueType::Simple(SimpleType::Interval);
+
 pub const STRING: ValueType = ValueType::Simple(SimpleType::String);
+
 pub const BOOL: ValueType = ValueType::Simple(SimpleType::Bool);
 
 /// An operand.

@@ -89,8 +89,19 @@ fn unrelated(
     }
 }
 
+/// A comparison of operands of right types.
+fn compared(alloc: Global, relation: Relation, a: Typed, b: Typed) -> Result<Typed, AllocError>
+    ensures { IfOk result (λ made. typed_of made ≡ spec.typed type.bool (spec.apply (primitive.Compare relation) (typed_of a ∷ typed_of b ∷ []))) }
+{
+    let operands = two_operands(alloc, a.expr, b.expr)?;
+    Ok(applied(
+        ValueType::Simple(SimpleType::Bool),
+        Primitive::Compare(relation),
+        operands,
+    ))
+}
+
 /// `a == b` and the like, of operands at two places.
-#[tactic(auto, using(crate::proofs::Comparisons::related_is))]
 pub fn related(
     alloc: Global,
     relation: Relation,
@@ -104,12 +115,8 @@ pub fn related(
     match unrelated(relation, first, second, &a.value_type, &b.value_type) {
         Some(place) => Err(Refusal::Broken(one_broken(alloc, Rule::WrongType, place)?)),
         None => {
-            let operands = two_operands(alloc, a.expr, b.expr)?;
-            Ok(applied(
-                ValueType::Simple(SimpleType::Bool),
-                Primitive::Compare(relation),
-                operands,
-            ))
+            let made = compared(alloc, relation, a, b)?;
+            Ok(made)
         }
     }
 }

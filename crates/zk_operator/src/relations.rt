@@ -58,10 +58,8 @@ pub fn relates(relation: Relation, one: &ValueType) -> bool
     match one {
         ValueType::Simple(simple) => match relation {
             Relation::Equal | Relation::NotEqual => true,
-            Relation::Less
-            | Relation::LessEqual
-            | Relation::Greater
-            | Relation::GreaterEqual => is_ordered(*simple),
+            Relation::Less | Relation::LessEqual | Relation::Greater | Relation::GreaterEqual =>
+                is_ordered(*simple),
         },
         ValueType::Record(_)
         | ValueType::Table { .. }

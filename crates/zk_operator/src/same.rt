@@ -74,7 +74,8 @@ pub fn same_type(a: &ValueType, b: &ValueType) -> bool
             ValueType::Table {
                 keys: others,
                 value: other,
-            } => same_keys(keys.as_slice(), others.as_slice()) && same_type(value.get(), other.get()),
+            } => same_keys(keys.as_slice(), others.as_slice())
+                && same_type(value.get(), other.get()),
             ValueType::Simple(_)
             | ValueType::Record(_)
             | ValueType::Set { .. }

@@ -74,13 +74,7 @@ pub fn keys_in(tables: bool, one: &ValueType) -> Option<&[SimpleType]>
 {
     match one {
         ValueType::Set { keys } => Some(keys.as_slice()),
-        ValueType::Table { keys, .. } => {
-            if tables {
-                Some(keys.as_slice())
-            } else {
-                None
-            }
-        }
+        ValueType::Table { keys, .. } => { if tables { Some(keys.as_slice()) } else { None } }
         ValueType::Simple(_) | ValueType::Record(_) | ValueType::Vector { .. } => None,
     }
 }

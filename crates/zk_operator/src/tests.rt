@@ -1,4 +1,6 @@
-use crate::{Typed, Wanted, arithmetic, arithmetic_of, fit, interval_of, relates, same_type, verbs};
+use crate::{
+    Typed, Wanted, arithmetic, arithmetic_of, fit, interval_of, relates, same_type, verbs,
+};
 use std::test::Fail;
 use zk_base::Span;
 use zk_tree::{Place, TimeUnit};

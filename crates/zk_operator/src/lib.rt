@@ -1,0 +1,25 @@
+//! The types of operators, and what they make of operands that have types.
+#![tactic(auto)]
+
+mod defaults;
+mod literals;
+mod operands;
+mod operators;
+mod relations;
+mod same;
+mod shapes;
+mod table;
+mod texts;
+
+pub use defaults::default_typed;
+pub use literals::{constant, interval_of, literal_typed};
+pub use operands::{Typed, Wanted, beside, fit, fits, simple_type, to_int};
+pub use operators::{arithmetic, choice, inverted, negative, related, truths, turned};
+pub use relations::{binary_of, is_ordered, relates, relation_of};
+pub use same::{copied_keys, copied_type, same_keys, same_simple, same_type};
+pub use shapes::{added_type, empty_of, is_vector, keys_in, plain_shape, update_of};
+pub use table::{arithmetic_of, takes_left};
+pub use texts::{verb_takes, verbs, verbs_take};
+
+#[cfg(test)]
+mod tests;

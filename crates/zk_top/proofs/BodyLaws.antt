@@ -11,11 +11,8 @@ use Rattle.std.proofs.lemmas.Slice.Eq.{bytes_eq-Decides}
 use Rattle.std.proofs.lemmas.Option.{slice_get_cases}
 use Rattle.zk_base.specs.declared.endings.ScriptKind.TheVariants.{TooLarge}
 use Rattle.zk_tree.specs.declared.token.Token.{Token}
-use Rattle.zk_tree.specs.declared.token.TokenKind.TheVariants as token
-use Rattle.zk_tree.specs.declared.token.Sign.TheVariants as sign
 use Rattle.zk_tree.specs.declared.place.Place.{Place}
-use Rattle.zk_tree.specs.declared.first.Tree.{Tree}
-use Rattle.zk_tree.specs.declared.first.Decl.{Decl}
+use Rattle.zk_tree.specs.declared.first.Decl.{Decl as FirstDecl}
 use Rattle.zk_tree.specs.declared.first.Param.{Param}
 use Rattle.zk_tree.specs.declared.first.Decl.TheVariants as decl
 use Rattle.zk_tree.specs.declared.first.Stmt.{Stmt}
@@ -23,15 +20,22 @@ use Rattle.zk_tree.specs.declared.first.Stmt.TheVariants as stmt
 use Rattle.zk_tree.specs.declared.first.Expr.{Expr}
 use Rattle.zk_tree.specs.declared.first.Expr.TheVariants as expr
 use Rattle.zk_tree.specs.Forms.{Event, predefined_events, number_of, event_number, type_name, are_params, is_head, names_of, is_expr, is_stmt, is_decl}
-use Rattle.zk_first.specs.Grammar.{Spelled, follows, with_commas, spelled_expr, spelled_stmt, spelled_params, spelled_block, spelled_decl, spelled_tree, AreSpelled}
 use Rattle.zk_tree.specs.Value.{Value}
 use Rattle.zk_tree.specs.Value as value
 use Rattle.zk_typed.specs.Typed.{zeek_init, zeek_done, expression_of, place_in, statement_of, handler_of, program_of}
 use Rattle.zk_typed.specs.Exec.{Stop, called, named, before, and_then, evaluate, evaluate_all, Normal, Left, is_normal, printed, exec, exec_all}
 use Rattle.zk_typed.specs.declared.program.Program.{Program}
 use Rattle.zk_typed.specs.World.{World, queued}
-use Rattle.zk_first.specs.Reading.{tree_of}
-use Rattle.zk_first.proofs.TreeLaws.{tree_of-tree}
+use Rattle.zk_tree.specs.declared.decl.Decl.{Decl}
+use Rattle.zk_tree.specs.Reading.{IsDecl}
+use Rattle.zk_tree.specs.Rules.{Repeated}
+use Rattle.zk_parse.specs.declared.parsing.Front.{Front}
+use Rattle.zk_parse.specs.Trees.{front_of}
+use Rattle.zk_parse.proofs.TreeLaws.{front_of-whole}
+use Rattle.zk_tree.specs.Places.{decl_place}
+use Rattle.zk_top.specs.First.{decl_of, decls_of}
+use Rattle.zk_top.proofs.FirstLaws.{parts_of}
+use Rattle.zk_top.proofs.UnitLaws.{expr_units, stmt_units, body_units, decl_tokens}
 use Rattle.zk_top.specs.Bodies.{parameter_count, HasItsArguments, EndsNormally}
 use Rattle.zk_top.specs.Item.{What, Seen}
 use Rattle.zk_top.specs.Printed.{budget, event_of}
@@ -39,54 +43,6 @@ use Rattle.zk_token.specs.Fault.{Fault}
 use Rattle.zk_token.specs.Items.{in_front, items_from}
 use Rattle.zk_token.specs.Tokens.{next_token, behind_separators, fault_of, tokens_of}
 use Rattle.zk_top.specs.Script.{script_max, program_by, program_read, script_of}
-
--- Units, and the tokens that spell what takes them ----------------------------------------------------------------
-
--- the units that an expression takes
-abbrev expr_units : Expr → ℕ
-expr_units (expr.Number place number) = 0
-expr_units (expr.String place bytes) = 0
-expr_units (expr.True place) = 0
-expr_units (expr.False place) = 0
-expr_units (expr.Name place name) = 0
-expr_units (expr.Call place name) = 1
-
--- a statement takes one itself
-abbrev stmt_units : Stmt → ℕ
-stmt_units (stmt.Print place values) = 1 + sum_by expr_units values
-
-abbrev body_units : Decl → ℕ
-body_units (decl.Event place name params body) = sum_by stmt_units body.stmts
-
--- each unit of an expression is spelled by two tokens beside its first
-expr_tokens : (e : Expr) → 2 * expr_units e + 1 ≡ length (spelled_expr e)
-expr_tokens (expr.Number place number) = refl
-expr_tokens (expr.String place bytes) = refl
-expr_tokens (expr.True place) = refl
-expr_tokens (expr.False place) = refl
-expr_tokens (expr.Name place name) = refl
-expr_tokens (expr.Call place name) = refl
-
-values_tokens : (values : List Expr) → 2 * sum_by expr_units values ≤ length (with_commas (map spelled_expr values))
-values_tokens [] = omega arith
-values_tokens (e ∷ []) = omega (arith, expr_tokens e, sum_by-cons expr_units e [])
-values_tokens (e ∷ second ∷ others) =
-    let behind = follows (token.Sign sign.Comma) ∷ with_commas (map spelled_expr (second ∷ others)) in
-    omega (arith, expr_tokens e, length-append (spelled_expr e) behind, values_tokens (second ∷ others), sum_by-cons expr_units e (second ∷ others))
-
--- and that of a statement by its `print` and its semicolon
-stmt_tokens : (s : Stmt) → 2 * stmt_units s ≤ length (spelled_stmt s)
-stmt_tokens (stmt.Print place values) =
-    omega (arith, values_tokens values, length-append (with_commas (map spelled_expr values)) (follows (token.Sign sign.Semicolon) ∷ []))
-
-stmts_tokens : (stmts : List Stmt) → 2 * sum_by stmt_units stmts ≤ length (flat_map spelled_stmt stmts)
-stmts_tokens [] = omega arith
-stmts_tokens (s ∷ others) =
-    omega (arith, stmt_tokens s, stmts_tokens others, length-append (spelled_stmt s) (flat_map spelled_stmt others), sum_by-cons stmt_units s others)
-
-decl_tokens : (d : Decl) → 2 * body_units d ≤ length (spelled_decl d)
-decl_tokens (decl.Event place name params body) =
-    omega (arith, stmts_tokens body.stmts, length-append (spelled_params params) (spelled_block body), length-append (flat_map spelled_stmt body.stmts) (follows (token.Sign sign.CloseBrace) ∷ []))
 
 -- Names -----------------------------------------------------------------------------------------------------------
 
@@ -220,20 +176,23 @@ head_count (event ∷ others) name params are is = elim (one_of (bytes_eq name e
 ]
 
 -- with a budget for all of its units
-ends : (file : ℕ) (d : Decl) → is_decl d ≡ true → body_units d ≤ budget → EndsNormally (handler_of file d)
+ends : (file : ℕ) (d : FirstDecl) → is_decl d ≡ true → body_units d ≤ budget → EndsNormally (handler_of file d)
 ends file (decl.Event place name params body) is enough = λ args world same.
     let parts = and_parts (is_head name params) (list_all (is_stmt (names_of params)) body.stmts) is in
     let names : length args ≡ length (names_of params) = same ∙ head_count predefined_events name params predefined_are_numbered parts.0 ∙ sym (length-map params (λ (param : Param). param.name)) in
     runs_all file (names_of params) args body.stmts world budget names parts.1 enough
 
 -- declarations of a script of the permitted length
-all_end : (decls : List Decl) → list_all is_decl decls ≡ true → length (flat_map spelled_decl decls) ≤ script_max → All EndsNormally (map (handler_of 0) decls)
-all_end [] are short = All-nil EndsNormally
-all_end (d ∷ others) are short =
-    let parts = and_parts (is_decl d) (list_all is_decl others) are in
-    let both = length-append (spelled_decl d) (flat_map spelled_decl others) in
-    let first = ends 0 d parts.0 (omega (arith, decl_tokens d)) in
-    All-cons EndsNormally (handler_of 0 d) (map (handler_of 0) others) first (all_end others parts.1 (omega arith))
+all_end : (trees : List Decl) (decls : List FirstDecl) (tokens rest : List Token) → Repeated IsDecl trees tokens rest → decls_of trees ≡ Ok decls → length tokens ≤ script_max
+    → All EndsNormally (map (handler_of 0) decls)
+all_end [] decls tokens rest are is short =
+    let none : decls ≡ [] = cc in
+    rw none (All-nil EndsNormally)
+all_end (tree ∷ others) decls tokens rest are is short =
+    let parts = parts_of decl_of decl_place tree others decls is in
+    let first = decl_tokens tree parts.0 tokens are.0 parts.2 are.1 in
+    let ended = ends 0 parts.0 first.0 (omega (arith, first.1)) in
+    rw parts.4 (All-cons EndsNormally (handler_of 0 parts.0) (map (handler_of 0) parts.1) ended (all_end others parts.1 are.0 rest are.2 parts.3 (omega (arith, first.1))))
 
 -- Texts -----------------------------------------------------------------------------------------------------------
 
@@ -255,30 +214,22 @@ tokens-few text tokens is =
       | false ↦ λ all. let same : found.0 ≡ tokens = cc in omega (arith, ap length same, items_from-length (length text) (next_token text) 0)
     ] is
 
-AreSpelled-length : (spelled : List Spelled) (tokens : List Token) → AreSpelled spelled tokens → length spelled ≡ length tokens
-AreSpelled-length [] [] are = refl
-AreSpelled-length [] (t ∷ tokens) are = absurd are
-AreSpelled-length (s ∷ others) [] are = absurd are
-AreSpelled-length (s ∷ others) (t ∷ tokens) are = ap suc (AreSpelled-length others tokens are.2)
-
--- a program is that of a tree
-program_by-ok : (tokens : List Token) (read : Result Tree ℕ) (program : Program) → program_by tokens read ≡ Ok program
-    → (tree : Tree) × (read ≡ Ok tree) × (program_of tree ≡ program)
-program_by-ok tokens (Ok tree) program is = (tree, refl, cc)
-program_by-ok tokens (Err number) program is = absurd cc
-
-tree_ends : (tokens : List Token) (tree : Tree) → length tokens ≤ script_max → tree_of tokens ≡ Ok tree → All EndsNormally (program_of tree).handlers
-tree_ends tokens tree short is =
-    let reads = (tree_of-tree tokens tree).0 is in
-    let long = AreSpelled-length (spelled_tree tree) tokens reads.spelled in
-    all_end tree.decls reads.forms (omega (arith, long, short))
+-- a program is that of declarations behind which no token is left
+program_by-ok : (tokens : List Token) (found : Result (List FirstDecl) ℕ) (stop : Option ℕ) (program : Program) → program_by tokens found stop ≡ Ok program
+    → (decls : List FirstDecl) × (found ≡ Ok decls) × (stop ≡ None) × (program_of (record { decls = decls }) ≡ program)
+program_by-ok tokens (Ok decls) None program is = (decls, refl, refl, cc)
+program_by-ok tokens (Ok decls) (Some number) program is = absurd cc
+program_by-ok tokens (Err place) stop program is = absurd cc
 
 read_ends : (text : List ℕ) (program : Program) → length text ≤ script_max → program_read (tokens_of text) ≡ Ok program → All EndsNormally program.handlers
 read_ends text program short =
     elim (tokens_of text) as (λ (r : Result (List Token) Fault). tokens_of text ≡ r → program_read r ≡ Ok program → All EndsNormally program.handlers) [
       | Ok tokens ↦ λ are accepted.
-          let found = program_by-ok tokens (tree_of tokens) program accepted in
-          subst (λ (p : Program). All EndsNormally p.handlers) found.2 (tree_ends tokens found.0 (omega (arith, tokens-few text tokens are, short)) found.1)
+          let front = front_of tokens in
+          let found = program_by-ok tokens (decls_of front.decls) front.stop program accepted in
+          let whole : front ≡ record { decls = front.decls; stop = None } = ap (λ (o : Option ℕ). record { decls = front.decls; stop = o }) found.2 in
+          let reads = (front_of-whole tokens front.decls).0 whole in
+          subst (λ (p : Program). All EndsNormally p.handlers) found.3 (all_end front.decls found.0 tokens [] reads found.1 (omega (arith, tokens-few text tokens are, short)))
       | Err fault ↦ λ is refused. absurd cc
     ] refl
 

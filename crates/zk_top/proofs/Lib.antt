@@ -5,6 +5,9 @@ mod CommandLemmas
 mod Dispatching
 mod Doing
 mod EntryLemmas
+mod FirstLaws
+mod FormLaws
+mod FrontLaws
 mod Growth
 mod ListingLemmas
 mod OpenCapture
@@ -15,4 +18,5 @@ mod ReplayLemmas
 mod Rows
 mod Said
 mod SoFar
+mod UnitLaws
 mod WholeRun

@@ -7,7 +7,8 @@ use Rattle.zk_base.specs.declared.endings.ScriptKind.TheVariants.{BadByte, OpenS
 use Rattle.zk_base.specs.Shelf.{Files}
 use Rattle.zk_text.specs.Span.{span_decimal}
 use Rattle.zk_typed.specs.Run.{dispatches_max}
-use Rattle.zk_first.specs.Reading.{sign_at, name_at, word_at, repeated, behind_comma, listed, call_at, named_at, expr_at, stmt_at, stmts_at, block_at, type_at, param_at, listed_params_at, params_at, handler_at, decl_at, decls_from, tree_of}
+use Rattle.zk_tree.specs.Opening.{trees}
+use Rattle.zk_parse.specs.Opening.{reading}
 use Rattle.zk_top.specs.Outcome.{outcome}
 
 -- one input, c.pcap
@@ -70,15 +71,15 @@ run : List (List ℕ)
 run = codes "run" ∷ codes "-b" ∷ codes "-r" ∷ codes "c.pcap" ∷ codes "s.zeek" ∷ []
 
 a_run_begins_and_ends_at_time_0_over_no_packet : (outcome run (two header (codes "event zeek_init() { print network_time(); } event zeek_done() { print network_time(); }"))).said ≡ codes "0.000000\n0.000000\n"
-unfolding sign_at name_at word_at repeated behind_comma listed call_at named_at expr_at stmt_at stmts_at block_at type_at param_at listed_params_at params_at handler_at decl_at decls_from tree_of one two run header span_decimal digits dispatches_max
+unfolding reading trees one two run header span_decimal digits dispatches_max
 a_run_begins_and_ends_at_time_0_over_no_packet = refl
 
 a_packet_is_seen_by_its_handler : (outcome run (two (header ++ cut) (codes "event packet_seen(t: time, caplen: count, len: count) { print t, caplen, len, \"x\"; }"))).said ≡ codes "1.000000, 2, 2, x\n"
-unfolding sign_at name_at word_at repeated behind_comma listed call_at named_at expr_at stmt_at stmts_at block_at type_at param_at listed_params_at params_at handler_at decl_at decls_from tree_of one two run header cut span_decimal digits dispatches_max
+unfolding reading trees one two run header cut span_decimal digits dispatches_max
 a_packet_is_seen_by_its_handler = refl
 
 a_run_over_a_cut_capture_ends_cut : (outcome run (two (header ++ cut) [])).ending ≡ CutShort (codes "c.pcap") 42
-unfolding sign_at name_at word_at repeated behind_comma listed call_at named_at expr_at stmt_at stmts_at block_at type_at param_at listed_params_at params_at handler_at decl_at decls_from tree_of one two run header cut dispatches_max
+unfolding reading trees one two run header cut dispatches_max
 a_run_over_a_cut_capture_ends_cut = refl
 
 -- no bytes at 5 s, and then none at 3 s
@@ -86,23 +87,31 @@ backwards : List ℕ
 backwards = 5 ∷ 0 ∷ 0 ∷ 0 ∷ 0 ∷ 0 ∷ 0 ∷ 0 ∷ 0 ∷ 0 ∷ 0 ∷ 0 ∷ 0 ∷ 0 ∷ 0 ∷ 0 ∷ 3 ∷ 0 ∷ 0 ∷ 0 ∷ 0 ∷ 0 ∷ 0 ∷ 0 ∷ 0 ∷ 0 ∷ 0 ∷ 0 ∷ 0 ∷ 0 ∷ 0 ∷ 0 ∷ []
 
 the_end_has_the_last_network_time : (outcome run (two (header ++ backwards) (codes "event zeek_done() { print network_time(); }"))).said ≡ codes "5.000000\n"
-unfolding sign_at name_at word_at repeated behind_comma listed call_at named_at expr_at stmt_at stmts_at block_at type_at param_at listed_params_at params_at handler_at decl_at decls_from tree_of one two run header backwards span_decimal digits dispatches_max
+unfolding reading trees one two run header backwards span_decimal digits dispatches_max
 the_end_has_the_last_network_time = refl
 
 handlers_run_in_load_order : (outcome run (two header (codes "event zeek_init() { print \"b\"; } event zeek_init() { print \"a\", T; }"))).said ≡ codes "b\na, T\n"
-unfolding sign_at name_at word_at repeated behind_comma listed call_at named_at expr_at stmt_at stmts_at block_at type_at param_at listed_params_at params_at handler_at decl_at decls_from tree_of one two run header dispatches_max
+unfolding reading trees one two run header dispatches_max
 handlers_run_in_load_order = refl
 
 a_declaration_that_does_not_read_is_refused : (outcome run (two header (codes "event zeek_init() { print 1; } if"))).ending ≡ ScriptRefused (codes "s.zeek") 31 NoTree
-unfolding sign_at name_at word_at repeated behind_comma listed call_at named_at expr_at stmt_at stmts_at block_at type_at param_at listed_params_at params_at handler_at decl_at decls_from tree_of one two run header dispatches_max
+unfolding reading trees one two run header dispatches_max
 a_declaration_that_does_not_read_is_refused = refl
 
+a_form_that_is_not_run_is_refused_before_what_does_not_read : (outcome run (two header (codes "event zeek_init() { print 1; } global x: count; if"))).ending ≡ ScriptRefused (codes "s.zeek") 31 NoTree
+unfolding reading trees one two run header dispatches_max
+a_form_that_is_not_run_is_refused_before_what_does_not_read = refl
+
+what_does_not_read_is_refused_before_a_form_that_is_not_run : (outcome run (two header (codes "if global x: count;"))).ending ≡ ScriptRefused (codes "s.zeek") 0 NoTree
+unfolding reading trees one two run header dispatches_max
+what_does_not_read_is_refused_before_a_form_that_is_not_run = refl
+
 a_refused_script_is_complained_of : (outcome run (two header (codes "print 1;"))).complained ≡ codes "zeekoff: s.zeek, byte 0: NoTree\n"
-unfolding sign_at name_at word_at repeated behind_comma listed call_at named_at expr_at stmt_at stmts_at block_at type_at param_at listed_params_at params_at handler_at decl_at decls_from tree_of one two run header digits dispatches_max
+unfolding reading trees one two run header digits dispatches_max
 a_refused_script_is_complained_of = refl
 
 a_refused_script_asks_for_no_capture : (outcome run (two header (codes "print 1;"))).asked ≡ codes "s.zeek" ∷ []
-unfolding sign_at name_at word_at repeated behind_comma listed call_at named_at expr_at stmt_at stmts_at block_at type_at param_at listed_params_at params_at handler_at decl_at decls_from tree_of one two run header dispatches_max
+unfolding reading trees one two run header dispatches_max
 a_refused_script_asks_for_no_capture = refl
 
 -- Tokens are judged before the tree.
@@ -119,7 +128,7 @@ unfolding one two run header digits
 a_great_number_is_complained_of = refl
 
 a_script_is_asked_for_before_its_capture : (outcome run (two header [])).asked ≡ codes "s.zeek" ∷ codes "c.pcap" ∷ []
-unfolding sign_at name_at word_at repeated behind_comma listed call_at named_at expr_at stmt_at stmts_at block_at type_at param_at listed_params_at params_at handler_at decl_at decls_from tree_of one two run header dispatches_max
+unfolding reading trees one two run header dispatches_max
 a_script_is_asked_for_before_its_capture = refl
 
 -- neither of these two is there: the script is missed, and the capture is not asked for
@@ -139,13 +148,13 @@ both : List (List ℕ)
 both = codes "run" ∷ codes "-b" ∷ codes "-r" ∷ codes "s.zeek" ∷ codes "s.zeek" ∷ []
 
 a_file_named_twice_is_asked_for_twice : (outcome both (two header [])).asked ≡ codes "s.zeek" ∷ codes "s.zeek" ∷ []
-unfolding sign_at name_at word_at repeated behind_comma listed call_at named_at expr_at stmt_at stmts_at block_at type_at param_at listed_params_at params_at handler_at decl_at decls_from tree_of one two both dispatches_max
+unfolding reading trees one two both dispatches_max
 a_file_named_twice_is_asked_for_twice = refl
 
 an_empty_file_is_a_script_and_no_capture : (outcome both (two header [])).ending ≡ CaptureRefused (codes "s.zeek") 0
-unfolding sign_at name_at word_at repeated behind_comma listed call_at named_at expr_at stmt_at stmts_at block_at type_at param_at listed_params_at params_at handler_at decl_at decls_from tree_of one two both dispatches_max
+unfolding reading trees one two both dispatches_max
 an_empty_file_is_a_script_and_no_capture = refl
 
 a_refused_capture_lets_nothing_run : (outcome run (two [] (codes "event zeek_init() { print 1; }"))).said ≡ []
-unfolding sign_at name_at word_at repeated behind_comma listed call_at named_at expr_at stmt_at stmts_at block_at type_at param_at listed_params_at params_at handler_at decl_at decls_from tree_of one two run dispatches_max
+unfolding reading trees one two run dispatches_max
 a_refused_capture_lets_nothing_run = refl

@@ -2,6 +2,7 @@ pub mod About
 pub mod Command
 pub mod Item
 pub mod Line
+pub mod First
 pub mod Script
 pub mod Lowering
 pub mod Printed

@@ -1,5 +1,6 @@
 use std::alloc::Global;
 use std::test::Fail;
+use zk_base::Mem;
 use zk_parse::{ParseFault, parse};
 use zk_token::tokens;
 
@@ -79,6 +80,29 @@ const REFUSED: [(&[u8], u64); 8] = [
     (b"event e() {} event e() {", 13),
     (b"export { 5 }", 0),
 ];
+
+/// A function whose body is a mark, so many times, and what stands behind. The function, the statement, the
+/// expression, its condition and its operand are nested, and each prefix nests another operand.
+fn nested(alloc: Global, mark: u8, times: usize, last: &[u8]) -> Result<Vec<u8>, Mem> {
+    let mut text = Vec::from_slice(alloc, b"function f() {".as_slice())?;
+    for _ in 0..times {
+        text.push(mark)?;
+    }
+    text.extend_from_slice(last)?;
+    Ok(text)
+}
+
+#[test]
+fn a_declaration_nests_200_deep(rt: HostRuntime) -> Result<(), Fail> {
+    let alloc = rt.alloc();
+    let deepest = nested(alloc, b'!', 195, b"a; }")?;
+    assert_eq!(rt; declarations(alloc, &deepest), Ok(1));
+    let deeper = nested(alloc, b'!', 196, b"a; }")?;
+    assert_eq!(rt; declarations(alloc, &deeper), Err(Some(0)));
+    let endless = nested(alloc, b'(', 100_000, b"")?;
+    assert_eq!(rt; declarations(alloc, &endless), Err(Some(0)));
+    Ok(())
+}
 
 #[test]
 fn every_form_of_the_language_is_read(rt: HostRuntime) -> Result<(), Fail> {

@@ -7,6 +7,8 @@ mod capture;
 mod command;
 mod complaint;
 mod entry;
+mod firsts;
+mod forms;
 mod found;
 mod front;
 mod line;

@@ -1,20 +1,23 @@
-ghost use Rattle.std.specs.Prelude.{◌≡◌, ◌<◌, [], ◌∷◌, length, IfOk, IfErr};
+ghost use Rattle.std.specs.Prelude.{◌≡◌, ◌<◌, [], ◌∷◌, length, Ok, IfOk, IfErr, IfSome};
 ghost use Rattle.zk_top.specs.Lowering.{FindsCode, code_found};
 ghost use Rattle.zk_top.specs.Outcome.{accepted};
+ghost use Rattle.zk_top.specs.First.{decls_of};
 ghost use Rattle.zk_top.specs.Parts.{DoesPart};
-ghost use Rattle.zk_first.specs.Reading.{tree_of};
+ghost use Rattle.zk_parse.specs.Trees.{front_of};
 ghost use Rattle.zk_top.specs.Script.{script_of, program_by, place_of_token};
 
+use crate::firsts::decls_of;
 use crate::found::Found;
 use crate::lowering::code_of;
 use crate::reading::read_input;
 use crate::stop::Stop;
 use crate::typing::program_of;
 use std::alloc::Global;
-use zk_base::{Bytes, Ending, Mem, ScriptKind, Shelf};
-use zk_first::{ParseFault, parse};
+use zk_base::{Bytes, Ending, Mem, ScriptKind, Sequence, Shelf};
+use zk_parse::parse_front;
 use zk_token::{LexFault, tokens};
 use zk_tree::Token;
+use zk_tree::first::{Decl, Tree};
 use zk_value::Code;
 
 /// The most bytes that a script may have.
@@ -50,17 +53,36 @@ fn compile(alloc: Global, name: Bytes, text: &[u8]) -> Result<Found<Code>, Mem>
 
 /// The code of the tokens of a text, or how a run ends where they are refused.
 fn compile_tokens(alloc: Global, name: Bytes, tokens: &[Token]) -> Result<Found<Code>, Mem>
-    ensures { IfOk result (λ code. code ≡ code_found (accepted name (program_by tokens.now (tree_of tokens.now)))) }
+    ensures { IfOk result (λ code. code ≡ code_found (accepted name (program_by tokens.now (decls_of (front_of tokens.now).decls) (front_of tokens.now).stop))) }
 {
-    match parse(alloc, tokens) {
-        Ok(tree) => {
-            let program = program_of(alloc, &tree)?;
+    let front = parse_front(alloc, tokens)?;
+    match decls_of(alloc, front.decls.as_slice())? {
+        Ok(decls) => compile_decls(alloc, name, tokens, decls, front.stop),
+        Err(place) => Ok(refused(name, place, ScriptKind::NoTree)),
+    }
+}
+
+/// The code of declarations behind which no token is left, or how a run ends at one that begins none.
+fn compile_decls(
+    alloc: Global,
+    name: Bytes,
+    tokens: &[Token],
+    decls: Sequence<Decl>,
+    stop: Option<usize>,
+) -> Result<Found<Code>, Mem>
+    requires { IfSome stop (λ number. number < length tokens.now) }
+    ensures { IfOk result (λ code. code ≡ code_found (accepted name (program_by tokens.now (Ok decls) stop))) }
+{
+    match stop {
+        None => {
+            let program = program_of(alloc, &Tree { decls })?;
             Ok(Found::Accepted(code_of(alloc, &program)?))
         }
-        Err(ParseFault::NoTree { at }) => {
-            Ok(refused(name, place_of(tokens, at), ScriptKind::NoTree))
-        }
-        Err(ParseFault::NoMemory) => Err(Mem),
+        Some(number) => Ok(refused(
+            name,
+            place_of(tokens, number),
+            ScriptKind::NoTree,
+        )),
     }
 }
 

@@ -1,9 +1,0 @@
-use Rattle.std.proofs.Common.{length}
-use Rattle.zk_first.proofs.TreeLaws.{IsReadTo}
-use Rattle.zk_first.proofs.parsing.tree.Given as goal
-
-abbrev pub invariant-decls : goal.invariant-decls
-invariant-decls l = IsReadTo l.tokens l.decls.items l.rest
-
-abbrev pub decreases-decls : goal.decreases-decls
-decreases-decls l = length l.rest

@@ -13,7 +13,7 @@ ghost use Rattle.zk_traffic.specs.declared.item.What.TheVariants as what;
 
 use crate::item::{Item, What};
 use crate::news::News;
-use crate::queue::{give, give_endings, give_gaps, give_opening, give_removed};
+use crate::queue::{give, give_endings, give_gaps, give_opening, give_removed, give_units};
 use crate::segment::Segment;
 use crate::table::Table;
 use std::alloc::Global;
@@ -48,6 +48,13 @@ impl Connections {
         ensures { result ≡ self.now.table.streams.kept }
     {
         self.table.kept()
+    }
+
+    /// How many bytes of all streams wait to be read.
+    pub fn unread(&self) -> u64
+        ensures { result ≡ self.now.table.streams.unread }
+    {
+        self.table.unread()
     }
 
     /// What the last packet brought.
@@ -120,7 +127,9 @@ impl Connections {
     {
         let done = self.table.take(t, segment, &mut self.news)?;
         give_opening(&mut self.items, &self.table, t, done)?;
-        give_gaps(&mut self.items, &self.table, t, done.conn, &self.news.gaps)?;
+        let conn = done.conn;
+        give_gaps(&mut self.items, &self.table, t, conn, &self.news.gaps)?;
+        give_units(&mut self.items, &self.table, t, conn, &mut self.news.units)?;
         give_endings(&mut self.items, &self.table, t, done)
     }
 

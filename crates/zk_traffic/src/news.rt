@@ -2,7 +2,9 @@ ghost use Rattle.std.specs.Prelude.{◌≡◌, ◌+◌, ◌<◌, ◌≤◌, ◌=
 ghost use Rattle.zk_traffic.specs.declared.news.Run.{Run};
 
 use std::alloc::Global;
+use std::collections::VecDeque;
 use zk_base::{ConnNo, Mem, Side};
+use zk_units::Freed;
 
 /// A run of bytes by which a packet moved the front of a side's stream.
 #[derive(Clone, Copy, Debug)]
@@ -33,13 +35,15 @@ struct Run {
     end: usize,
 }
 
-/// What a packet brought the streams of its connection, up to their fronts: runs of bytes, and the
-/// gaps between them.
+/// What a packet brought the streams of its connection, up to their fronts: runs of bytes, the gaps
+/// between them, and the units that they free.
 #[derive(Debug, Drop)]
 pub struct News {
     bytes: Vec<u8>,
     runs: Vec<Run>,
     pub gaps: Vec<Gap>,
+    /// The units that it freed.
+    pub units: VecDeque<Freed>,
     ghost within: { All (λ (run : Run). run.end ≤ vec_len bytes) runs.items },
     ghost order: { All (λ (run : Run). run.start ≤ run.end) runs.items },
 }
@@ -60,6 +64,7 @@ impl News {
             bytes: Vec::new(alloc),
             runs: Vec::new(alloc),
             gaps: Vec::new(alloc),
+            units: VecDeque::new(alloc),
         }
     }
 
@@ -72,6 +77,7 @@ impl News {
         self.runs.clear();
         self.bytes.clear();
         self.gaps.clear();
+        self.units.clear();
     }
 
     /// Adds a run of bytes, if there are any.

@@ -61,6 +61,11 @@ impl Segment<'_> {
         self.has(RST)
     }
 
+    /// Whether not all of the payload was captured.
+    pub fn was_cut(&self) -> bool {
+        (self.payload.len() as u64) < u64::from(self.view.payload_len)
+    }
+
     /// The sequence number of the payload, which stands behind the SYN.
     pub fn payload_number(&self) -> u32
         ensures { (t : Moment) → result ≡ payload_number (segment_of t self.now) }

@@ -12,6 +12,7 @@ use crate::streams::{Moved, Moves, Stops, Streams};
 use std::alloc::Global;
 use std::collections::BTreeMap;
 use zk_base::{ConnNo, Mem, Side};
+use zk_units::Protocol;
 
 /// The streams of live connections.
 #[derive(Debug, Drop)]
@@ -22,6 +23,8 @@ pub struct StreamTable {
     streams: BTreeMap<u64, Streams>,
     /// How many bytes all streams hold.
     kept: u64,
+    /// How many bytes of them wait to be read.
+    unread: u64,
 }
 
 /// What a segment does to no streams.
@@ -50,6 +53,7 @@ impl StreamTable {
             limit,
             streams: BTreeMap::new(alloc),
             kept: 0,
+            unread: 0,
         }
     }
 
@@ -60,12 +64,20 @@ impl StreamTable {
         self.kept
     }
 
+    /// How many bytes of all streams wait to be read.
+    pub fn unread(&self) -> u64
+        ensures { result ≡ self.now.unread }
+    {
+        self.unread
+    }
+
     /// Tells the streams of a connection of a segment of this side.
     pub fn take(
         &mut self,
         conn: ConnNo,
         side: Side,
         stops: Stops,
+        protocol: Option<Protocol>,
         segment: &Segment<'_>,
         news: &mut News,
     ) -> Result<Moves, Mem>
@@ -77,7 +89,7 @@ impl StreamTable {
             → Takes self.old.limit conn c (segment_of t segment.now) moves self.old self.new news.old news.new) }
     {
         if segment.has_syn() {
-            self.make(conn)?;
+            self.make(conn, protocol)?;
         }
         self.tell(conn, side, stops, segment, news)
     }
@@ -92,11 +104,12 @@ impl StreamTable {
     {
         if let Some(streams) = self.streams.remove(&conn.0) {
             self.kept = self.kept.saturating_sub(streams.kept().unwrap_or(0));
+            self.unread = self.unread.saturating_sub(streams.unread());
         }
     }
 
     /// Makes an entry for the streams of a connection, if there is none.
-    fn make(&mut self, conn: ConnNo) -> Result<(), Mem>
+    fn make(&mut self, conn: ConnNo, protocol: Option<Protocol>) -> Result<(), Mem>
         ensures limit { self.new.limit ≡ self.old.limit }
         ensures kept { self.new.kept ≡ self.old.kept }
         ensures there { OnOk result (IsSome (entry_at self.new conn.0)) }
@@ -104,7 +117,8 @@ impl StreamTable {
         ensures others { OnOk result ((number : ℕ) → number ≢ conn.0 → entry_at self.new number ≡ entry_at self.old number) }
     {
         if !self.streams.contains_key(&conn.0) {
-            self.streams.insert(conn.0, Streams::new())?;
+            self.streams
+                .insert(conn.0, Streams::new(self.alloc, protocol))?;
         }
         Ok(())
     }
@@ -130,10 +144,13 @@ impl StreamTable {
             return Ok(NO_MOVES);
         };
         let before = streams.kept().ok_or(Mem)?;
+        let unread = self.unread.saturating_sub(streams.unread());
         let moves = streams.take(self.alloc, self.limit, conn, side, stops, segment, news)?;
+        streams.read(side, news)?;
         let after = streams.kept().ok_or(Mem)?;
         let others = self.kept.saturating_sub(before);
         self.kept = others.checked_add(after).ok_or(Mem)?;
+        self.unread = unread.checked_add(streams.unread()).ok_or(Mem)?;
         Ok(moves)
     }
 }

@@ -17,12 +17,14 @@ use crate::segment::Segment;
 use std::alloc::Global;
 use zk_base::{ConnNo, Mem, Side};
 use zk_reasm::{Put, Stream};
+use zk_units::{Protocol, Readers};
 
 /// The streams of a connection's two sides, each from its side's first SYN on.
 #[derive(Debug, Drop)]
 pub struct Streams {
     orig: Option<Stream>,
     resp: Option<Stream>,
+    readers: Readers,
 }
 
 /// How a stream has moved.
@@ -59,13 +61,14 @@ const UNMOVED: Moved = Moved {
 };
 
 impl Streams {
-    /// No streams.
-    pub fn new() -> Streams
+    /// No streams, of a connection that speaks this protocol. No memory is taken.
+    pub fn new(alloc: Global, protocol: Option<Protocol>) -> Streams
         ensures { (limit : ℕ) → AreStreams limit result None None }
     {
         Streams {
             orig: None,
             resp: None,
+            readers: Readers::new(alloc, protocol),
         }
     }
 
@@ -75,6 +78,16 @@ impl Streams {
             → MatchOption result (2 ^ 64 ≤ held_by limit orig + held_by limit resp) (λ n. n ≡ held_by limit orig + held_by limit resp) }
     {
         kept(&self.orig).checked_add(kept(&self.resp))
+    }
+
+    /// How many bytes the readers hold.
+    pub fn unread(&self) -> u64 {
+        self.readers.held()
+    }
+
+    /// Adds the units that the streams free: those of this side first.
+    pub fn read(&mut self, first: Side, news: &mut News) -> Result<(), Mem> {
+        self.readers.read(first, &mut news.units)
     }
 
     /// Tells the streams of a segment of this side.
@@ -101,9 +114,18 @@ impl Streams {
                     Side::Orig,
                     stop,
                     segment,
+                    &mut self.readers,
                     news,
                 )?;
-                let receiver = acknowledge(&mut self.resp, conn, Side::Resp, stops, segment, news)?;
+                let receiver = acknowledge(
+                    &mut self.resp,
+                    conn,
+                    Side::Resp,
+                    stops,
+                    segment,
+                    &mut self.readers,
+                    news,
+                )?;
                 Ok(Moves {
                     sender,
                     receiver,
@@ -118,9 +140,18 @@ impl Streams {
                     Side::Resp,
                     stop,
                     segment,
+                    &mut self.readers,
                     news,
                 )?;
-                let receiver = acknowledge(&mut self.orig, conn, Side::Orig, stops, segment, news)?;
+                let receiver = acknowledge(
+                    &mut self.orig,
+                    conn,
+                    Side::Orig,
+                    stops,
+                    segment,
+                    &mut self.readers,
+                    news,
+                )?;
                 Ok(Moves {
                     sender,
                     receiver,
@@ -168,6 +199,7 @@ fn send(
     side: Side,
     stop: bool,
     segment: &Segment<'_>,
+    readers: &mut Readers,
     news: &mut News,
 ) -> Result<(Moved, bool), Mem>
     ensures moves { IfOk result (λ done. (t : Moment) (limit : ℕ) (d : Option Direction) → IsStream limit stream.old d
@@ -182,7 +214,8 @@ fn send(
     let had_ended = stream.ended();
     stop_if(stream, stop);
     let gave_up = put(stream, segment)?;
-    drain(stream, conn, side, front, news)?;
+    drain(stream, conn, side, front, readers, news)?;
+    end_if(readers, side, stream.ended());
     Ok((moved_from(stream, front, had_ended), gave_up))
 }
 
@@ -193,6 +226,7 @@ fn acknowledge(
     side: Side,
     stops: Stops,
     segment: &Segment<'_>,
+    readers: &mut Readers,
     news: &mut News,
 ) -> Result<Moved, Mem>
     ensures { IfOk result (λ moved. (t : Moment) (limit : ℕ) (d : Option Direction) → IsStream limit stream.old d
@@ -205,7 +239,8 @@ fn acknowledge(
     let had_ended = stream.ended();
     stop_if(stream, stops.resets);
     acknowledge_by(stream, segment);
-    drain(stream, conn, side, front, news)?;
+    drain(stream, conn, side, front, readers, news)?;
+    end_if(readers, side, stream.ended());
     Ok(moved_from(stream, front, had_ended))
 }
 
@@ -277,19 +312,27 @@ fn moved_from(stream: &Stream, front: u64, had_ended: bool) -> Moved
     }
 }
 
+/// Tells the readers that a side has ended, where it has.
+fn end_if(readers: &mut Readers, side: Side, ended: bool) {
+    if ended {
+        readers.end(side);
+    }
+}
+
 /// Takes all places of a stream from its old front to its new one.
 fn drain(
     stream: &mut Stream,
     conn: ConnNo,
     side: Side,
     front: u64,
+    readers: &mut Readers,
     news: &mut News,
 ) -> Result<(), Mem>
     ensures { OnOk result ((base limit : ℕ) (told : List Told) → StandsFor stream.old base limit told front → front ≤ front_of base limit told
         → IsDrained conn side base limit told front stream.new news.old news.new) }
 {
     let mut place = front;
-    while let Some(next) = take_run(stream, conn, side, place, news)? {
+    while let Some(next) = take_run(stream, conn, side, place, readers, news)? {
         place = next;
     }
     Ok(())
@@ -302,6 +345,7 @@ fn take_run(
     conn: ConnNo,
     side: Side,
     place: u64,
+    readers: &mut Readers,
     news: &mut News,
 ) -> Result<Option<u64>, Mem>
     ensures taken { IfOk result (λ next. (base limit : ℕ) (told : List Told) → StandsFor stream.old base limit told place → place ≤ front_of base limit told
@@ -314,10 +358,12 @@ fn take_run(
     let run = stream.run();
     let len = run.len();
     news.add_run(conn, side, place, run)?;
+    readers.add_bytes(side, run)?;
     stream.take(len);
     let end = place.saturating_add(len as u64);
     let gap = stream.gap();
     news.add_gap(side, end, gap)?;
+    readers.add_gap(side, gap)?;
     stream.skip(gap);
     let next = end.saturating_add(gap);
     if next == place {

@@ -19,8 +19,9 @@ use crate::segment::Segment;
 use crate::stream_table::StreamTable;
 use crate::streams::{Moved, Stops};
 use std::alloc::Global;
-use zk_base::{ConnNo, Mem, Moment, Side};
+use zk_base::{ConnNo, Mem, Moment, Proto, Side};
 use zk_conn::{Conns, Facts, Removed};
+use zk_units::{Freed, Protocol, message_unit, protocol_at};
 
 /// What a segment did.
 #[derive(Clone, Copy, Debug, PartialEq, Eq)]
@@ -42,6 +43,7 @@ pub struct Done {
 /// The live connections of a capture and their streams.
 #[derive(Debug, Drop)]
 pub struct Table {
+    alloc: Global,
     conns: Conns,
     streams: StreamTable,
 }
@@ -62,6 +64,7 @@ impl Table {
         ensures { (t : Moment) → IsCurrent result limit [] t }
     {
         Table {
+            alloc,
             conns: Conns::new(alloc),
             streams: StreamTable::new(alloc, limit),
         }
@@ -72,6 +75,13 @@ impl Table {
         ensures { result ≡ self.now.streams.kept }
     {
         self.streams.kept()
+    }
+
+    /// How many bytes of all streams wait to be read.
+    pub fn unread(&self) -> u64
+        ensures { result ≡ self.now.streams.unread }
+    {
+        self.streams.unread()
     }
 
     /// Removes the first connection that is due by a moment.
@@ -123,7 +133,11 @@ impl Table {
         let conn = touched.conn;
         let side = touched.side;
         let stops = self.stops(conn, touched.reset, segment);
-        let moves = self.streams.take(conn, side, stops, segment, news)?;
+        let protocol = self.protocol(conn);
+        self.read_datagram(side, protocol, segment, news)?;
+        let moves = self
+            .streams
+            .take(conn, side, stops, protocol, segment, news)?;
         let reached = self.tell(conn, side, moves.sender);
         let receiver_ended = self.tell(conn, peer(side), moves.receiver);
         Ok(Done {
@@ -136,6 +150,31 @@ impl Table {
             gave_up: moves.gave_up,
             reset: touched.reset,
         })
+    }
+
+    /// What a connection speaks.
+    fn protocol(&self, conn: ConnNo) -> Option<Protocol> {
+        let facts = self.facts(conn)?;
+        protocol_at(facts.proto, facts.resp_p)
+    }
+
+    /// Adds the message or the fault that a datagram of DNS is, unless it was cut.
+    fn read_datagram(
+        &self,
+        side: Side,
+        protocol: Option<Protocol>,
+        segment: &Segment<'_>,
+        news: &mut News,
+    ) -> Result<(), Mem> {
+        if segment.view.proto != Proto::Udp
+            || protocol != Some(Protocol::Dns)
+            || segment.was_cut()
+        {
+            return Ok(());
+        }
+        let unit = message_unit(self.alloc, segment.payload)?;
+        news.units.push_back(Freed { side, unit })?;
+        Ok(())
     }
 
     /// How a segment stops the streams of its connection. Whether that was reset is asked where the

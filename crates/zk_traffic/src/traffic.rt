@@ -139,7 +139,7 @@ impl Traffic {
         ensures bound { (options : OptionsData) (link : ℕ) (records : List Packet) (given : List ItemData) (ended : Bool) → StandsFor self.now options link records given ended
             → result ≤ (options.buffer + 65537) * live_streams options link records ended }
     {
-        self.connections.kept()
+        self.connections.kept() + self.connections.unread()
     }
 
     /// The k-th run of bytes by which the last packet moved a front: those of its sender's stream

@@ -1,0 +1,5 @@
+pub mod Cuts
+pub mod Protocols
+pub mod Standing
+pub mod Units
+pub mod Unread

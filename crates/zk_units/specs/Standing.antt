@@ -1,0 +1,1 @@
+-- What the readers of a connection stand for.

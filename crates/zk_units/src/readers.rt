@@ -1,0 +1,117 @@
+use crate::dns::DnsReader;
+use crate::http::HttpReader;
+use crate::protocol::Protocol;
+use crate::stream_unit::{Freed, StreamUnit};
+use std::alloc::Global;
+use std::collections::VecDeque;
+use zk_base::{Mem, Side};
+
+/// The reader of a connection's protocol.
+#[derive(Debug, Drop)]
+enum Reader {
+    /// The streams are not read.
+    Silent,
+    Http(HttpReader),
+    Dns(DnsReader),
+}
+
+/// What reads the two streams of a connection, by the protocol that it speaks. It keeps of each side
+/// what was not used yet; nothing of a side that gives nothing more.
+#[derive(Debug, Drop)]
+pub struct Readers {
+    reader: Reader,
+}
+
+/// The other side.
+fn peer(side: Side) -> Side {
+    match side {
+        Side::Orig => Side::Resp,
+        Side::Resp => Side::Orig,
+    }
+}
+
+impl Readers {
+    /// Reads two streams of which nothing has come. No memory is taken.
+    pub fn new(alloc: Global, protocol: Option<Protocol>) -> Readers {
+        let reader = match protocol {
+            None => Reader::Silent,
+            Some(Protocol::Http) => Reader::Http(HttpReader::new(alloc)),
+            Some(Protocol::Dns) => Reader::Dns(DnsReader::new(alloc)),
+        };
+        Readers { reader }
+    }
+
+    /// Adds bytes up to a side's front.
+    pub fn add_bytes(&mut self, side: Side, bytes: &[u8]) -> Result<(), Mem> {
+        match &mut self.reader {
+            Reader::Silent => Ok(()),
+            Reader::Http(http) => http.add_bytes(side, bytes),
+            Reader::Dns(dns) => dns.add_bytes(side, bytes),
+        }
+    }
+
+    /// Adds gap places up to a side's front.
+    pub fn add_gap(&mut self, side: Side, places: u64) -> Result<(), Mem> {
+        match &mut self.reader {
+            Reader::Silent => Ok(()),
+            Reader::Http(http) => http.add_gap(side, places),
+            Reader::Dns(dns) => dns.add_gap(side, places),
+        }
+    }
+
+    /// A side has ended.
+    pub fn end(&mut self, side: Side) {
+        if let Reader::Http(http) = &mut self.reader {
+            http.end(side);
+        }
+    }
+
+    /// How many bytes are kept.
+    pub fn held(&self) -> u64 {
+        match &self.reader {
+            Reader::Silent => 0,
+            Reader::Http(http) => http.held(),
+            Reader::Dns(dns) => dns.held(),
+        }
+    }
+
+    /// Adds all units that the streams free: those of this side until it has none, then those of the
+    /// other, and so on until neither has one.
+    pub fn read(&mut self, first: Side, units: &mut VecDeque<Freed>) -> Result<(), Mem> {
+        let mut side = first;
+        for _ in 0..u64::MAX {
+            match self.next_of_both(side)? {
+                Some(freed) => {
+                    side = freed.side;
+                    units.push_back(freed)?;
+                }
+                None => return Ok(()),
+            }
+        }
+        Err(Mem)
+    }
+
+    /// The next unit of a side, or where it has none that of the other.
+    fn next_of_both(&mut self, side: Side) -> Result<Option<Freed>, Mem> {
+        if let Some(unit) = self.next(side)? {
+            return Ok(Some(Freed { side, unit }));
+        }
+        let side = peer(side);
+        match self.next(side)? {
+            Some(unit) => Ok(Some(Freed { side, unit })),
+            None => Ok(None),
+        }
+    }
+
+    /// The next unit of a side.
+    fn next(&mut self, side: Side) -> Result<Option<StreamUnit>, Mem> {
+        match &mut self.reader {
+            Reader::Silent => Ok(None),
+            Reader::Http(http) => match http.next(side)? {
+                Some(unit) => Ok(Some(StreamUnit::Http(unit))),
+                None => Ok(None),
+            },
+            Reader::Dns(dns) => dns.next(side),
+        }
+    }
+}

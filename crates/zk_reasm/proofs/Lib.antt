@@ -17,3 +17,4 @@ pub mod RangeLemmas
 pub mod StandingLemmas
 pub mod ToldLemmas
 pub mod Rows
+pub mod BelowLemmas

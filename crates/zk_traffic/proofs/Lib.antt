@@ -1,5 +1,6 @@
 pub mod NewsLemmas
 pub mod PlaceLemmas
+pub mod ReadLemmas
 pub mod StreamLemmas
 pub mod TakeLemmas
 pub mod StreamTableLemmas

@@ -78,6 +78,7 @@ impl Connections {
     pub fn begin(&mut self)
         ensures runs { runs_of self.new.news ≡ [] }
         ensures gaps { self.new.news.gaps.items ≡ [] }
+        ensures units { self.new.news.units.items ≡ [] }
         ensures table { self.new.table ≡ self.old.table }
         ensures items { self.new.items ≡ self.old.items }
     {
@@ -120,7 +121,7 @@ impl Connections {
     pub fn take(&mut self, t: Moment, segment: &Segment<'_>) -> Result<(), Mem>
         requires early { pos 0 ≤ℤ t.0 }
         requires late { t.0 ≤ℤ pos (2 ^ 62) }
-        ensures { OnOk result ((limit : ℕ) (segments : List SegmentData) → IsCurrent self.old.table limit segments t → runs_of self.old.news ≡ [] → self.old.news.gaps.items ≡ []
+        ensures { OnOk result ((limit : ℕ) (segments : List SegmentData) → IsCurrent self.old.table limit segments t → runs_of self.old.news ≡ [] → self.old.news.gaps.items ≡ [] → self.old.news.units.items ≡ []
             → IsCurrent self.new.table limit (segments ++ segment_of t segment.now ∷ []) t
             × (self.new.items.items ≡ self.old.items.items ++ segment_items limit segments (segment_of t segment.now))
             × (runs_of self.new.news ≡ segment_fresh limit segments (segment_of t segment.now))) }
@@ -137,7 +138,7 @@ impl Connections {
     pub fn take_some(&mut self, t: Moment, segment: Option<Segment<'_>>) -> Result<(), Mem>
         requires early { pos 0 ≤ℤ t.0 }
         requires late { t.0 ≤ℤ pos (2 ^ 62) }
-        ensures { OnOk result ((limit : ℕ) (segments : List SegmentData) → IsCurrent self.old.table limit segments t → runs_of self.old.news ≡ [] → self.old.news.gaps.items ≡ []
+        ensures { OnOk result ((limit : ℕ) (segments : List SegmentData) → IsCurrent self.old.table limit segments t → runs_of self.old.news ≡ [] → self.old.news.gaps.items ≡ [] → self.old.news.units.items ≡ []
             → TakesSome limit segments (option_map (segment_of t) segment.entry) t self.old self.new) }
     {
         match segment {

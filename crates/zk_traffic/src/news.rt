@@ -59,6 +59,7 @@ impl News {
     pub fn new(alloc: Global) -> News
         ensures runs { runs_of result ≡ [] }
         ensures gaps { result.gaps.items ≡ [] }
+        ensures units { result.units.items ≡ [] }
     {
         News {
             bytes: Vec::new(alloc),
@@ -73,6 +74,7 @@ impl News {
     pub fn clear(&mut self)
         ensures runs { runs_of self.new ≡ [] }
         ensures gaps { self.new.gaps.items ≡ [] }
+        ensures units { self.new.units.items ≡ [] }
     {
         self.runs.clear();
         self.bytes.clear();
@@ -85,6 +87,7 @@ impl News {
         ensures runs { OnOk result (runs_of self.new ≡ runs_of self.old
             ++ (if length bytes.now == 0 then [] else record { conn = conn; side = side; from = from; bytes = bytes.now } ∷ [])) }
         ensures gaps { self.new.gaps ≡ self.old.gaps }
+        ensures units { self.new.units ≡ self.old.units }
     {
         if bytes.is_empty() {
             return Ok(());
@@ -108,6 +111,7 @@ impl News {
         ensures gaps { OnOk result (self.new.gaps.items ≡ self.old.gaps.items
             ++ (if length == 0 then [] else record { side = side; from = from; length = length } ∷ [])) }
         ensures runs { runs_of self.new ≡ runs_of self.old }
+        ensures units { self.new.units ≡ self.old.units }
     {
         if length > 0 {
             self.gaps.push(Gap { side, from, length })?;

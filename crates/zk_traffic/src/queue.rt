@@ -1,6 +1,6 @@
 ghost use Rattle.std.specs.Prelude.{◌≡◌, [], ◌∷◌, ◌++◌, map, OnOk};
 ghost use Rattle.zk_conn.specs.declared.facts.Facts.{Facts as FactsData};
-ghost use Rattle.zk_traffic.specs.Items.{item, when};
+ghost use Rattle.zk_traffic.specs.Items.{item, unit_item, what_said, when};
 ghost use Rattle.zk_traffic.specs.Queue.{Knows, ending_items, gap_item, opening_items, what_of};
 ghost use Rattle.zk_traffic.specs.declared.item.What.TheVariants as what;
 
@@ -134,7 +134,9 @@ pub fn give_gaps(
 }
 
 /// A unit of a connection, as it is told.
-fn what_said(conn: ConnNo, facts: Facts, freed: Freed) -> What {
+fn what_freed(conn: ConnNo, facts: Facts, freed: Freed) -> What
+    ensures { result ≡ what_said conn facts freed.side freed.unit }
+{
     let side = freed.side;
     match freed.unit {
         StreamUnit::Http(unit) => What::Http {
@@ -167,9 +169,11 @@ fn give_unit(
     t: Moment,
     conn: ConnNo,
     freed: Freed,
-) -> Result<(), Mem> {
+) -> Result<(), Mem>
+    ensures { OnOk result ((known : FactsData) → Knows table.now conn known → items.new.items ≡ items.old.items ++ unit_item t conn known freed ∷ []) }
+{
     match table.facts(conn) {
-        Some(facts) => give(items, t, what_said(conn, facts, freed)),
+        Some(facts) => give(items, t, what_freed(conn, facts, freed)),
         None => Ok(()),
     }
 }
@@ -181,7 +185,9 @@ pub fn give_units(
     t: Moment,
     conn: ConnNo,
     units: &mut VecDeque<Freed>,
-) -> Result<(), Mem> {
+) -> Result<(), Mem>
+    ensures { OnOk result ((known : FactsData) → Knows table.now conn known → items.new.items ≡ items.old.items ++ map (unit_item t conn known) units.old.items) }
+{
     while let Some(freed) = units.pop_front() {
         give_unit(items, table, t, conn, freed)?;
     }

@@ -1,7 +1,7 @@
 ghost use Rattle.std.specs.Prelude.{◌≡◌, ◌≢◌, ◌≤◌, ◌+◌, ℕ, true, false, None, IsSome, IfOk, OnOk};
 ghost use Rattle.zk_base.specs.declared.time.Moment.{Moment};
 ghost use Rattle.zk_conn.specs.Segment.{has_syn};
-ghost use Rattle.zk_traffic.specs.Conversation.{Conversation, resets, sender_in, was_reset_with};
+ghost use Rattle.zk_traffic.specs.Conversation.{Conversation, protocol_of, resets, sender_in, was_reset_with};
 ghost use Rattle.zk_traffic.specs.Kept.{held_in};
 ghost use Rattle.zk_traffic.specs.StreamTable.{HasStreams, Takes, entry_at};
 ghost use Rattle.zk_traffic.specs.Taken.{segment_of};
@@ -85,7 +85,8 @@ impl StreamTable {
         ensures others { OnOk result ((number : ℕ) → number ≢ conn.0 → entry_at self.new number ≡ entry_at self.old number) }
         ensures taken { IfOk result (λ moves. (t : Moment) (c : Conversation) → HasStreams self.old.limit (entry_at self.old conn.0) c
             → side ≡ sender_in c (segment_of t segment.now) → stops.resets ≡ resets c (segment_of t segment.now)
-            → (has_syn segment.now.view ≡ true → stops.was_reset ≡ was_reset_with c (segment_of t segment.now)) → held_in self.old.limit c ≤ self.old.kept
+            → (has_syn segment.now.view ≡ true → stops.was_reset ≡ was_reset_with c (segment_of t segment.now))
+            → (has_syn segment.now.view ≡ true → protocol ≡ protocol_of c) → held_in self.old.limit c ≤ self.old.kept
             → Takes self.old.limit conn c (segment_of t segment.now) moves self.old self.new news.old news.new) }
     {
         if segment.has_syn() {
@@ -113,7 +114,7 @@ impl StreamTable {
         ensures limit { self.new.limit ≡ self.old.limit }
         ensures kept { self.new.kept ≡ self.old.kept }
         ensures there { OnOk result (IsSome (entry_at self.new conn.0)) }
-        ensures entry { OnOk result ((limit : ℕ) (c : Conversation) → HasStreams limit (entry_at self.old conn.0) c → HasStreams limit (entry_at self.new conn.0) c) }
+        ensures entry { OnOk result ((limit : ℕ) (c : Conversation) → protocol ≡ protocol_of c → HasStreams limit (entry_at self.old conn.0) c → HasStreams limit (entry_at self.new conn.0) c) }
         ensures others { OnOk result ((number : ℕ) → number ≢ conn.0 → entry_at self.new number ≡ entry_at self.old number) }
     {
         if !self.streams.contains_key(&conn.0) {

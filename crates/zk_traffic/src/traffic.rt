@@ -1,5 +1,6 @@
 ghost use Rattle.std.specs.Prelude.{◌≡◌, ◌≤ℤ◌, ◌≤◌, ◌<◌, ◌*◌, ◌+◌, ◌^◌, ℕ, Bool, true, false, pos, length, slice_get, Option, Some, None, Err, List, [], ◌∷◌, ◌++◌, IfOk, OnOk, OnErr, IfSome, IfNone};
 ghost use Rattle.std.specs.Option.{option_map};
+ghost use Rattle.zk_conn.specs.Instance.{counted};
 ghost use Rattle.zk_link_ip.specs.Views.{packet};
 ghost use Rattle.zk_pcap.specs.NetworkTime.{later};
 ghost use Rattle.zk_pcap.specs.View.{packet_of};
@@ -63,7 +64,7 @@ fn latest(a: Moment, b: Moment) -> Moment
 }
 
 impl Traffic {
-    ghost use Rattle.zk_traffic.specs.Standing.{HasFailed, StandsFor, waiting};
+    ghost use Rattle.zk_traffic.specs.Standing.{HasFailed, StandsFor, unread_bytes, waiting};
     ghost use Rattle.zk_traffic.specs.Taking.{HasTaken, IsReady};
 
     /// A capture of this link type, before its first packet.
@@ -132,14 +133,17 @@ impl Traffic {
         ended
     }
 
-    /// How many bytes the streams of live connections hold.
+    /// How many bytes are held: those that the streams of live connections hold, and those that their
+    /// readers have not used yet. The count stands still at its type's end.
     pub fn kept(&self) -> u64
         ensures exact { (options : OptionsData) (link : ℕ) (records : List Packet) (given : List ItemData) (ended : Bool) → StandsFor self.now options link records given ended
-            → result ≡ bytes_kept options link records ended }
+            → result ≡ counted (bytes_kept options link records ended + unread_bytes self.now) }
         ensures bound { (options : OptionsData) (link : ℕ) (records : List Packet) (given : List ItemData) (ended : Bool) → StandsFor self.now options link records given ended
-            → result ≤ (options.buffer + 65537) * live_streams options link records ended }
+            → result ≤ (options.buffer + 65537) * live_streams options link records ended + unread_bytes self.now }
     {
-        self.connections.kept() + self.connections.unread()
+        self.connections
+            .kept()
+            .saturating_add(self.connections.unread())
     }
 
     /// The k-th run of bytes by which the last packet moved a front: those of its sender's stream

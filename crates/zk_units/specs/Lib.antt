@@ -1,4 +1,5 @@
 pub mod Cuts
+pub mod HttpTurns
 pub mod Protocols
 pub mod Standing
 pub mod Units

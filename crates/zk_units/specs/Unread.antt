@@ -1,5 +1,5 @@
 -- The places of a side that its reader has not used yet.
-use Rattle.std.specs.Prelude.{ℕ, ◌==◌, if◌then◌else◌, List, [], ◌∷◌, length}
+use Rattle.std.specs.Prelude.{ℕ, ◌==◌, if◌then◌else◌, List, [], ◌∷◌}
 use Rattle.zk_base.specs.ByteQueue.{bytes_of}
 use Rattle.zk_base.specs.Places.{Place, bytes_before_gap}
 use Rattle.zk_units.specs.declared.unread.Cut.{Cut}

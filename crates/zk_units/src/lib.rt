@@ -3,6 +3,7 @@
 
 mod dns;
 mod http;
+mod http_reader;
 mod protocol;
 mod readers;
 mod stream_unit;

@@ -1,5 +1,14 @@
+ghost use Rattle.std.specs.Prelude.{◌≡◌, ◌≤◌, ◌+◌, true, List, length, Option, IfOk, OnOk};
+ghost use Rattle.zk_base.specs.declared.network.Side.TheVariants.{Orig, Resp};
+ghost use Rattle.zk_http.specs.Places.{Both, Stream, of_side, other};
+ghost use Rattle.zk_units.specs.Cuts.{byte_places, gap_places};
+ghost use Rattle.zk_units.specs.Standing.{BothTurn, Gets, Reads, StandsFor, Turn, ended_by, held_in, no_streams, with_stream};
+ghost use Rattle.zk_units.specs.Units.{no_units};
+ghost use Rattle.zk_units.specs.declared.protocol.Protocol.{Protocol as Speaks};
+ghost use Rattle.zk_units.specs.declared.stream_unit.StreamUnit.{StreamUnit as Said};
+
 use crate::dns::DnsReader;
-use crate::http::HttpReader;
+use crate::http_reader::HttpReader;
 use crate::protocol::Protocol;
 use crate::stream_unit::{Freed, StreamUnit};
 use std::alloc::Global;
@@ -23,16 +32,21 @@ pub struct Readers {
 }
 
 /// The other side.
-fn peer(side: Side) -> Side {
+fn peer(side: Side) -> Side
+    ensures { result ≡ other side }
+{
     match side {
         Side::Orig => Side::Resp,
         Side::Resp => Side::Orig,
     }
 }
 
+#[tactic(auto, unfolding(crate::specs::Standing::StandsFor, crate::specs::Standing::held_in))]
 impl Readers {
     /// Reads two streams of which nothing has come. No memory is taken.
-    pub fn new(alloc: Global, protocol: Option<Protocol>) -> Readers {
+    pub fn new(alloc: Global, protocol: Option<Protocol>) -> Readers
+        ensures { StandsFor result protocol no_streams no_units }
+    {
         let reader = match protocol {
             None => Reader::Silent,
             Some(Protocol::Http) => Reader::Http(HttpReader::new(alloc)),
@@ -42,7 +56,9 @@ impl Readers {
     }
 
     /// Adds bytes up to a side's front.
-    pub fn add_bytes(&mut self, side: Side, bytes: &[u8]) -> Result<(), Mem> {
+    pub fn add_bytes(&mut self, side: Side, bytes: &[u8]) -> Result<(), Mem>
+        ensures { OnOk result (Gets side (byte_places bytes.now) self.old self.new) }
+    {
         match &mut self.reader {
             Reader::Silent => Ok(()),
             Reader::Http(http) => http.add_bytes(side, bytes),
@@ -51,7 +67,9 @@ impl Readers {
     }
 
     /// Adds gap places up to a side's front.
-    pub fn add_gap(&mut self, side: Side, places: u64) -> Result<(), Mem> {
+    pub fn add_gap(&mut self, side: Side, places: u64) -> Result<(), Mem>
+        ensures { OnOk result (Gets side (gap_places places) self.old self.new) }
+    {
         match &mut self.reader {
             Reader::Silent => Ok(()),
             Reader::Http(http) => http.add_gap(side, places),
@@ -60,24 +78,34 @@ impl Readers {
     }
 
     /// A side has ended.
-    pub fn end(&mut self, side: Side) {
+    pub fn end(&mut self, side: Side)
+        ensures { (protocol : Option Speaks) (streams : Both Stream) (units : Both (List Said)) → StandsFor self.old protocol streams units
+            → StandsFor self.new protocol (with_stream side (ended_by (of_side side streams) true) streams) units }
+    {
         if let Reader::Http(http) = &mut self.reader {
             http.end(side);
         }
     }
 
-    /// How many bytes are kept.
-    pub fn held(&self) -> u64 {
+    /// How many bytes of a side are kept.
+    pub fn held(&self, side: Side) -> u64
+        ensures bytes { result ≡ held_in side self.now }
+        ensures within { (protocol : Option Speaks) (streams : Both Stream) (units : Both (List Said)) → StandsFor self.now protocol streams units
+            → result ≤ length (of_side side streams).places }
+    {
         match &self.reader {
             Reader::Silent => 0,
-            Reader::Http(http) => http.held(),
-            Reader::Dns(dns) => dns.held(),
+            Reader::Http(http) => http.held(side),
+            Reader::Dns(dns) => dns.held(side),
         }
     }
 
     /// Adds all units that the streams free: those of this side until it has none, then those of the
     /// other, and so on until neither has one.
-    pub fn read(&mut self, first: Side, units: &mut VecDeque<Freed>) -> Result<(), Mem> {
+    pub fn read(&mut self, first: Side, units: &mut VecDeque<Freed>) -> Result<(), Mem>
+        ensures { OnOk result ((protocol : Option Speaks) (streams : Both Stream) (given : Both (List Said)) → StandsFor self.old protocol streams given
+            → Reads first self.old self.new units.old.items units.new.items protocol streams given) }
+    {
         let mut side = first;
         for _ in 0..u64::MAX {
             match self.next_of_both(side)? {
@@ -92,7 +120,10 @@ impl Readers {
     }
 
     /// The next unit of a side, or where it has none that of the other.
-    fn next_of_both(&mut self, side: Side) -> Result<Option<Freed>, Mem> {
+    fn next_of_both(&mut self, side: Side) -> Result<Option<Freed>, Mem>
+        ensures { IfOk result (λ found. (protocol : Option Speaks) (streams : Both Stream) (units : Both (List Said)) → StandsFor self.old protocol streams units
+            → BothTurn side self.new found protocol streams units) }
+    {
         if let Some(unit) = self.next(side)? {
             return Ok(Some(Freed { side, unit }));
         }
@@ -104,7 +135,10 @@ impl Readers {
     }
 
     /// The next unit of a side.
-    fn next(&mut self, side: Side) -> Result<Option<StreamUnit>, Mem> {
+    fn next(&mut self, side: Side) -> Result<Option<StreamUnit>, Mem>
+        ensures { IfOk result (λ found. (protocol : Option Speaks) (streams : Both Stream) (units : Both (List Said)) → StandsFor self.old protocol streams units
+            → Turn side self.old self.new found protocol streams units) }
+    {
         match &mut self.reader {
             Reader::Silent => Ok(None),
             Reader::Http(http) => match http.next(side)? {

@@ -1,4 +1,4 @@
-ghost use Rattle.std.specs.Prelude.{◌≡◌, ◌+◌, ◌-◌, ◌<◌, ◌≤◌, ◌==◌, [], ◌++◌, take, drop, length, vec_len, if◌then◌else◌, OnOk, OnErr, All};
+ghost use Rattle.std.specs.Prelude.{◌≡◌, ◌+◌, ◌<◌, ◌≤◌, [], ◌++◌, true, false, take, drop, length, slice_index, EachIndex, OnOk, OnErr, IfOk, All};
 ghost use Rattle.zk_base.specs.ByteQueue.{bytes_of};
 ghost use Rattle.zk_units.specs.Cuts.{byte_places, gap_places, gaps_in, runs_in};
 ghost use Rattle.zk_units.specs.declared.unread.Cut.{Cut};
@@ -43,7 +43,6 @@ pub struct Unread {
 }
 
 impl Unread {
-    ghost use Rattle.zk_base.specs.Places.{bytes_before_gap};
     ghost use Rattle.zk_units.specs.Unread.{places_of, run_of};
 
     /// No places. No memory is taken.
@@ -66,7 +65,8 @@ impl Unread {
 
     /// The bytes up to the first gap.
     pub fn run(&self) -> &[u8]
-        ensures { result.now ≡ run_of self.now }
+        ensures bytes { result.now ≡ run_of self.now }
+        ensures range { EachIndex result.now (λ k. slice_index result.now k < 256) }
     {
         let bytes = self.bytes.as_slice();
         if self.gap == 0 {
@@ -77,7 +77,10 @@ impl Unread {
     }
 
     /// How many places are bytes.
-    pub fn held(&self) -> usize {
+    pub fn held(&self) -> usize
+        ensures bytes { result ≡ length (bytes_of self.now.bytes) }
+        ensures within { result ≤ length (places_of self.now) }
+    {
         self.bytes.as_slice().len()
     }
 
@@ -90,6 +93,7 @@ impl Unread {
 
     /// How many gap places stand behind the run: none where it is all that there is.
     pub fn gap(&self) -> u64
+        ensures value { result ≡ self.now.gap }
         ensures end { result ≡ 0 → length (run_of self.now) ≡ length (places_of self.now) }
         ensures places { take result (drop (length (run_of self.now)) (places_of self.now)) ≡ gap_places result }
         ensures within { length (run_of self.now) + result ≤ length (places_of self.now) }
@@ -98,7 +102,10 @@ impl Unread {
     }
 
     /// The front, so many places further on.
-    fn front_behind(&self, more: u64) -> Result<u64, Mem> {
+    fn front_behind(&self, more: u64) -> Result<u64, Mem>
+        ensures front { IfOk result (λ front. front ≡ self.now.front + more) }
+        ensures within { IfOk result (λ front. front ≤ 2147483648) }
+    {
         match self.front.checked_add(more) {
             Some(front) if front <= PLACES => Ok(front),
             _ => Err(Mem),
@@ -109,6 +116,7 @@ impl Unread {
     pub fn add_bytes(&mut self, bytes: &[u8]) -> Result<(), Mem>
         ensures places { OnOk result (places_of self.new ≡ places_of self.old ++ byte_places bytes.now) }
         ensures front { OnOk result (self.new.front ≡ self.old.front + length bytes.now) }
+        ensures memory { OnErr result ((places_of self.new ≡ places_of self.old) × (self.new.front ≡ self.old.front)) }
         ensures ended { self.new.ended ≡ self.old.ended }
     {
         let front = self.front_behind(bytes.len() as u64)?;
@@ -123,6 +131,7 @@ impl Unread {
     pub fn add_gap(&mut self, places: u64) -> Result<(), Mem>
         ensures places { OnOk result (places_of self.new ≡ places_of self.old ++ gap_places places) }
         ensures front { OnOk result (self.new.front ≡ self.old.front + places) }
+        ensures memory { OnErr result ((places_of self.new ≡ places_of self.old) × (self.new.front ≡ self.old.front)) }
         ensures ended { self.new.ended ≡ self.old.ended }
     {
         if places == 0 {
@@ -132,12 +141,15 @@ impl Unread {
         if self.gap == 0 {
             self.run = self.tail;
             self.gap = places;
-        } else {
-            self.cuts.push_back(Cut {
-                run: self.tail,
-                gap: places,
-            })?;
+            self.tail = 0;
+            self.gaps = places;
+            self.front = front;
+            return Ok(());
         }
+        self.cuts.push_back(Cut {
+            run: self.tail,
+            gap: places,
+        })?;
         self.tail = 0;
         self.gaps += places;
         self.front = front;
@@ -163,7 +175,14 @@ impl Unread {
     }
 
     /// Passes places of the first gap; where they are all, the next one is the first.
-    fn pass_gap(&mut self, places: u64) {
+    fn pass_gap(&mut self, places: u64)
+        requires gap { places ≤ self.old.gap }
+        requires first { 0 < places → self.old.run ≡ 0 }
+        requires some { 0 < self.old.gap }
+        ensures places { places_of self.new ≡ drop places (places_of self.old) }
+        ensures front { self.new.front ≡ self.old.front }
+        ensures ended { self.new.ended ≡ self.old.ended }
+    {
         self.gap -= places;
         self.gaps -= places;
         if self.gap == 0 {
@@ -172,6 +191,15 @@ impl Unread {
                 self.gap = cut.gap;
             }
         }
+    }
+
+    /// The side has ended.
+    pub fn end(&mut self)
+        ensures places { places_of self.new ≡ places_of self.old }
+        ensures front { self.new.front ≡ self.old.front }
+        ensures ended { self.new.ended ≡ true }
+    {
+        self.ended = true;
     }
 
     /// Passes all places.

@@ -22,3 +22,4 @@ pub mod RecordLemmas
 mod OpenLemmas
 mod BoundLemmas
 mod Rows
+mod OwnLemmas

@@ -23,7 +23,7 @@ use Rattle.zk_traffic.specs.Streams.{AreStreams, IsStream}
 use Rattle.zk_http.specs.Places.{Both, Stream as Placed}
 use Rattle.zk_units.specs.declared.protocol.Protocol.{Protocol}
 use Rattle.zk_units.specs.declared.stream_unit.StreamUnit.{StreamUnit}
-use Rattle.zk_units.specs.Standing.{Reads, StandsFor as ReadersStand, held_in}
+use Rattle.zk_units.specs.Standing.{Reads, StandsFor as ReadersStand, held_in as reader_held}
 use Rattle.zk_units.specs.Units.{add_all, all_freed, no_units}
 use Rattle.zk_units.proofs.ReaderLemmas.{none_freed}
 
@@ -46,7 +46,7 @@ held_in-with limit c s = refl
 
 pub has_streams-with : (limit : ℕ) (c : Conversation) (s : Segment) (streams : Streams) → AreStreams limit streams (direction_with c s Orig) (direction_with c s Resp)
     → ReadersStand streams.readers (protocol_of c) (streams_of limit (direction_with c s Orig) (direction_with c s Resp)) (add_all (freed_with limit c s) c.«units»)
-    → ((side : Side) → held_in side streams.readers ≤ 65536) → HasStreams limit (Some streams) (with_segment limit c s)
+    → ((side : Side) → reader_held side streams.readers ≤ 65536) → HasStreams limit (Some streams) (with_segment limit c s)
 unfolding with_segment
 has_streams-with limit c s streams are stands few = (are, record { stands = stands; few = few })
 

@@ -87,7 +87,7 @@ impl News {
         ensures runs { OnOk result (runs_of self.new ≡ runs_of self.old
             ++ (if length bytes.now == 0 then [] else record { conn = conn; side = side; from = from; bytes = bytes.now } ∷ [])) }
         ensures gaps { self.new.gaps ≡ self.old.gaps }
-        ensures units { self.new.units ≡ self.old.units }
+        ensures units { self.new.units.items ≡ self.old.units.items }
     {
         if bytes.is_empty() {
             return Ok(());
@@ -111,7 +111,7 @@ impl News {
         ensures gaps { OnOk result (self.new.gaps.items ≡ self.old.gaps.items
             ++ (if length == 0 then [] else record { side = side; from = from; length = length } ∷ [])) }
         ensures runs { runs_of self.new ≡ runs_of self.old }
-        ensures units { self.new.units ≡ self.old.units }
+        ensures units { self.new.units.items ≡ self.old.units.items }
     {
         if length > 0 {
             self.gaps.push(Gap { side, from, length })?;

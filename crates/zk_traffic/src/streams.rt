@@ -91,7 +91,8 @@ impl Streams {
 
     /// How many bytes the readers hold.
     pub fn unread(&self) -> u64 {
-        self.readers.held(Side::Orig) + self.readers.held(Side::Resp)
+        let orig = self.readers.held(Side::Orig);
+        orig.saturating_add(self.readers.held(Side::Resp))
     }
 
     /// Adds the units that the streams free: those of this side first.

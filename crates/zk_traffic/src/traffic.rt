@@ -7,8 +7,14 @@ ghost use Rattle.zk_pcap.specs.View.{packet_of};
 ghost use Rattle.zk_pcap.specs.declared.records.Packet.{Packet};
 ghost use Rattle.zk_traffic.specs.Datagram.{is_fragment, packet_in, time_at};
 ghost use Rattle.zk_traffic.specs.Fresh.{fresh_lent};
-ghost use Rattle.zk_traffic.specs.Items.{fresh_at, items_of};
+ghost use Rattle.zk_conn.specs.Segment.{key_of};
+ghost use Rattle.zk_conn.specs.declared.key.Key.{Key};
+ghost use Rattle.zk_traffic.specs.Conversation.{Conversation};
+ghost use Rattle.zk_traffic.specs.Instances.{is_over_by, latest as latest_of, segments_of};
+ghost use Rattle.zk_traffic.specs.Items.{fresh_at, items_of, own_items, segment_items};
 ghost use Rattle.zk_traffic.specs.Kept.{bytes_kept, live_streams};
+ghost use Rattle.zk_traffic.specs.Own.{with_number};
+ghost use Rattle.zk_traffic.specs.Segments.{Segment as SegmentData};
 ghost use Rattle.zk_traffic.specs.Steps.{Step};
 ghost use Rattle.zk_traffic.specs.declared.item.Item.{Item as ItemData};
 ghost use Rattle.zk_traffic.specs.declared.options.Options.{Options as OptionsData};
@@ -29,6 +35,22 @@ pub fn items_stay()
     // The items of the records so far are a prefix of those of the capture, however much of it is still to come.
     ensures { (options : OptionsData) (link : ℕ) (records more : List Packet) (ended : Bool)
         → (rest : List ItemData) × (items_of options link (records ++ more) ended ≡ items_of options link records false ++ rest) }
+{}
+
+/// What a connection's items rest on, in the subject's own words. There is nothing to run.
+pub fn items_are_own()
+    // A segment's items, the number of its connection aside, are those that the segments of its key give alone, however
+    // the segments of others stand between them.
+    ensures alone { (limit number : ℕ) (before alone : List SegmentData) (s : SegmentData) → segments_of (key_of s.view) before ≡ segments_of (key_of s.view) alone
+        → with_number number (segment_items limit before s) ≡ with_number number (segment_items limit alone s) }
+
+    // So is the latest conversation of a key, by which it is removed: when, and what is known of it then.
+    ensures latest { (limit : ℕ) (key : Key) (before alone : List SegmentData) → segments_of key before ≡ segments_of key alone
+        → latest_of limit key before ≡ latest_of limit key alone }
+
+    // A connection that begins where its key's latest one is over owes that one nothing.
+    ensures anew { (limit number : ℕ) (c : Conversation) (s : SegmentData) → is_over_by s.moment c ≡ true
+        → own_items limit number (Some c) s ≡ own_items limit number None s }
 {}
 
 /// The items of a capture, as its records come.

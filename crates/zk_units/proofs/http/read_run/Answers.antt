@@ -29,11 +29,11 @@ read_gap-requires-clause-read c =
     let read = subst (λ o. IfNone o ((length c.run.result.now - step.used ≤ 65536) × HasRead c.args.side c.read_bytes.new.http (length c.run.result.now - step.used))) c.in-None-2.is c.in_ok-step.ensures.unused in
     subst (HasRead c.args.side c.read_bytes.new.http)
     (let e : length c.run.result.now - step.used ≡ length (run_of c.pass.new.self) = omega (
-        arith,
-        ap length c.run.ensures.bytes,
-        ap (λ l. length (bytes_before_gap l)) c.pass.ensures.places,
-        ap length (run-drop step.used (places_of u) (omega (arith, c.in_ok-step.ensures.used.within, ap length c.run.ensures.bytes))),
-        length-drop step.used (run_of u),
+      arith,
+      ap length c.run.ensures.bytes,
+      ap (λ l. length (bytes_before_gap l)) c.pass.ensures.places,
+      ap length (run-drop step.used (places_of u) (omega (arith, c.in_ok-step.ensures.used.within, ap length c.run.ensures.bytes))),
+      length-drop step.used (run_of u),
     ) in e) read.1
 
 pub returns-in-Some-clause-reads : goal.returns-in-Some-clause-reads

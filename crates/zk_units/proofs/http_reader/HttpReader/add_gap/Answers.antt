@@ -10,9 +10,12 @@ use Rattle.zk_units.proofs.http_reader.HttpReader.add_gap.Goals as goal
 pub invariant_of-self : goal.invariant_of-self
 invariant_of-self c =
     let len : length (gap_places c.args.places) ≡ c.args.places = length-replicate {A = Place} c.args.places None in
-    record { orig_fits = ok_or_err_on (Fits Orig c.args.self.now.http c.add_gap.new.self) c.add_gap.result (on_both c.add_gap.result c.add_gap.ensures.places c.add_gap.ensures.front
-        (λ places front. fits_grown Orig c.args.self.now.http c.args.self.now.orig c.add_gap.new.self (gap_places c.args.places) c.args.self.now.orig_fits places (front ∙ ap (λ n. c.args.self.now.orig.front + n) (sym len))))
-        (λ e. e) c.add_gap.ensures.memory (fits_still Orig c.args.self.now.http c.args.self.now.orig c.add_gap.new.self c.args.self.now.orig_fits); resp_fits = c.args.self.now.resp_fits }
+    record {
+      orig_fits = ok_or_err_on (Fits Orig c.args.self.now.http c.add_gap.new.self) c.add_gap.result (on_both c.add_gap.result c.add_gap.ensures.places c.add_gap.ensures.front
+          (λ places front. fits_grown Orig c.args.self.now.http c.args.self.now.orig c.add_gap.new.self (gap_places c.args.places) c.args.self.now.orig_fits places (front ∙ ap (λ n. c.args.self.now.orig.front + n) (sym len))))
+          (λ e. e) c.add_gap.ensures.memory (fits_still Orig c.args.self.now.http c.args.self.now.orig c.add_gap.new.self c.args.self.now.orig_fits);
+      resp_fits = c.args.self.now.resp_fits;
+    }
 
 pub returns-in-Orig : goal.returns-in-Orig
 returns-in-Orig c = on_ok c.add_gap.result c.add_gap.ensures.places (λ grown.
@@ -21,9 +24,12 @@ returns-in-Orig c = on_ok c.add_gap.result c.add_gap.ensures.places (λ grown.
 pub invariant_of-self-in-Resp : goal.invariant_of-self-in-Resp
 invariant_of-self-in-Resp c =
     let len : length (gap_places c.args.places) ≡ c.args.places = length-replicate {A = Place} c.args.places None in
-    record { resp_fits = ok_or_err_on (Fits Resp c.args.self.now.http c.add_gap-in-Resp.new.self) c.add_gap-in-Resp.result (on_both c.add_gap-in-Resp.result c.add_gap-in-Resp.ensures.places c.add_gap-in-Resp.ensures.front
-        (λ places front. fits_grown Resp c.args.self.now.http c.args.self.now.resp c.add_gap-in-Resp.new.self (gap_places c.args.places) c.args.self.now.resp_fits places (front ∙ ap (λ n. c.args.self.now.resp.front + n) (sym len))))
-        (λ e. e) c.add_gap-in-Resp.ensures.memory (fits_still Resp c.args.self.now.http c.args.self.now.resp c.add_gap-in-Resp.new.self c.args.self.now.resp_fits); orig_fits = c.args.self.now.orig_fits }
+    record {
+      resp_fits = ok_or_err_on (Fits Resp c.args.self.now.http c.add_gap-in-Resp.new.self) c.add_gap-in-Resp.result (on_both c.add_gap-in-Resp.result c.add_gap-in-Resp.ensures.places c.add_gap-in-Resp.ensures.front
+          (λ places front. fits_grown Resp c.args.self.now.http c.args.self.now.resp c.add_gap-in-Resp.new.self (gap_places c.args.places) c.args.self.now.resp_fits places (front ∙ ap (λ n. c.args.self.now.resp.front + n) (sym len))))
+          (λ e. e) c.add_gap-in-Resp.ensures.memory (fits_still Resp c.args.self.now.http c.args.self.now.resp c.add_gap-in-Resp.new.self c.args.self.now.resp_fits);
+      orig_fits = c.args.self.now.orig_fits;
+    }
 
 pub returns-in-Resp : goal.returns-in-Resp
 returns-in-Resp c = on_ok c.add_gap-in-Resp.result c.add_gap-in-Resp.ensures.places (λ grown.

@@ -23,3 +23,4 @@ mod OpenLemmas
 mod BoundLemmas
 mod Rows
 mod OwnLemmas
+pub mod DatagramLemmas

@@ -66,8 +66,14 @@ stretch-places (Some byte ∷ places) =
     ∙ ap (λ n. Some byte ∷ (byte_places (run_of places) ++ gap_places n)) (gap_of-some byte places))
 stretch-places (None ∷ places) =
     ap (λ n. take n (None ∷ places)) (stretch-gap places) ∙ ap (λ l. None ∷ l) (gaps places)
-    ∙ sym (ap gap_places (let gap : gap_of (None ∷ places) ≡ suc (prefix_len is_none places) = omega (arith, refl {x = gap_of (None ∷ places)}) in gap))
+    ∙ sym (ap gap_places more)
   where
+    first : gap_of (None ∷ places) ≡ 1 + prefix_len is_none places
+    first = refl
+
+    more : gap_of (None ∷ places) ≡ suc (prefix_len is_none places)
+    more = omega (arith, first)
+
     gaps : (l : List Place) → take (prefix_len is_none l) l ≡ gap_places (prefix_len is_none l)
     gaps [] = refl
     gaps (Some byte ∷ l) = refl

@@ -22,6 +22,10 @@ HasFailed traffic = traffic.has_failed ≡ true
 abbrev pub waiting : Traffic → ℕ
 waiting traffic = length traffic.connections.items.items
 
+-- how many bytes of streams wait to be read
+abbrev pub unread_bytes : Traffic → ℕ
+unread_bytes traffic = traffic.connections.table.streams.«unread»
+
 -- the table as it is behind some segments and at a moment; behind the end it has nothing, and nothing more is known of it
 abbrev pub IsTable : Table → ℕ → List Segment → Moment → Bool → Type 0
 IsTable table limit segments t false = IsCurrent table limit segments t

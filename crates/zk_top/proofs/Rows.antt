@@ -1,15 +1,27 @@
 -- What the definition of a run gives for small captures, computed by the checker.
-use Rattle.std.proofs.Common.{◌≡◌, ℕ, List, [], ◌∷◌, ◌++◌, codes, Some, None, if◌then◌else◌, refl}
+use Rattle.std.proofs.Common.{◌≡◌, ℕ, List, [], ◌∷◌, ◌++◌, codes, pos, Some, None, if◌then◌else◌, refl}
 use Rattle.std.specs.Str.{bytes_eq}
 use Rattle.std.specs.Fmt.{digits}
 use Rattle.zk_base.specs.declared.endings.Ending.TheVariants.{Done, Usage, ScriptRefused, NoInput, CaptureRefused, CutShort}
 use Rattle.zk_base.specs.declared.endings.ScriptKind.TheVariants.{BadByte, OpenString, NoTree}
+use Rattle.zk_base.specs.declared.network.Side.{Side}
+use Rattle.zk_base.specs.declared.network.Side.TheVariants.{Orig, Resp}
+use Rattle.zk_base.specs.declared.numbers.ConnNo.{ConnNo}
 use Rattle.zk_base.specs.Shelf.{Files}
+use Rattle.zk_conn.specs.declared.facts.Facts.{Facts}
+use Rattle.zk_dns.specs.declared.record.DnsRecord.{DnsRecord}
+use Rattle.zk_http.specs.declared.units.Head.{Head as MessageHead}
+use Rattle.zk_http.specs.declared.units.Reason.TheVariants as reason
+use Rattle.zk_http.specs.declared.units.UnitKind.{UnitKind}
+use Rattle.zk_http.specs.declared.units.UnitKind.TheVariants as unit
 use Rattle.zk_text.specs.Span.{span_decimal}
 use Rattle.zk_typed.specs.Run.{dispatches_max}
 use Rattle.zk_tree.specs.Opening.{trees}
 use Rattle.zk_parse.specs.Opening.{reading}
+use Rattle.zk_top.specs.Line.{line_of}
 use Rattle.zk_top.specs.Outcome.{outcome}
+use Rattle.zk_traffic.specs.declared.item.What.{What}
+use Rattle.zk_traffic.specs.declared.item.What.TheVariants.{Http, Dns, DnsBad}
 
 -- one input, c.pcap
 one : List ℕ → Files
@@ -60,6 +72,40 @@ a_list_of_two_files_is_not_understood = refl
 
 words_that_are_not_understood_start_nothing : (outcome (codes "list" ∷ codes "-x" ∷ []) (one header)).asked ≡ []
 words_that_are_not_understood_start_nothing = refl
+
+-- Lines of messages -----------------------------------------------------------------------------------------------
+
+-- what is said of connection 1 at 1,700,000,000.02 s
+said : (ConnNo → What) → List ℕ
+said what = line_of (record { moment = record { 0 = pos 1_700_000_000_020_000 }; what = what (record { 0 = 1 }) })
+
+said_unit : Facts → Side → ℕ → UnitKind → List ℕ
+said_unit facts side place kind = said (λ conn. Http conn facts side (record { place = place; what = kind }))
+
+a_head_is_said_with_its_place : (facts : Facts) (head : MessageHead) → said_unit facts Orig 32 (unit.Head head) ≡ codes "1700000000.020000\thttp\t1\torig\thead\t32\n"
+unfolding said_unit said span_decimal digits
+a_head_is_said_with_its_place facts head = refl
+
+the_end_of_a_message_is_said_with_the_length_of_its_body : (facts : Facts) (lines gap : ℕ) → said_unit facts Resp 40 (unit.Done 2 lines gap) ≡ codes "1700000000.020000\thttp\t1\tresp\tdone\t40\t2\n"
+unfolding said_unit said span_decimal digits
+the_end_of_a_message_is_said_with_the_length_of_its_body facts lines gap = refl
+
+a_tunnel_is_said_with_its_place : (facts : Facts) → said_unit facts Resp 106 unit.Tunnel ≡ codes "1700000000.020000\thttp\t1\tresp\ttunnel\t106\n"
+unfolding said_unit said span_decimal digits
+a_tunnel_is_said_with_its_place facts = refl
+
+a_violation_is_said_with_its_reason : (facts : Facts) → said_unit facts Resp 50 (unit.Violation reason.Gap) ≡ codes "1700000000.020000\thttp\t1\tresp\tviolation\t50\t8\n"
+unfolding said_unit said span_decimal digits
+a_violation_is_said_with_its_reason facts = refl
+
+a_message_is_said_with_its_identifier_and_length : (facts : Facts) (message : DnsRecord)
+    → said (λ conn. Dns conn facts Orig 33 (record message { id = 4660 })) ≡ codes "1700000000.020000\tdns\t1\torig\t4660\t33\n"
+unfolding said span_decimal digits
+a_message_is_said_with_its_identifier_and_length facts message = refl
+
+bytes_that_are_no_message_are_said_with_their_fault : (facts : Facts) → said (λ conn. DnsBad conn facts Resp 7 0) ≡ codes "1700000000.020000\tdnsbad\t1\tresp\t7\t0\n"
+unfolding said span_decimal digits
+bytes_that_are_no_message_are_said_with_their_fault facts = refl
 
 -- Runs of scripts -------------------------------------------------------------------------------------------------
 

@@ -7,6 +7,10 @@ use Rattle.zk_base.specs.declared.numbers.ConnNo.{ConnNo}
 use Rattle.zk_conn.specs.declared.facts.ConnState.{ConnState}
 use Rattle.zk_conn.specs.declared.facts.ConnState.TheVariants as state
 use Rattle.zk_conn.specs.declared.facts.Facts.{Facts}
+use Rattle.zk_http.specs.declared.units.Reason.{Reason}
+use Rattle.zk_http.specs.declared.units.Reason.TheVariants as reason
+use Rattle.zk_http.specs.declared.units.UnitKind.{UnitKind}
+use Rattle.zk_http.specs.declared.units.UnitKind.TheVariants as unit
 use Rattle.zk_pcap.specs.declared.records.Packet.{Packet}
 use Rattle.zk_text.specs.Address.{addr_text}
 use Rattle.zk_text.specs.Port.{proto_name}
@@ -54,12 +58,37 @@ ends_fields facts =
     field (proto_name facts.proto) ++ field (addr_text facts.orig_h) ++ field (decimal facts.orig_p)
     ++ field (addr_text facts.resp_h) ++ field (decimal facts.resp_p)
 
+-- the number of the reason of a violation
+abbrev pub reason_number : Reason → ℕ
+reason_number reason.HeadTooLong = 1
+reason_number reason.HeadBad = 2
+reason_number reason.TooManyHeaders = 3
+reason_number reason.LengthBad = 4
+reason_number reason.CodingBad = 5
+reason_number reason.ChunkBad = 6
+reason_number reason.Unpaired = 7
+reason_number reason.Gap = 8
+
+-- what a unit of HTTP is and the place where it stands; behind it the length of a body, or the reason of a violation
+abbrev pub unit_fields : ℕ → UnitKind → List ℕ
+unit_fields place (unit.Head head) = field (codes "head") ++ field (decimal place)
+unit_fields place (unit.Done body header gap) = field (codes "done") ++ field (decimal place) ++ field (decimal body)
+unit_fields place unit.Tunnel = field (codes "tunnel") ++ field (decimal place)
+unit_fields place (unit.Violation why) = field (codes "violation") ++ field (decimal place) ++ field (decimal (reason_number why))
+
+-- a message of DNS, or bytes that are none: the identifier or the number of the fault, and the number of bytes
+abbrev pub message_fields : List ℕ → ConnNo → Side → ℕ → ℕ → List ℕ
+message_fields name conn side number len = conn_fields name conn ++ field (side_name side) ++ field (decimal number) ++ field (decimal len)
+
 -- what an item is, and its fields
 abbrev pub fields_of : What → List ℕ
 fields_of (what.Seen own caplen len) = field (codes "packet") ++ field (span_decimal own.0) ++ field (decimal caplen) ++ field (decimal len)
 fields_of (what.Opened conn facts) = conn_fields (codes "opened") conn ++ ends_fields facts
 fields_of (what.Established conn facts) = conn_fields (codes "established") conn
 fields_of (what.Gap conn facts side from length) = conn_fields (codes "gap") conn ++ field (side_name side) ++ field (decimal from) ++ field (decimal length)
+fields_of (what.Http conn facts side unit) = conn_fields (codes "http") conn ++ field (side_name side) ++ unit_fields unit.place unit.what
+fields_of (what.Dns conn facts side len message) = message_fields (codes "dns") conn side message.id len
+fields_of (what.DnsBad conn facts side fault len) = message_fields (codes "dnsbad") conn side fault len
 fields_of (what.Ended conn facts side) = conn_fields (codes "ended") conn ++ field (side_name side)
 fields_of (what.GaveUp conn facts side) = conn_fields (codes "gaveup") conn ++ field (side_name side)
 fields_of (what.Reset conn facts) = conn_fields (codes "reset") conn

@@ -1,12 +1,13 @@
 ghost use Rattle.std.specs.Prelude.{◌≡◌, ◌++◌, codes, decimal, OnOk};
 ghost use Rattle.zk_text.specs.Address.{addr_text};
 ghost use Rattle.zk_text.specs.Span.{span_decimal};
-ghost use Rattle.zk_top.specs.Line.{conn_fields, ends_fields, field, fields_of, line_of, side_name, state_name};
+ghost use Rattle.zk_top.specs.Line.{conn_fields, ends_fields, field, fields_of, line_of, message_fields, reason_number, side_name, state_name, unit_fields};
 ghost use Rattle.zk_traffic.specs.declared.item.What.TheVariants.{Seen, Opened};
 
 use std::alloc::AllocError;
 use zk_base::{Addr, ConnNo, Moment, Side};
 use zk_conn::{ConnState, Facts};
+use zk_http::{Reason, Unit, UnitKind};
 use zk_text::{ADDR_TEXT_MAX, addr_text, proto_name};
 use zk_traffic::{Item, What};
 use zk_value::{push_count, push_span};
@@ -36,6 +37,26 @@ fn push_fields(out: &mut Vec<u8>, what: &What) -> Result<(), AllocError>
             from,
             length,
         } => push_gap(out, *conn, *side, *from, *length),
+        What::Http {
+            conn,
+            facts: _,
+            side,
+            unit,
+        } => push_unit(out, *conn, *side, unit),
+        What::Dns {
+            conn,
+            facts: _,
+            side,
+            len,
+            message,
+        } => push_message(out, b"dns", *conn, *side, message.id, *len),
+        What::DnsBad {
+            conn,
+            facts: _,
+            side,
+            fault,
+            len,
+        } => push_message(out, b"dnsbad", *conn, *side, u16::from(*fault), *len),
         What::Ended {
             conn,
             facts: _,
@@ -90,6 +111,53 @@ fn push_gap(
     push_side(out, b"gap", conn, side)?;
     push_number(out, from)?;
     push_number(out, length)
+}
+
+/// Adds a unit of HTTP.
+fn push_unit(out: &mut Vec<u8>, conn: ConnNo, side: Side, unit: &Unit) -> Result<(), AllocError>
+    ensures ok { OnOk result (out.new.items ≡ out.old.items ++ (conn_fields (codes "http") conn ++ field (side_name side) ++ unit_fields unit.now.place unit.now.what)) }
+{
+    push_side(out, b"http", conn, side)?;
+    match &unit.what {
+        UnitKind::Head(_) => push_place(out, b"head", unit.place),
+        UnitKind::Done {
+            body,
+            head: _,
+            gap: _,
+        } => {
+            push_place(out, b"done", unit.place)?;
+            push_number(out, *body)
+        }
+        UnitKind::Tunnel => push_place(out, b"tunnel", unit.place),
+        UnitKind::Violation(reason) => {
+            push_place(out, b"violation", unit.place)?;
+            push_number(out, reason_number(*reason))
+        }
+    }
+}
+
+/// Adds what a unit is, and its place.
+fn push_place(out: &mut Vec<u8>, name: &[u8], place: u64) -> Result<(), AllocError>
+    ensures ok { OnOk result (out.new.items ≡ out.old.items ++ (field name.now ++ field (decimal place))) }
+{
+    push_field(out, name)?;
+    push_number(out, place)
+}
+
+/// Adds a message of DNS by its identifier, or bytes that are none by the number of their fault.
+fn push_message(
+    out: &mut Vec<u8>,
+    name: &[u8],
+    conn: ConnNo,
+    side: Side,
+    number: u16,
+    len: u32,
+) -> Result<(), AllocError>
+    ensures ok { OnOk result (out.new.items ≡ out.old.items ++ message_fields name.now conn side number len) }
+{
+    push_side(out, name, conn, side)?;
+    push_number(out, u64::from(number))?;
+    push_number(out, u64::from(len))
 }
 
 /// Adds what happens to a side of a connection.
@@ -149,6 +217,22 @@ fn side_name(side: Side) -> &'static [u8]
     match side {
         Side::Orig => b"orig",
         Side::Resp => b"resp",
+    }
+}
+
+/// The number of a violation's reason.
+fn reason_number(reason: Reason) -> u64
+    ensures { result ≡ reason_number reason }
+{
+    match reason {
+        Reason::HeadTooLong => 1,
+        Reason::HeadBad => 2,
+        Reason::TooManyHeaders => 3,
+        Reason::LengthBad => 4,
+        Reason::CodingBad => 5,
+        Reason::ChunkBad => 6,
+        Reason::Unpaired => 7,
+        Reason::Gap => 8,
     }
 }
 

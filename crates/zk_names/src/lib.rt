@@ -9,6 +9,8 @@ mod name;
 mod node;
 mod order;
 mod table;
+#[cfg(test)]
+mod tests;
 mod types;
 mod whole;
 

@@ -1,5 +1,6 @@
 pub mod NewsLemmas
 pub mod PlaceLemmas
+pub mod ReadLemmas
 pub mod StreamLemmas
 pub mod TakeLemmas
 pub mod StreamTableLemmas
@@ -21,3 +22,5 @@ pub mod RecordLemmas
 mod OpenLemmas
 mod BoundLemmas
 mod Rows
+mod OwnLemmas
+pub mod DatagramLemmas

@@ -76,18 +76,18 @@ one_more n x xs = ap (λ m. drop m (x ∷ xs)) (let same : 1 + n ≡ suc n = ome
 one_taken : {A : Type 0} (n : ℕ) (x : A) (xs : List A) → take (1 + n) (x ∷ xs) ≡ x ∷ take n xs
 one_taken n x xs = ap (λ m. take m (x ∷ xs)) (let same : 1 + n ≡ suc n = omega arith in same)
 
-run_of-some : (byte : ℕ) (places : List Place) → run_of (Some byte ∷ places) ≡ byte ∷ run_of places
+pub run_of-some : (byte : ℕ) (places : List Place) → run_of (Some byte ∷ places) ≡ byte ∷ run_of places
 run_of-some byte places = ap (filter_map (λ b. b)) (one_taken (prefix_len is_some places) (Some byte) places)
 
-gap_of-some : (byte : ℕ) (places : List Place) → gap_of (Some byte ∷ places) ≡ gap_of places
+pub gap_of-some : (byte : ℕ) (places : List Place) → gap_of (Some byte ∷ places) ≡ gap_of places
 gap_of-some byte places = ap (prefix_len is_none) (one_more (prefix_len is_some places) (Some byte) places)
 
-stretch-byte : (byte : ℕ) (places : List Place) → stretch (Some byte ∷ places) ≡ suc (stretch places)
+pub stretch-byte : (byte : ℕ) (places : List Place) → stretch (Some byte ∷ places) ≡ suc (stretch places)
 stretch-byte byte places =
     let run : length (run_of (Some byte ∷ places)) ≡ suc (length (run_of places)) = ap length (run_of-some byte places) in
     omega (arith, run, gap_of-some byte places)
 
-stretch-gap : (places : List Place) → stretch (None ∷ places) ≡ suc (prefix_len is_none places)
+pub stretch-gap : (places : List Place) → stretch (None ∷ places) ≡ suc (prefix_len is_none places)
 stretch-gap places =
     let run : length (run_of (None ∷ places)) ≡ 0 = refl in
     let gap : gap_of (None ∷ places) ≡ 1 + prefix_len is_none places = refl in

@@ -154,13 +154,13 @@ has_taken old new options link step o ready is options_are link_is time_is frags
 
 -- the connections took what is a segment at the network time
 pub took_some : (old : Traffic) (new : Connections) (options : Options) (link : ℕ) (step : Step Packet) (code : Option Code) → IsReady old options link step.before (time_at step)
-    → ((limit : ℕ) (before : List Segment) → IsCurrent old.connections.table limit before old.time → runs_of old.connections.news ≡ [] → old.connections.news.gaps.items ≡ []
+    → ((limit : ℕ) (before : List Segment) → IsCurrent old.connections.table limit before old.time → runs_of old.connections.news ≡ [] → old.connections.news.gaps.items ≡ [] → old.connections.news.«units».items ≡ []
     → TakesSome limit before (option_map (segment_of old.time) code) old.time old.connections new)
     → TakesSome options.buffer (segments options link step.before) (option_map (segment_of (time_at step)) code) (time_at step) old.connections new
 took_some old new options link step code ready takes =
     let before = segments options link step.before in
     subst (λ m. TakesSome options.buffer before (option_map (segment_of m) code) m old.connections new) ready.time_is
-    (takes options.buffer before (subst (IsCurrent old.connections.table options.buffer before) (sym ready.time_is) ready.current) ready.no_runs ready.no_gaps)
+    (takes options.buffer before (subst (IsCurrent old.connections.table options.buffer before) (sym ready.time_is) ready.current) ready.no_runs ready.no_gaps ready.no_units)
 
 -- a fragment was taken, and the segment in what it made whole
 pub took_fragment : (old new : Traffic) (options : Options) (link : ℕ) (step : Step Packet) (packet : List ℕ) (joined : Joined) (o : Option Segment) → IsReady old options link step.before (time_at step)

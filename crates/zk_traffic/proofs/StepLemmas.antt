@@ -15,11 +15,11 @@ use Rattle.zk_traffic.specs.declared.streams.Moved.{Moved}
 use Rattle.zk_traffic.specs.declared.streams.Moves.{Moves}
 use Rattle.zk_traffic.specs.declared.table.Done.{Done}
 use Rattle.zk_traffic.specs.declared.table.Table.{Table}
-use Rattle.zk_traffic.specs.Conversation.{Conversation, Direction, direction, direction_with, front_at, has_ended, moved, moved_with, other, sender_in, unbegun, with_packet, with_segment}
+use Rattle.zk_traffic.specs.Conversation.{Conversation, Direction, datagram_units, direction, direction_with, freed_with, front_at, has_ended, moved, moved_with, other, sender_in, unbegun, with_packet, with_segment}
 use Rattle.zk_traffic.specs.Instances.{begins, begun, begun_at, instances, instances_from, joined_by, latest, number_of}
 use Rattle.zk_traffic.specs.Items.{fresh_with, segment_fresh}
 use Rattle.zk_traffic.specs.Kept.{held_in, held_in_all}
-use Rattle.zk_traffic.specs.Moves.{front_moved}
+use Rattle.zk_traffic.specs.Moves.{front_moved, segment_gaps}
 use Rattle.zk_traffic.specs.News.{runs_of}
 use Rattle.zk_traffic.specs.Segments.{Segment}
 use Rattle.zk_traffic.specs.StreamTable.{HasStreams, Takes, entry_at}
@@ -115,7 +115,7 @@ pub streams_found : (table : Table) (limit : ℕ) (segments : List Segment) (tol
 streams_found table limit segments told s holds = ⊎_elim
     (λ (new : IsNew limit segments s).
     subst (λ c. HasStreams limit (entry_at table.streams (number_of limit (key_of s.view) (segments ++ s ∷ []))) c) (sym new.joined)
-    (subst (λ e. HasStreams limit e (unbegun s)) (sym (holds.unused (number_of limit (key_of s.view) (segments ++ s ∷ [])) (omega (arith, number_new limit segments s new.begins_is)))) (refl, refl)))
+    (subst (λ e. HasStreams limit e (unbegun s)) (sym (holds.unused (number_of limit (key_of s.view) (segments ++ s ∷ [])) (omega (arith, number_new limit segments s new.begins_is)))) (refl, refl, refl)))
     (λ (more : IsMore limit segments s).
     subst (λ c. HasStreams limit (entry_at table.streams (number_of limit (key_of s.view) (segments ++ s ∷ []))) c) (sym more.joined)
     (subst (λ n. HasStreams limit (entry_at table.streams n) more.d) (sym (ap (conn.last_place (key_of s.view)) (begun_more limit segments s more.begins_is)))
@@ -241,16 +241,18 @@ holds_taken old new limit segments told s number holds number_is stands limit_is
         (new_or_more limit segments s))))
 
 -- the new table, and what the segment did
-pub segment_taken : (old new : Table) (limit : ℕ) (segments : List Segment) (told : List Told) (s : Segment) (done : Done) (moves : Moves) (old_news new_news : News)
+pub segment_taken : (old new : Table) (limit : ℕ) (segments : List Segment) (told : List Told) (s : Segment) (done : Done) (moves : Moves) (first_news old_news new_news : News)
     → Holds old limit segments (gone_by limit segments s.moment) told → All (conn.Precedes s.moment) told → IsDone limit segments s done
     → conns.StandsFor new.conns (told ++ Packet s.moment s.view ∷ []
     ++ moved_told (key_of s.view) (sender_in (joined_by (latest limit (key_of s.view) segments) s) s) moves.sender
     ++ moved_told (key_of s.view) (other (sender_in (joined_by (latest limit (key_of s.view) segments) s) s)) moves.receiver)
     → new.streams.limit ≡ old.streams.limit → ((n : ℕ) → n ≢ done.conn.0 → entry_at new.streams n ≡ entry_at old.streams n)
     → Takes limit done.conn (joined_by (latest limit (key_of s.view) segments) s) s moves old.streams new.streams old_news new_news
-    → TakesSegment limit segments s done new old_news new_news
+    → runs_of old_news ≡ runs_of first_news → old_news.gaps.items ≡ first_news.gaps.items
+    → old_news.«units».items ≡ first_news.«units».items ++ datagram_units (joined_by (latest limit (key_of s.view) segments) s) s
+    → TakesSegment limit segments s done new first_news new_news
 unfolding segment_fresh
-segment_taken old new limit segments told s done moves old_news new_news holds order is_done stands limit_is others takes = record {
+segment_taken old new limit segments told s done moves first_news old_news new_news holds order is_done stands limit_is others takes same_runs same_gaps datagram = record {
   current = record {
     told = told ++ Packet s.moment s.view ∷ [] ++ first ++ second;
     holds = holds_taken old new limit segments told s done.conn.0 holds is_done.conn_is stands_now limit_is others takes.entry takes.kept_is;
@@ -259,8 +261,9 @@ segment_taken old new limit segments told s done moves old_news new_news holds o
   };
   done_is = is_done;
   live = record { latest_is = latest_now limit segments s; not_gone = not_gone_now limit segments s; number_is = sym is_done.conn_is };
-  runs_are = takes.moves_are.runs_are ∙ ap (λ n. runs_of old_news ++ fresh_with limit n c s) is_done.conn_is;
-  gaps_are = takes.moves_are.gaps_are;
+  runs_are = takes.moves_are.runs_are ∙ ap (λ n. runs_of old_news ++ fresh_with limit n c s) is_done.conn_is ∙ ap (λ l. l ++ segment_fresh limit segments s) same_runs;
+  gaps_are = takes.moves_are.gaps_are ∙ ap (λ l. l ++ segment_gaps limit c s) same_gaps;
+  units_are = takes.moves_are.units_are ∙ ap (λ l. l ++ freed_with limit c s) datagram ∙ append_assoc first_news.«units».items (datagram_units c s) (freed_with limit c s);
 }
   where
     key : Key

@@ -1,5 +1,5 @@
 -- The table of streams behind a segment.
-use Rattle.std.proofs.Common.{◌≡◌, ℕ, ◌+◌, ◌-◌, ◌^◌, ◌<◌, ◌≤◌, Bool, true, false, cond, not, ◌&&◌, [], ◌++◌, map, Option, None, Some, unwrap_or, refl, sym, ap, subst, ◌∙◌, arith}
+use Rattle.std.proofs.Common.{◌≡◌, ℕ, ◌+◌, ◌-◌, ◌^◌, ◌<◌, ◌≤◌, Bool, true, false, cond, not, ◌&&◌, List, [], ◌++◌, map, Option, None, Some, unwrap_or, refl, sym, ap, subst, ◌∙◌, arith}
 use Rattle.std.specs.Option.{MatchOption}
 use Rattle.std.proofs.lemmas.List.{append-nil}
 use Rattle.zk_base.specs.declared.network.Side.{Side}
@@ -11,15 +11,21 @@ use Rattle.zk_traffic.specs.declared.news.News.{News}
 use Rattle.zk_traffic.specs.declared.stream_table.StreamTable.{StreamTable}
 use Rattle.zk_traffic.specs.declared.streams.Moves.{Moves}
 use Rattle.zk_traffic.specs.declared.streams.Streams.{Streams}
-use Rattle.zk_traffic.specs.Conversation.{Conversation, Direction, acknowledged_told, begun_by, direction, direction_with, fin_told, front_at, has_ended, other, put_with, resets, sender_in, sent_told, stop_told, told_more, was_reset_with, with_segment}
+use Rattle.zk_traffic.specs.Conversation.{Conversation, Direction, acknowledged_told, begun_by, direction, direction_with, fin_told, front_at, has_ended, other, put_with, freed_with, protocol_of, resets, sender_in, sent_told, stop_told, streams_of, told_more, was_reset_with, with_segment}
 use Rattle.zk_traffic.specs.Items.{fresh_run, news_of}
 use Rattle.zk_traffic.specs.Kept.{held_by, held_in}
 use Rattle.zk_traffic.specs.Moves.{HasTaken, IsMove, front_moved, gap_in}
 use Rattle.zk_traffic.specs.News.{runs_of}
 use Rattle.zk_traffic.specs.Places.{gaps_from, runs_from}
 use Rattle.zk_traffic.specs.Segments.{Segment}
-use Rattle.zk_traffic.specs.StreamTable.{HasStreams, Takes, entry_at}
-use Rattle.zk_traffic.specs.Streams.{AreStreams}
+use Rattle.zk_traffic.specs.StreamTable.{HasRead, HasStreams, Takes, entry_at}
+use Rattle.zk_traffic.specs.Streams.{AreStreams, IsStream}
+use Rattle.zk_http.specs.Places.{Both, Stream as Placed}
+use Rattle.zk_units.specs.declared.protocol.Protocol.{Protocol}
+use Rattle.zk_units.specs.declared.stream_unit.StreamUnit.{StreamUnit}
+use Rattle.zk_units.specs.Standing.{Reads, StandsFor as ReadersStand, held_in as reader_held, no_streams}
+use Rattle.zk_units.specs.Units.{add_all, all_freed, no_units}
+use Rattle.zk_units.proofs.ReaderLemmas.{none_freed}
 
 -- a sum that was counted
 pub counted_sum : (o : Option ℕ) (sum kept : ℕ) → MatchOption o (2 ^ 64 ≤ sum) (λ n. n ≡ sum) → sum ≤ kept → kept < 2 ^ 64 → unwrap_or o 0 ≡ sum
@@ -38,23 +44,59 @@ pub held_in-with : (limit : ℕ) (c : Conversation) (s : Segment) → held_in li
 unfolding with_segment
 held_in-with limit c s = refl
 
-pub has_streams-with : (limit : ℕ) (c : Conversation) (s : Segment) (streams : Streams) → AreStreams limit streams (direction_with c s Orig) (direction_with c s Resp) → HasStreams limit (Some streams) (with_segment limit c s)
+pub has_streams-with : (limit : ℕ) (c : Conversation) (s : Segment) (streams : Streams) → AreStreams limit streams (direction_with c s Orig) (direction_with c s Resp)
+    → ReadersStand streams.readers (protocol_of c) (streams_of limit (direction_with c s Orig) (direction_with c s Resp)) (add_all (freed_with limit c s) c.«units»)
+    → ((side : Side) → reader_held side streams.readers ≤ 65536) → HasStreams limit (Some streams) (with_segment limit c s)
 unfolding with_segment
-has_streams-with limit c s streams are = are
+has_streams-with limit c s streams are stands few = (are, record { stands = stands; few = few })
 
-has_none-with : (limit : ℕ) (c : Conversation) (s : Segment) → direction_with c s Orig ≡ None → direction_with c s Resp ≡ None → HasStreams limit None (with_segment limit c s)
+-- no streams free nothing
+freed-none : (limit : ℕ) (c : Conversation) (s : Segment) → direction_with c s Orig ≡ None → direction_with c s Resp ≡ None → c.«units» ≡ no_units → freed_with limit c s ≡ []
+unfolding freed_with
+freed-none limit c s orig resp none =
+    ap (λ u. all_freed (protocol_of c) (sender_in c s) (streams_of limit (direction_with c s Orig) (direction_with c s Resp)) u) none
+    ∙ ap (λ d. all_freed (protocol_of c) (sender_in c s) (streams_of limit d (direction_with c s Resp)) no_units) orig
+    ∙ ap (λ d. all_freed (protocol_of c) (sender_in c s) (streams_of limit None d) no_units) resp ∙ none_freed (protocol_of c) (sender_in c s)
+
+has_none-with : (limit : ℕ) (c : Conversation) (s : Segment) → direction_with c s Orig ≡ None → direction_with c s Resp ≡ None → c.«units» ≡ no_units → HasStreams limit None (with_segment limit c s)
 unfolding with_segment
-has_none-with limit c s orig resp = (orig, resp)
+has_none-with limit c s orig resp none = (orig, resp, ap (λ l. add_all l c.«units») (freed-none limit c s orig resp none) ∙ none)
 
-pub takes_some : (limit : ℕ) (conn : ConnNo) (c : Conversation) (s : Segment) (moves : Moves) (before after : StreamTable) (streams : Streams) (old new : News) (was is : ℕ)
-    → HasTaken limit conn c s moves streams old new → entry_at after conn.0 ≡ Some streams → was ≡ held_in limit c
+freed-are : (limit : ℕ) (c : Conversation) (s : Segment) → all_freed (protocol_of c) (sender_in c s) (streams_of limit (direction_with c s Orig) (direction_with c s Resp)) c.«units» ≡ freed_with limit c s
+unfolding freed_with
+freed-are limit c s = refl
+
+pub takes_some : (limit : ℕ) (conn : ConnNo) (c : Conversation) (s : Segment) (moves : Moves) (before after : StreamTable) (was_streams taken_streams streams : Streams) (old between new : News) (side : Side) (was is : ℕ)
+    → HasTaken limit conn c s moves was_streams.readers taken_streams old between → HasRead limit was_streams.readers c → side ≡ sender_in c s
+    → (streams.orig ≡ taken_streams.orig) × (streams.resp ≡ taken_streams.resp) → (runs_of new ≡ runs_of between) × (new.gaps.items ≡ between.gaps.items)
+    → ((protocol : Option Protocol) (placed : Both Placed) (given : Both (List StreamUnit)) → ReadersStand taken_streams.readers protocol placed given
+    → Reads side taken_streams.readers streams.readers between.«units».items new.«units».items protocol placed given)
+    → entry_at after conn.0 ≡ Some streams → was ≡ held_in limit c
     → is ≡ held_by limit (direction_with c s Orig) + held_by limit (direction_with c s Resp) → held_in limit c ≤ before.kept → after.kept ≡ before.kept - was + is
     → Takes limit conn c s moves before after old new
-takes_some limit conn c s moves before after streams old new was is taken there was_is is_is within kept = record {
-  entry = subst (λ o. HasStreams limit o (with_segment limit c s)) (sym there) (has_streams-with limit c s streams taken.stands);
+takes_some limit conn c s moves before after was_streams taken_streams streams old between new side was is taken has side_is same news_same read there was_is is_is within kept = record {
+  entry = subst (λ o. HasStreams limit o (with_segment limit c s)) (sym there) (has_streams-with limit c s streams
+      (record { orig_is = subst (λ x. IsStream limit x (direction_with c s Orig)) (sym same.0) taken.stands.orig_is; resp_is = subst (λ x. IsStream limit x (direction_with c s Resp)) (sym same.1) taken.stands.resp_is })
+      (subst (λ l. ReadersStand streams.readers (protocol_of c) placed (add_all l c.«units»)) freed_is all.stands) all.few);
   kept_is = omega (arith, was_is, is_is, within, kept, held_in-with limit c s);
-  moves_are = record { sender = taken.sender; receiver = taken.receiver; gave_up = taken.gave_up; runs_are = taken.runs_are; gaps_are = taken.gaps_are };
+  moves_are = record {
+    sender = taken.sender;
+    receiver = taken.receiver;
+    gave_up = taken.gave_up;
+    runs_are = news_same.0 ∙ taken.runs_are;
+    gaps_are = news_same.1 ∙ taken.gaps_are;
+    units_are = all.given ∙ ap (λ l. l ++ all_freed (protocol_of c) side placed c.«units») taken.units_are ∙ ap (λ l. old.«units».items ++ l) freed_is;
+  };
 }
+  where
+    placed : Both Placed
+    placed = streams_of limit (direction_with c s Orig) (direction_with c s Resp)
+
+    all : Reads side taken_streams.readers streams.readers between.«units».items new.«units».items (protocol_of c) placed c.«units»
+    all = read (protocol_of c) placed c.«units» (taken.reads (protocol_of c) c.«units» has.stands)
+
+    freed_is : all_freed (protocol_of c) side placed c.«units» ≡ freed_with limit c s
+    freed_is = ap (λ x. all_freed (protocol_of c) x placed c.«units») side_is ∙ freed-are limit c s
 
 no_direction : (c : Conversation) → c.orig ≡ None → c.resp ≡ None → (side : Side) → direction c side ≡ None
 no_direction c orig resp Orig = orig
@@ -83,11 +125,11 @@ and_false : (b : Bool) → (b && false) ≡ false
 and_false true = refl
 and_false false = refl
 
-pub takes_none : (limit : ℕ) (conn : ConnNo) (c : Conversation) (s : Segment) (before after : StreamTable) (news : News) → c.orig ≡ None → c.resp ≡ None
+pub takes_none : (limit : ℕ) (conn : ConnNo) (c : Conversation) (s : Segment) (before after : StreamTable) (news : News) → c.orig ≡ None → c.resp ≡ None → c.«units» ≡ no_units
     → has_syn s.view ≡ false → entry_at after conn.0 ≡ None → after.kept ≡ before.kept
     → Takes limit conn c s (record { sender = record { front = None; ended = false }; receiver = record { front = None; ended = false }; gave_up = false }) before after news news
-takes_none limit conn c s before after news orig resp syn there kept = record {
-  entry = subst (λ o. HasStreams limit o (with_segment limit c s)) (sym there) (has_none-with limit c s (with_none Orig) (with_none Resp));
+takes_none limit conn c s before after news orig resp none syn there kept = record {
+  entry = subst (λ o. HasStreams limit o (with_segment limit c s)) (sym there) (has_none-with limit c s (with_none Orig) (with_none Resp) none);
   kept_is = omega (arith, kept, held_in-with limit c s, ap (held_by limit) orig, ap (held_by limit) resp, ap (held_by limit) (with_none Orig), ap (held_by limit) (with_none Resp));
   moves_are = record {
     sender = no_move limit c s (sender_in c s) (no_direction c orig resp (sender_in c s)) (with_none (sender_in c s));
@@ -102,6 +144,7 @@ takes_none limit conn c s before after news orig resp syn there kept = record {
         (ap (λ l. map (gap_in (sender_in c s)) l ++ map (gap_in (other (sender_in c s))) (gaps_from (front_at limit (direction c (other (sender_in c s)))) (news_of limit (front_at limit (direction c (other (sender_in c s)))) (direction_with c s (other (sender_in c s)))))) (gaps_none (sender_in c s))
         ∙ ap (λ l. map (gap_in (other (sender_in c s))) l) (gaps_none (other (sender_in c s))))
         ∙ append-nil news.gaps.items);
+    units_are = sym (ap (λ l. news.«units».items ++ l) (freed-none limit c s (with_none Orig) (with_none Resp) none) ∙ append-nil news.«units».items);
   };
 }
   where
@@ -114,10 +157,18 @@ takes_none limit conn c s before after news orig resp syn there kept = record {
     gaps_none : (side : Side) → gaps_from (front_at limit (direction c side)) (news_of limit (front_at limit (direction c side)) (direction_with c s side)) ≡ []
     gaps_none side = ap (λ d. gaps_from (front_at limit (direction c side)) (news_of limit (front_at limit (direction c side)) d)) (with_none side)
 
+-- the streams are the same behind a reading
+pub same_streams : (limit : ℕ) (c : Conversation) (s : Segment) (old new : Streams) → (new.orig ≡ old.orig) × (new.resp ≡ old.resp)
+    → AreStreams limit old (direction_with c s Orig) (direction_with c s Resp) → AreStreams limit new (direction_with c s Orig) (direction_with c s Resp)
+same_streams limit c s old new same are = record {
+  orig_is = subst (λ x. IsStream limit x (direction_with c s Orig)) (sym same.0) are.orig_is;
+  resp_is = subst (λ x. IsStream limit x (direction_with c s Resp)) (sym same.1) are.resp_is;
+}
+
 -- no streams are those of two directions that are not there
-pub none_has : (limit : ℕ) (entry : Option Streams) (c : Conversation) → entry ≡ None → HasStreams limit entry c → (c.orig ≡ None) × (c.resp ≡ None)
+pub none_has : (limit : ℕ) (entry : Option Streams) (c : Conversation) → entry ≡ None → HasStreams limit entry c → (c.orig ≡ None) × (c.resp ≡ None) × (c.«units» ≡ no_units)
 none_has limit None c none has = has
 none_has limit (Some streams) c none has = absurd (none_some streams (sym none))
 
-pub some_has : (limit : ℕ) (entry : Option Streams) (streams : Streams) (c : Conversation) → entry ≡ Some streams → HasStreams limit entry c → AreStreams limit streams c.orig c.resp
+pub some_has : (limit : ℕ) (entry : Option Streams) (streams : Streams) (c : Conversation) → entry ≡ Some streams → HasStreams limit entry c → AreStreams limit streams c.orig c.resp × HasRead limit streams.readers c
 some_has limit entry streams c some has = subst (λ o. HasStreams limit o c) some has

@@ -1,18 +1,25 @@
--- What the segments of one connection tell: connections of its packets and streams (zk_conn), and its two streams of their
--- bytes, FINs and acknowledgements (zk_reasm).
-use Rattle.std.specs.Prelude.{ℕ, ◌+◌, ◌%◌, ◌^◌, Bool, true, false, not, ◌&&◌, ◌==◌, if◌then◌else◌, List, [], ◌∷◌, ◌++◌, Option, Some, None}
+-- What the segments of one connection tell: connections of its packets and streams (zk_conn), its two streams of their bytes,
+-- FINs and acknowledgements (zk_reasm), and the units that the streams free (zk_units).
+use Rattle.std.specs.Prelude.{ℕ, ◌+◌, ◌%◌, ◌^◌, nat_lt, Bool, true, false, not, ◌&&◌, ◌==◌, if◌then◌else◌, List, [], ◌∷◌, ◌++◌, length, Option, Some, None}
 use Rattle.zk_base.specs.declared.network.Side.{Side}
 use Rattle.zk_base.specs.declared.network.Side.TheVariants.{Orig, Resp}
 use Rattle.zk_conn.specs.declared.key.Endpoint.{Endpoint}
 use Rattle.zk_conn.specs.declared.key.Key.{Key}
-use Rattle.zk_conn.specs.Instance.{Opening, originator, side_of, same_side, is_reset}
-use Rattle.zk_conn.specs.Segment.{key_of, has_syn, has_ack, has_fin, has_rst}
+use Rattle.zk_conn.specs.Instance.{Opening, originator, responder, side_of, same_side, is_reset}
+use Rattle.zk_conn.specs.Segment.{key_of, is_tcp, has_syn, has_ack, has_fin, has_rst}
 use Rattle.zk_conn.specs.Told as conn
 use Rattle.zk_reasm.specs.declared.stream.Put as put
 use Rattle.zk_reasm.specs.declared.stream.Put.TheVariants.{Grew, Kept, Old, GaveUp}
-use Rattle.zk_reasm.specs.Histories.{front_of, ended_of, put_of}
+use Rattle.zk_http.specs.Places.{Both, Stream}
+use Rattle.zk_reasm.specs.Histories.{content, front_of, ended_of, put_of}
 use Rattle.zk_reasm.specs.Told as stream
 use Rattle.zk_traffic.specs.Segments.{Segment}
+use Rattle.zk_units.specs.declared.protocol.Protocol.{Protocol}
+use Rattle.zk_units.specs.declared.protocol.Protocol.TheVariants as speaks
+use Rattle.zk_units.specs.declared.stream_unit.Freed.{Freed}
+use Rattle.zk_units.specs.declared.stream_unit.StreamUnit.{StreamUnit}
+use Rattle.zk_units.specs.Protocols.{protocol_at}
+use Rattle.zk_units.specs.Units.{add_all, all_freed, freed, message_unit, no_units}
 
 -- the stream of a side that sent a SYN: the number of its first SYN, and what it was told
 pub record Direction : Type 0 where
@@ -26,6 +33,8 @@ pub record Conversation : Type 0 where
   pub events : List conn.Told
   pub orig : Option Direction
   pub resp : Option Direction
+  -- the units that its streams freed
+  pub units : Both (List StreamUnit)
 
 abbrev pub originator_of : Conversation → Endpoint
 originator_of c = originator c.first.packet
@@ -44,7 +53,7 @@ sender_in c s = side_of (originator_of c) s.view
 
 -- before its first segment
 abbrev pub unbegun : Segment → Conversation
-unbegun s = record { first = record { moment = s.moment; packet = s.view }; events = []; orig = None; resp = None }
+unbegun s = record { first = record { moment = s.moment; packet = s.view }; events = []; orig = None; resp = None; units = no_units }
 
 -- the sequence number of the payload: it stands behind the SYN (RFC 9293, section 3.4)
 abbrev pub payload_number : Segment → ℕ
@@ -130,6 +139,39 @@ moved limit key side before after =
 abbrev pub moved_with : ℕ → Conversation → Segment → Side → List conn.Told
 moved_with limit c s side = moved limit (key_of s.view) side (direction c side) (direction_with c s side)
 
+-- ---- units
+
+-- what it speaks: the responder's port tells it
+abbrev pub protocol_of : Conversation → Option Protocol
+protocol_of c = protocol_at c.first.packet.proto (responder c.first.packet).port
+
+-- a side's stream up to its front, whole
+abbrev pub stream_of : ℕ → Option Direction → Stream
+stream_of limit None = record { places = []; ended = false }
+stream_of limit (Some d) = record { places = content d.base limit d.told 0; ended = ended_of d.base limit d.told }
+
+abbrev pub streams_of : ℕ → Option Direction → Option Direction → Both Stream
+streams_of limit orig resp = record { orig = stream_of limit orig; resp = stream_of limit resp }
+
+-- the units that the streams free with one more segment: those of its side are asked for first
+unfoldable pub freed_with : ℕ → Conversation → Segment → List Freed
+freed_with limit c s =
+    all_freed (protocol_of c) (sender_in c s) (streams_of limit (direction_with c s Orig) (direction_with c s Resp)) c.units
+
+abbrev pub speaks_dns : Option Protocol → Bool
+speaks_dns None = false
+speaks_dns (Some speaks.Http) = false
+speaks_dns (Some speaks.Dns) = true
+
+-- not all of the payload was captured
+abbrev pub is_cut : Segment → Bool
+is_cut s = nat_lt (length s.payload) s.view.payload_len
+
+-- what a datagram of DNS says, unless it was cut (RFC 1035, section 4.2.1)
+unfoldable pub datagram_units : Conversation → Segment → List Freed
+datagram_units c s =
+    if not (is_tcp s.view.proto) && (speaks_dns (protocol_of c) && not (is_cut s)) then freed (sender_in c s) (message_unit s.payload) ∷ [] else []
+
 -- a conversation with one more segment; a stream gives up once more bytes than the limit lie above its front
 unfoldable pub with_segment : ℕ → Conversation → Segment → Conversation
 with_segment limit c s = record {
@@ -137,4 +179,5 @@ with_segment limit c s = record {
   events = with_packet c s ++ (moved_with limit c s (sender_in c s) ++ moved_with limit c s (other (sender_in c s)));
   orig = direction_with c s Orig;
   resp = direction_with c s Resp;
+  units = add_all (freed_with limit c s) c.units;
 }

@@ -17,13 +17,16 @@ use Rattle.zk_traffic.specs.declared.item.Item.{Item}
 use Rattle.zk_traffic.specs.declared.item.What.{What}
 use Rattle.zk_traffic.specs.declared.item.What.TheVariants as what
 use Rattle.zk_traffic.specs.declared.options.Options.{Options}
-use Rattle.zk_traffic.specs.Conversation.{Conversation, Direction, direction, direction_with, front_at, gives_up, originator_of, other, resets, sender_in, with_packet, with_segment}
+use Rattle.zk_traffic.specs.Conversation.{Conversation, Direction, datagram_units, direction, direction_with, freed_with, front_at, gives_up, originator_of, other, resets, sender_in, with_packet, with_segment}
 use Rattle.zk_traffic.specs.Datagram.{time_at}
 use Rattle.zk_traffic.specs.Fresh.{FreshRun}
 use Rattle.zk_traffic.specs.Instances.{Instance, begins, in_order, joined_by, latest, live_at, number_of, over_between, removal}
 use Rattle.zk_traffic.specs.Places.{Gap, Run, gaps_from, runs_from}
 use Rattle.zk_traffic.specs.Segments.{Segment, segment_at, segments}
 use Rattle.zk_traffic.specs.Steps.{Step, steps}
+use Rattle.zk_units.specs.declared.stream_unit.Freed.{Freed}
+use Rattle.zk_units.specs.declared.stream_unit.StreamUnit.{StreamUnit}
+use Rattle.zk_units.specs.declared.stream_unit.StreamUnit.TheVariants as says
 
 abbrev pub item : Moment → What → Item
 item moment what_is = record { moment = moment; what = what_is }
@@ -69,6 +72,19 @@ ends limit c s side =
 abbrev pub establishes : Conversation → Segment → Bool
 establishes c s = is_established (originator_of c) (with_packet c s) && not (is_established (originator_of c) c.events)
 
+-- a unit of a connection, as it is told
+abbrev pub what_said : ConnNo → Facts → Side → StreamUnit → What
+what_said conn known side (says.Http found) = what.Http conn known side found
+what_said conn known side (says.Dns len message) = what.Dns conn known side len message
+what_said conn known side (says.DnsBad fault len) = what.DnsBad conn known side fault len
+
+abbrev pub unit_item : Moment → ConnNo → Facts → Freed → Item
+unit_item moment conn known found = item moment (what_said conn known found.side found.«unit»)
+
+-- the units of a segment: that of a datagram, or those that the streams free
+abbrev pub units_with : ℕ → Conversation → Segment → List Freed
+units_with limit c s = datagram_units c s ++ freed_with limit c s
+
 -- the items of a segment, behind a conversation that it goes on with
 abbrev pub items_with : ℕ → ℕ → Bool → Conversation → Segment → Facts → List Item
 items_with limit number opens c s known =
@@ -76,6 +92,7 @@ items_with limit number opens c s known =
     ++ when (establishes c s) (item s.moment (what.Established (numbered number) known))
     ++ map (λ g. item s.moment (what.Gap (numbered number) known (sender_in c s) g.from g.length)) (gaps limit c s (sender_in c s))
     ++ map (λ g. item s.moment (what.Gap (numbered number) known (other (sender_in c s)) g.from g.length)) (gaps limit c s (other (sender_in c s)))
+    ++ map (unit_item s.moment (numbered number) known) (units_with limit c s)
     ++ when (ends limit c s (sender_in c s)) (item s.moment (what.Ended (numbered number) known (sender_in c s)))
     ++ when (ends limit c s (other (sender_in c s))) (item s.moment (what.Ended (numbered number) known (other (sender_in c s))))
     ++ when (gives_up limit c s) (item s.moment (what.GaveUp (numbered number) known (sender_in c s)))

@@ -6,6 +6,7 @@ pub mod Items
 pub mod Kept
 pub mod Moves
 pub mod News
+pub mod Own
 pub mod Places
 pub mod Segments
 pub mod Standing

@@ -1,27 +1,36 @@
 -- What the table of streams has of a connection, and what a segment does there.
-use Rattle.std.specs.Prelude.{◌≡◌, ℕ, ◌+◌, ◌++◌, Option, Some, None}
+use Rattle.std.specs.Prelude.{◌≡◌, ℕ, ◌+◌, ◌≤◌, ◌++◌, Option, Some, None}
 use Rattle.std.specs.BTreeMap as tree
 use Rattle.std.specs.Ordering.{nat_cmp}
+use Rattle.zk_base.specs.declared.network.Side.{Side}
 use Rattle.zk_base.specs.declared.numbers.ConnNo.{ConnNo}
 use Rattle.zk_traffic.specs.declared.news.News.{News}
 use Rattle.zk_traffic.specs.declared.stream_table.StreamTable.{StreamTable}
 use Rattle.zk_traffic.specs.declared.streams.Moves.{Moves}
 use Rattle.zk_traffic.specs.declared.streams.Streams.{Streams}
-use Rattle.zk_traffic.specs.Conversation.{Conversation, gives_up, other, sender_in, with_segment}
+use Rattle.zk_traffic.specs.Conversation.{Conversation, freed_with, gives_up, other, protocol_of, sender_in, streams_of, with_segment}
 use Rattle.zk_traffic.specs.Items.{fresh_with}
 use Rattle.zk_traffic.specs.Kept.{held_in}
 use Rattle.zk_traffic.specs.Moves.{IsMove, segment_gaps}
 use Rattle.zk_traffic.specs.News.{runs_of}
 use Rattle.zk_traffic.specs.Segments.{Segment}
 use Rattle.zk_traffic.specs.Streams.{AreStreams}
+use Rattle.zk_units.specs.declared.readers.Readers.{Readers}
+use Rattle.zk_units.specs.Standing as readers
+use Rattle.zk_units.specs.Units.{no_units}
 
 unfoldable pub entry_at : StreamTable → ℕ → Option Streams
 entry_at table number = tree.get nat_cmp table.streams number
 
+-- all units of the streams were read, and few bytes wait
+pub record HasRead (limit : ℕ) (reads : Readers) (c : Conversation) : Type 0 where
+  pub stands : readers.StandsFor reads (protocol_of c) (streams_of limit c.orig c.resp) c.«units»
+  pub few : (side : Side) → readers.held_in side reads ≤ 65536
+
 -- the streams of a connection, where it has an entry
 abbrev pub HasStreams : ℕ → Option Streams → Conversation → Type 0
-HasStreams limit None c = (c.orig ≡ None) × (c.resp ≡ None)
-HasStreams limit (Some streams) c = AreStreams limit streams c.orig c.resp
+HasStreams limit None c = (c.orig ≡ None) × (c.resp ≡ None) × (c.«units» ≡ no_units)
+HasStreams limit (Some streams) c = AreStreams limit streams c.orig c.resp × HasRead limit streams.readers c
 
 -- how a segment of a conversation has moved both streams
 pub record AreMoves (limit : ℕ) (conn : ConnNo) (c : Conversation) (s : Segment) (moves : Moves) (old new : News) : Type 0 where
@@ -30,6 +39,7 @@ pub record AreMoves (limit : ℕ) (conn : ConnNo) (c : Conversation) (s : Segmen
   pub gave_up : moves.gave_up ≡ gives_up limit c s
   pub runs_are : runs_of new ≡ runs_of old ++ fresh_with limit conn.0 c s
   pub gaps_are : new.gaps.items ≡ old.gaps.items ++ segment_gaps limit c s
+  pub units_are : new.«units».items ≡ old.«units».items ++ freed_with limit c s
 
 -- the table has a segment of a conversation
 pub record Takes (limit : ℕ) (conn : ConnNo) (c : Conversation) (s : Segment) (moves : Moves) (before after : StreamTable) (old new : News) : Type 0 where

@@ -15,7 +15,7 @@ use Rattle.zk_traffic.specs.declared.table.Done.{Done}
 use Rattle.zk_traffic.specs.declared.table.Table.{Table}
 use Rattle.zk_traffic.specs.Conversation.{Conversation, gives_up, other, resets, sender_in, with_segment}
 use Rattle.zk_traffic.specs.Instances.{Instance, begins, begun, instances, is_over_by, joined_by, latest, number_of, removal}
-use Rattle.zk_traffic.specs.Items.{ends, establishes, facts, segment_fresh}
+use Rattle.zk_traffic.specs.Items.{ends, establishes, facts, segment_fresh, units_with}
 use Rattle.zk_traffic.specs.Kept.{held_in_all}
 use Rattle.zk_traffic.specs.Moves.{segment_gaps}
 use Rattle.zk_traffic.specs.News.{runs_of}
@@ -117,3 +117,4 @@ pub record TakesSegment (limit : ℕ) (before : List Segment) (s : Segment) (don
   pub live : HasLive limit (before ++ s ∷ []) (gone_by limit (before ++ s ∷ []) s.moment) (key_of s.view) done.conn.0 (with_segment limit (joined_by (latest limit (key_of s.view) before) s) s)
   pub runs_are : runs_of new_news ≡ runs_of old_news ++ segment_fresh limit before s
   pub gaps_are : new_news.gaps.items ≡ old_news.gaps.items ++ segment_gaps limit (joined_by (latest limit (key_of s.view) before) s) s
+  pub units_are : new_news.«units».items ≡ old_news.«units».items ++ units_with limit (joined_by (latest limit (key_of s.view) before) s) s

@@ -33,6 +33,7 @@ pub record IsReady (traffic : Traffic) (options : Options) (link : ℕ) (records
   pub current : IsCurrent traffic.connections.table options.buffer (segments options link records) t
   pub no_runs : runs_of traffic.connections.news ≡ []
   pub no_gaps : traffic.connections.news.gaps.items ≡ []
+  pub no_units : traffic.connections.news.«units».items ≡ []
 
 -- a packet was taken, but for the items ahead of its segment's
 pub record HasTaken (old new : Traffic) (options : Options) (link : ℕ) (step : Step Packet) : Type 0 where

@@ -13,7 +13,7 @@ ghost use Rattle.zk_traffic.specs.declared.item.What.TheVariants as what;
 
 use crate::item::{Item, What};
 use crate::news::News;
-use crate::queue::{give, give_endings, give_gaps, give_opening, give_removed};
+use crate::queue::{give, give_endings, give_gaps, give_opening, give_removed, give_units};
 use crate::segment::Segment;
 use crate::table::Table;
 use std::alloc::Global;
@@ -43,11 +43,18 @@ impl Connections {
         }
     }
 
-    /// How many bytes all streams hold.
+    /// How many bytes all streams hold where as many as may wait to be read.
     pub fn kept(&self) -> u64
         ensures { result ≡ self.now.table.streams.kept }
     {
         self.table.kept()
+    }
+
+    /// How many bytes fewer of all streams wait to be read than may.
+    pub fn spare(&self) -> u64
+        ensures { result ≡ self.now.table.streams.spare }
+    {
+        self.table.spare()
     }
 
     /// What the last packet brought.
@@ -71,6 +78,7 @@ impl Connections {
     pub fn begin(&mut self)
         ensures runs { runs_of self.new.news ≡ [] }
         ensures gaps { self.new.news.gaps.items ≡ [] }
+        ensures units { self.new.news.units.items ≡ [] }
         ensures table { self.new.table ≡ self.old.table }
         ensures items { self.new.items ≡ self.old.items }
     {
@@ -113,14 +121,16 @@ impl Connections {
     pub fn take(&mut self, t: Moment, segment: &Segment<'_>) -> Result<(), Mem>
         requires early { pos 0 ≤ℤ t.0 }
         requires late { t.0 ≤ℤ pos (2 ^ 62) }
-        ensures { OnOk result ((limit : ℕ) (segments : List SegmentData) → IsCurrent self.old.table limit segments t → runs_of self.old.news ≡ [] → self.old.news.gaps.items ≡ []
+        ensures { OnOk result ((limit : ℕ) (segments : List SegmentData) → IsCurrent self.old.table limit segments t → runs_of self.old.news ≡ [] → self.old.news.gaps.items ≡ [] → self.old.news.units.items ≡ []
             → IsCurrent self.new.table limit (segments ++ segment_of t segment.now ∷ []) t
             × (self.new.items.items ≡ self.old.items.items ++ segment_items limit segments (segment_of t segment.now))
             × (runs_of self.new.news ≡ segment_fresh limit segments (segment_of t segment.now))) }
     {
         let done = self.table.take(t, segment, &mut self.news)?;
         give_opening(&mut self.items, &self.table, t, done)?;
-        give_gaps(&mut self.items, &self.table, t, done.conn, &self.news.gaps)?;
+        let conn = done.conn;
+        give_gaps(&mut self.items, &self.table, t, conn, &self.news.gaps)?;
+        give_units(&mut self.items, &self.table, t, conn, &mut self.news.units)?;
         give_endings(&mut self.items, &self.table, t, done)
     }
 
@@ -128,7 +138,7 @@ impl Connections {
     pub fn take_some(&mut self, t: Moment, segment: Option<Segment<'_>>) -> Result<(), Mem>
         requires early { pos 0 ≤ℤ t.0 }
         requires late { t.0 ≤ℤ pos (2 ^ 62) }
-        ensures { OnOk result ((limit : ℕ) (segments : List SegmentData) → IsCurrent self.old.table limit segments t → runs_of self.old.news ≡ [] → self.old.news.gaps.items ≡ []
+        ensures { OnOk result ((limit : ℕ) (segments : List SegmentData) → IsCurrent self.old.table limit segments t → runs_of self.old.news ≡ [] → self.old.news.gaps.items ≡ [] → self.old.news.units.items ≡ []
             → TakesSome limit segments (option_map (segment_of t) segment.entry) t self.old self.new) }
     {
         match segment {

@@ -1,5 +1,7 @@
 use zk_base::{ConnNo, Moment, Side};
 use zk_conn::Facts;
+use zk_dns::DnsRecord;
+use zk_http::Unit;
 
 /// One thing that happens in a capture.
 #[derive(Debug, Drop)]
@@ -36,6 +38,31 @@ pub enum What {
         side: Side,
         from: u64,
         length: u64,
+    },
+    /// A side's stream frees the next part of a message of HTTP.
+    Http {
+        conn: ConnNo,
+        facts: Facts,
+        side: Side,
+        unit: Unit,
+    },
+    /// A side sends a message of DNS, which has so many bytes.
+    Dns {
+        conn: ConnNo,
+        facts: Facts,
+        side: Side,
+        len: u32,
+        message: DnsRecord,
+    },
+    /// A side sends so many bytes that are no message of DNS, for a fault of this number: 1 to 6 are
+    /// those of `DnsFault` in their order. 7 is a gap in a length or a message over TCP, after which
+    /// the side gives nothing more.
+    DnsBad {
+        conn: ConnNo,
+        facts: Facts,
+        side: Side,
+        fault: u8,
+        len: u32,
     },
     /// A side has closed its end by a FIN.
     Ended {

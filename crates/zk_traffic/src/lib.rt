@@ -16,7 +16,7 @@ mod traffic;
 pub use item::{Item, What};
 pub use news::Fresh;
 pub use options::Options;
-pub use traffic::{Traffic, items_stay};
+pub use traffic::{Traffic, items_are_own, items_stay};
 
 #[cfg(test)]
 mod tests;

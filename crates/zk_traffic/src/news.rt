@@ -2,7 +2,9 @@ ghost use Rattle.std.specs.Prelude.{◌≡◌, ◌+◌, ◌<◌, ◌≤◌, ◌=
 ghost use Rattle.zk_traffic.specs.declared.news.Run.{Run};
 
 use std::alloc::Global;
+use std::collections::VecDeque;
 use zk_base::{ConnNo, Mem, Side};
+use zk_units::Freed;
 
 /// A run of bytes by which a packet moved the front of a side's stream.
 #[derive(Clone, Copy, Debug)]
@@ -33,13 +35,15 @@ struct Run {
     end: usize,
 }
 
-/// What a packet brought the streams of its connection, up to their fronts: runs of bytes, and the
-/// gaps between them.
+/// What a packet brought the streams of its connection, up to their fronts: runs of bytes, the gaps
+/// between them, and the units that they free.
 #[derive(Debug, Drop)]
 pub struct News {
     bytes: Vec<u8>,
     runs: Vec<Run>,
     pub gaps: Vec<Gap>,
+    /// The units that it freed.
+    pub units: VecDeque<Freed>,
     ghost within: { All (λ (run : Run). run.end ≤ vec_len bytes) runs.items },
     ghost order: { All (λ (run : Run). run.start ≤ run.end) runs.items },
 }
@@ -55,11 +59,13 @@ impl News {
     pub fn new(alloc: Global) -> News
         ensures runs { runs_of result ≡ [] }
         ensures gaps { result.gaps.items ≡ [] }
+        ensures units { result.units.items ≡ [] }
     {
         News {
             bytes: Vec::new(alloc),
             runs: Vec::new(alloc),
             gaps: Vec::new(alloc),
+            units: VecDeque::new(alloc),
         }
     }
 
@@ -68,10 +74,12 @@ impl News {
     pub fn clear(&mut self)
         ensures runs { runs_of self.new ≡ [] }
         ensures gaps { self.new.gaps.items ≡ [] }
+        ensures units { self.new.units.items ≡ [] }
     {
         self.runs.clear();
         self.bytes.clear();
         self.gaps.clear();
+        self.units.clear();
     }
 
     /// Adds a run of bytes, if there are any.
@@ -79,6 +87,7 @@ impl News {
         ensures runs { OnOk result (runs_of self.new ≡ runs_of self.old
             ++ (if length bytes.now == 0 then [] else record { conn = conn; side = side; from = from; bytes = bytes.now } ∷ [])) }
         ensures gaps { self.new.gaps ≡ self.old.gaps }
+        ensures units { self.new.units.items ≡ self.old.units.items }
     {
         if bytes.is_empty() {
             return Ok(());
@@ -102,6 +111,7 @@ impl News {
         ensures gaps { OnOk result (self.new.gaps.items ≡ self.old.gaps.items
             ++ (if length == 0 then [] else record { side = side; from = from; length = length } ∷ [])) }
         ensures runs { runs_of self.new ≡ runs_of self.old }
+        ensures units { self.new.units.items ≡ self.old.units.items }
     {
         if length > 0 {
             self.gaps.push(Gap { side, from, length })?;

@@ -1,6 +1,6 @@
 ghost use Rattle.std.specs.Prelude.{◌≡◌, [], ◌∷◌, ◌++◌, map, OnOk};
 ghost use Rattle.zk_conn.specs.declared.facts.Facts.{Facts as FactsData};
-ghost use Rattle.zk_traffic.specs.Items.{item, when};
+ghost use Rattle.zk_traffic.specs.Items.{item, unit_item, what_said, when};
 ghost use Rattle.zk_traffic.specs.Queue.{Knows, ending_items, gap_item, opening_items, what_of};
 ghost use Rattle.zk_traffic.specs.declared.item.What.TheVariants as what;
 
@@ -10,6 +10,7 @@ use crate::table::{Done, Table, peer};
 use std::collections::VecDeque;
 use zk_base::{ConnNo, Mem, Moment, Side};
 use zk_conn::{Facts, Removed};
+use zk_units::{Freed, StreamUnit};
 
 /// What happens to a connection.
 #[derive(Clone, Copy, Debug, PartialEq, Eq)]
@@ -132,7 +133,68 @@ pub fn give_gaps(
     Ok(())
 }
 
-/// Adds the items of a segment behind the gaps.
+/// A unit of a connection, as it is told.
+fn what_freed(conn: ConnNo, facts: Facts, freed: Freed) -> What
+    ensures { result ≡ what_said conn facts freed.side freed.unit }
+{
+    let side = freed.side;
+    match freed.unit {
+        StreamUnit::Http(unit) => What::Http {
+            conn,
+            facts,
+            side,
+            unit,
+        },
+        StreamUnit::Dns { len, message } => What::Dns {
+            conn,
+            facts,
+            side,
+            len,
+            message,
+        },
+        StreamUnit::DnsBad { fault, len } => What::DnsBad {
+            conn,
+            facts,
+            side,
+            fault,
+            len,
+        },
+    }
+}
+
+/// Adds a unit of a live connection, with what is known of it.
+fn give_unit(
+    items: &mut VecDeque<Item>,
+    table: &Table,
+    t: Moment,
+    conn: ConnNo,
+    freed: Freed,
+) -> Result<(), Mem>
+    ensures { OnOk result ((known : FactsData) → Knows table.now conn known → items.new.items ≡ items.old.items ++ unit_item t conn known freed ∷ []) }
+{
+    match table.facts(conn) {
+        Some(facts) => give(items, t, what_freed(conn, facts, freed)),
+        None => Ok(()),
+    }
+}
+
+/// Adds the units. None are left.
+pub fn give_units(
+    items: &mut VecDeque<Item>,
+    table: &Table,
+    t: Moment,
+    conn: ConnNo,
+    units: &mut VecDeque<Freed>,
+) -> Result<(), Mem>
+    ensures { OnOk result ((known : FactsData) → Knows table.now conn known → items.new.items ≡ items.old.items ++ map (unit_item t conn known) units.old.items) }
+{
+    while let Some(freed) = units.pop_front() {
+        give_unit(items, table, t, conn, freed)?;
+    }
+    Ok(())
+}
+
+/// Adds the items of a segment behind the units.
 pub fn give_endings(
     items: &mut VecDeque<Item>,
     table: &Table,

@@ -1,6 +1,6 @@
-ghost use Rattle.std.specs.Prelude.{◌≡◌, ◌≤◌, length};
+ghost use Rattle.std.specs.Prelude.{◌≡◌, ◌≤◌, not, length};
 ghost use Rattle.zk_base.specs.declared.time.Moment.{Moment};
-ghost use Rattle.zk_conn.specs.Segment.{control, has, has_ack, has_fin, has_rst, has_syn};
+ghost use Rattle.zk_conn.specs.Segment.{control, has, has_ack, has_fin, has_rst, has_syn, is_tcp};
 
 use zk_base::Proto;
 use zk_conn::L4View;
@@ -18,7 +18,7 @@ pub struct Segment<'a> {
 }
 
 impl Segment<'_> {
-    ghost use Rattle.zk_traffic.specs.Conversation.{fin_number, payload_number};
+    ghost use Rattle.zk_traffic.specs.Conversation.{fin_number, is_cut, payload_number};
     ghost use Rattle.zk_traffic.specs.Taken.{segment_of};
 
     /// The control bits. A UDP datagram has none.
@@ -59,6 +59,23 @@ impl Segment<'_> {
         ensures { result ≡ has_rst self.now.view }
     {
         self.has(RST)
+    }
+
+    /// Whether not all of the payload was captured.
+    pub fn was_cut(&self) -> bool
+        ensures { (t : Moment) → result ≡ is_cut (segment_of t self.now) }
+    {
+        (self.payload.len() as u64) < u64::from(self.view.payload_len)
+    }
+
+    /// Whether it is a UDP datagram.
+    pub fn is_datagram(&self) -> bool
+        ensures { result ≡ not (is_tcp self.now.view.proto) }
+    {
+        match self.view.proto {
+            Proto::Tcp => false,
+            Proto::Udp => true,
+        }
     }
 
     /// The sequence number of the payload, which stands behind the SYN.

@@ -1,7 +1,7 @@
 ghost use Rattle.std.specs.Prelude.{◌≡◌, ◌≢◌, ◌≤◌, ◌+◌, ℕ, true, false, None, IsSome, IfOk, OnOk};
 ghost use Rattle.zk_base.specs.declared.time.Moment.{Moment};
 ghost use Rattle.zk_conn.specs.Segment.{has_syn};
-ghost use Rattle.zk_traffic.specs.Conversation.{Conversation, resets, sender_in, was_reset_with};
+ghost use Rattle.zk_traffic.specs.Conversation.{Conversation, protocol_of, resets, sender_in, was_reset_with};
 ghost use Rattle.zk_traffic.specs.Kept.{held_in};
 ghost use Rattle.zk_traffic.specs.StreamTable.{HasStreams, Takes, entry_at};
 ghost use Rattle.zk_traffic.specs.Taken.{segment_of};
@@ -12,6 +12,7 @@ use crate::streams::{Moved, Moves, Stops, Streams};
 use std::alloc::Global;
 use std::collections::BTreeMap;
 use zk_base::{ConnNo, Mem, Side};
+use zk_units::Protocol;
 
 /// The streams of live connections.
 #[derive(Debug, Drop)]
@@ -20,8 +21,10 @@ pub struct StreamTable {
     limit: u64,
     /// The streams of the connections that have one, by the number of the connection.
     streams: BTreeMap<u64, Streams>,
-    /// How many bytes all streams hold.
+    /// How many bytes all streams hold where as many as may wait to be read.
     kept: u64,
+    /// How many bytes fewer wait to be read than may.
+    spare: u64,
 }
 
 /// What a segment does to no streams.
@@ -50,14 +53,22 @@ impl StreamTable {
             limit,
             streams: BTreeMap::new(alloc),
             kept: 0,
+            spare: 0,
         }
     }
 
-    /// How many bytes all streams hold.
+    /// How many bytes all streams hold where as many as may wait to be read.
     pub fn kept(&self) -> u64
         ensures { result ≡ self.now.kept }
     {
         self.kept
+    }
+
+    /// How many bytes fewer of all streams wait to be read than may.
+    pub fn spare(&self) -> u64
+        ensures { result ≡ self.now.spare }
+    {
+        self.spare
     }
 
     /// Tells the streams of a connection of a segment of this side.
@@ -66,6 +77,7 @@ impl StreamTable {
         conn: ConnNo,
         side: Side,
         stops: Stops,
+        protocol: Option<Protocol>,
         segment: &Segment<'_>,
         news: &mut News,
     ) -> Result<Moves, Mem>
@@ -73,11 +85,12 @@ impl StreamTable {
         ensures others { OnOk result ((number : ℕ) → number ≢ conn.0 → entry_at self.new number ≡ entry_at self.old number) }
         ensures taken { IfOk result (λ moves. (t : Moment) (c : Conversation) → HasStreams self.old.limit (entry_at self.old conn.0) c
             → side ≡ sender_in c (segment_of t segment.now) → stops.resets ≡ resets c (segment_of t segment.now)
-            → (has_syn segment.now.view ≡ true → stops.was_reset ≡ was_reset_with c (segment_of t segment.now)) → held_in self.old.limit c ≤ self.old.kept
+            → (has_syn segment.now.view ≡ true → stops.was_reset ≡ was_reset_with c (segment_of t segment.now))
+            → (has_syn segment.now.view ≡ true → protocol ≡ protocol_of c) → held_in self.old.limit c ≤ self.old.kept
             → Takes self.old.limit conn c (segment_of t segment.now) moves self.old self.new news.old news.new) }
     {
         if segment.has_syn() {
-            self.make(conn)?;
+            self.make(conn, protocol)?;
         }
         self.tell(conn, side, stops, segment, news)
     }
@@ -92,19 +105,21 @@ impl StreamTable {
     {
         if let Some(streams) = self.streams.remove(&conn.0) {
             self.kept = self.kept.saturating_sub(streams.kept().unwrap_or(0));
+            self.spare = self.spare.saturating_sub(streams.spare());
         }
     }
 
     /// Makes an entry for the streams of a connection, if there is none.
-    fn make(&mut self, conn: ConnNo) -> Result<(), Mem>
+    fn make(&mut self, conn: ConnNo, protocol: Option<Protocol>) -> Result<(), Mem>
         ensures limit { self.new.limit ≡ self.old.limit }
         ensures kept { self.new.kept ≡ self.old.kept }
         ensures there { OnOk result (IsSome (entry_at self.new conn.0)) }
-        ensures entry { OnOk result ((limit : ℕ) (c : Conversation) → HasStreams limit (entry_at self.old conn.0) c → HasStreams limit (entry_at self.new conn.0) c) }
+        ensures entry { OnOk result ((limit : ℕ) (c : Conversation) → protocol ≡ protocol_of c → HasStreams limit (entry_at self.old conn.0) c → HasStreams limit (entry_at self.new conn.0) c) }
         ensures others { OnOk result ((number : ℕ) → number ≢ conn.0 → entry_at self.new number ≡ entry_at self.old number) }
     {
         if !self.streams.contains_key(&conn.0) {
-            self.streams.insert(conn.0, Streams::new())?;
+            self.streams
+                .insert(conn.0, Streams::new(self.alloc, protocol))?;
         }
         Ok(())
     }
@@ -130,10 +145,13 @@ impl StreamTable {
             return Ok(NO_MOVES);
         };
         let before = streams.kept().ok_or(Mem)?;
+        let spare = self.spare.saturating_sub(streams.spare());
         let moves = streams.take(self.alloc, self.limit, conn, side, stops, segment, news)?;
+        streams.read(side, news)?;
         let after = streams.kept().ok_or(Mem)?;
         let others = self.kept.saturating_sub(before);
         self.kept = others.checked_add(after).ok_or(Mem)?;
+        self.spare = spare.checked_add(streams.spare()).ok_or(Mem)?;
         Ok(moves)
     }
 }

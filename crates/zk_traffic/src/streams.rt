@@ -1,28 +1,37 @@
 ghost use Rattle.std.specs.Prelude.{◌≡◌, ℕ, ◌+◌, ◌≤◌, ◌<◌, ◌^◌, Bool, true, not, ◌&&◌, if◌then◌else◌, List, [], ◌++◌, Option, None, Some, IfOk, IfSome, OnOk, MatchOption};
+ghost use Rattle.zk_base.specs.declared.network.Side.{Side as SideData};
 ghost use Rattle.zk_base.specs.declared.time.Moment.{Moment};
 ghost use Rattle.zk_conn.specs.Segment.{has_ack, has_rst, has_syn};
+ghost use Rattle.zk_http.specs.Places.{Both, Stream as Placed, of_side};
 ghost use Rattle.zk_reasm.specs.Histories.{content, ended_of, front_of, put_of};
 ghost use Rattle.zk_reasm.specs.Standing.{StandsFor};
 ghost use Rattle.zk_reasm.specs.Told.{Told};
 ghost use Rattle.zk_traffic.specs.Conversation.{Conversation, Direction, resets, sender_in, was_reset_with, acknowledged_told, begun_by, direction_with, fin_told, front_at, has_ended, is_gave_up, payload_number, put_with, sent_told, stop_told, told_more};
 ghost use Rattle.zk_traffic.specs.Items.{news_of};
 ghost use Rattle.zk_traffic.specs.Kept.{held_by};
+ghost use Rattle.zk_traffic.specs.News.{runs_of};
 ghost use Rattle.zk_traffic.specs.Moves.{Begins, HasMoved, HasTaken, IsDrained, IsTaken, front_moved};
 ghost use Rattle.zk_traffic.specs.Places.{gaps_from, runs_from};
 ghost use Rattle.zk_traffic.specs.Streams.{AreStreams, IsStream};
 ghost use Rattle.zk_traffic.specs.Taken.{segment_of};
+ghost use Rattle.zk_units.specs.Standing.{Reads, StandsFor as ReadersStand, ended_by, held_in, no_streams, with_stream};
+ghost use Rattle.zk_units.specs.Units.{no_units};
+ghost use Rattle.zk_units.specs.declared.protocol.Protocol.{Protocol as Speaks};
+ghost use Rattle.zk_units.specs.declared.stream_unit.StreamUnit.{StreamUnit as Said};
 
 use crate::news::News;
 use crate::segment::Segment;
 use std::alloc::Global;
 use zk_base::{ConnNo, Mem, Side};
 use zk_reasm::{Put, Stream};
+use zk_units::{Protocol, Readers};
 
 /// The streams of a connection's two sides, each from its side's first SYN on.
 #[derive(Debug, Drop)]
 pub struct Streams {
     orig: Option<Stream>,
     resp: Option<Stream>,
+    readers: Readers,
 }
 
 /// How a stream has moved.
@@ -52,6 +61,9 @@ pub struct Stops {
     pub was_reset: bool,
 }
 
+/// How many bytes of a stream may wait to be read.
+const MOST_UNREAD: u64 = 65536;
+
 /// A stream that has not moved.
 const UNMOVED: Moved = Moved {
     front: None,
@@ -59,22 +71,43 @@ const UNMOVED: Moved = Moved {
 };
 
 impl Streams {
-    /// No streams.
-    pub fn new() -> Streams
-        ensures { (limit : ℕ) → AreStreams limit result None None }
+    /// No streams, of a connection that speaks this protocol. No memory is taken.
+    pub fn new(alloc: Global, protocol: Option<Protocol>) -> Streams
+        ensures streams { (limit : ℕ) → AreStreams limit result None None }
+        ensures readers { ReadersStand result.readers protocol no_streams no_units }
+        ensures held { (side : SideData) → held_in side result.readers ≡ 0 }
     {
         Streams {
             orig: None,
             resp: None,
+            readers: Readers::new(alloc, protocol),
         }
     }
 
-    /// How many bytes the streams hold: nothing where that passes the greatest number.
+    /// How many bytes the streams hold where as many as may wait to be read: nothing where that passes
+    /// the greatest number.
     pub fn kept(&self) -> Option<u64>
         ensures { (limit : ℕ) (orig resp : Option Direction) → AreStreams limit self.now orig resp
             → MatchOption result (2 ^ 64 ≤ held_by limit orig + held_by limit resp) (λ n. n ≡ held_by limit orig + held_by limit resp) }
     {
-        kept(&self.orig).checked_add(kept(&self.resp))
+        let orig = kept(&self.orig)?;
+        orig.checked_add(kept(&self.resp)?)
+    }
+
+    /// How many bytes fewer wait to be read than may.
+    pub fn spare(&self) -> u64 {
+        let orig = spare(&self.orig, self.readers.held(Side::Orig));
+        orig.saturating_add(spare(&self.resp, self.readers.held(Side::Resp)))
+    }
+
+    /// Adds the units that the streams free: those of this side first.
+    pub fn read(&mut self, first: Side, news: &mut News) -> Result<(), Mem>
+        ensures streams { (self.new.orig ≡ self.old.orig) × (self.new.resp ≡ self.old.resp) }
+        ensures news { (runs_of news.new ≡ runs_of news.old) × (news.new.gaps.items ≡ news.old.gaps.items) }
+        ensures units { OnOk result ((protocol : Option Speaks) (streams : Both Placed) (given : Both (List Said)) → ReadersStand self.old.readers protocol streams given
+            → Reads first self.old.readers self.new.readers news.old.units.items news.new.units.items protocol streams given) }
+    {
+        self.readers.read(first, &mut news.units)
     }
 
     /// Tells the streams of a segment of this side.
@@ -90,7 +123,7 @@ impl Streams {
     ) -> Result<Moves, Mem>
         ensures { IfOk result (λ moves. (t : Moment) (c : Conversation) → AreStreams limit self.old c.orig c.resp → side ≡ sender_in c (segment_of t segment.now)
             → stops.resets ≡ resets c (segment_of t segment.now) → (has_syn segment.now.view ≡ true → stops.was_reset ≡ was_reset_with c (segment_of t segment.now))
-            → HasTaken limit conn c (segment_of t segment.now) moves self.new news.old news.new) }
+            → HasTaken limit conn c (segment_of t segment.now) moves self.old.readers self.new news.old news.new) }
     {
         match side {
             Side::Orig => {
@@ -101,9 +134,18 @@ impl Streams {
                     Side::Orig,
                     stop,
                     segment,
+                    &mut self.readers,
                     news,
                 )?;
-                let receiver = acknowledge(&mut self.resp, conn, Side::Resp, stops, segment, news)?;
+                let receiver = acknowledge(
+                    &mut self.resp,
+                    conn,
+                    Side::Resp,
+                    stops,
+                    segment,
+                    &mut self.readers,
+                    news,
+                )?;
                 Ok(Moves {
                     sender,
                     receiver,
@@ -118,9 +160,18 @@ impl Streams {
                     Side::Resp,
                     stop,
                     segment,
+                    &mut self.readers,
                     news,
                 )?;
-                let receiver = acknowledge(&mut self.orig, conn, Side::Orig, stops, segment, news)?;
+                let receiver = acknowledge(
+                    &mut self.orig,
+                    conn,
+                    Side::Orig,
+                    stops,
+                    segment,
+                    &mut self.readers,
+                    news,
+                )?;
                 Ok(Moves {
                     sender,
                     receiver,
@@ -132,11 +183,19 @@ impl Streams {
 }
 
 /// How many bytes a stream holds.
-fn kept(stream: &Option<Stream>) -> u64
-    ensures { (limit : ℕ) (d : Option Direction) → IsStream limit stream.now d → result ≡ held_by limit d }
+fn kept(stream: &Option<Stream>) -> Option<u64>
+    ensures { (limit : ℕ) (d : Option Direction) → IsStream limit stream.now d → MatchOption result (2 ^ 64 ≤ held_by limit d) (λ n. n ≡ held_by limit d) }
 {
     match stream {
-        Some(stream) => stream.kept(),
+        Some(stream) => stream.kept().checked_add(MOST_UNREAD),
+        None => Some(0),
+    }
+}
+
+/// How many bytes fewer of a stream wait to be read than may.
+fn spare(stream: &Option<Stream>, unread: u64) -> u64 {
+    match stream {
+        Some(_) => MOST_UNREAD.saturating_sub(unread),
         None => 0,
     }
 }
@@ -168,10 +227,11 @@ fn send(
     side: Side,
     stop: bool,
     segment: &Segment<'_>,
+    readers: &mut Readers,
     news: &mut News,
 ) -> Result<(Moved, bool), Mem>
     ensures moves { IfOk result (λ done. (t : Moment) (limit : ℕ) (d : Option Direction) → IsStream limit stream.old d
-        → HasMoved limit conn side d (told_more (sent_told (segment_of t segment.now)) (told_more (stop_told stop) d)) done.0 stream.new news.old news.new) }
+        → HasMoved limit conn side d (told_more (sent_told (segment_of t segment.now)) (told_more (stop_told stop) d)) done.0 stream.new news.old news.new readers.old readers.new) }
     ensures gave_up { IfOk result (λ done. (t : Moment) (limit : ℕ) (d : Option Direction) → IsStream limit stream.old d
         → done.1 ≡ (not (has_rst segment.now.view) && put_with limit (segment_of t segment.now) (told_more (fin_told (segment_of t segment.now)) (told_more (stop_told stop) d)))) }
 {
@@ -182,7 +242,8 @@ fn send(
     let had_ended = stream.ended();
     stop_if(stream, stop);
     let gave_up = put(stream, segment)?;
-    drain(stream, conn, side, front, news)?;
+    drain(stream, conn, side, front, readers, news)?;
+    end_if(readers, side, stream.ended());
     Ok((moved_from(stream, front, had_ended), gave_up))
 }
 
@@ -193,10 +254,11 @@ fn acknowledge(
     side: Side,
     stops: Stops,
     segment: &Segment<'_>,
+    readers: &mut Readers,
     news: &mut News,
 ) -> Result<Moved, Mem>
     ensures { IfOk result (λ moved. (t : Moment) (limit : ℕ) (d : Option Direction) → IsStream limit stream.old d
-        → HasMoved limit conn side d (told_more (acknowledged_told (segment_of t segment.now)) (told_more (stop_told stops.resets) d)) moved stream.new news.old news.new) }
+        → HasMoved limit conn side d (told_more (acknowledged_told (segment_of t segment.now)) (told_more (stop_told stops.resets) d)) moved stream.new news.old news.new readers.old readers.new) }
 {
     let Some(stream) = stream else {
         return Ok(UNMOVED);
@@ -205,7 +267,8 @@ fn acknowledge(
     let had_ended = stream.ended();
     stop_if(stream, stops.resets);
     acknowledge_by(stream, segment);
-    drain(stream, conn, side, front, news)?;
+    drain(stream, conn, side, front, readers, news)?;
+    end_if(readers, side, stream.ended());
     Ok(moved_from(stream, front, had_ended))
 }
 
@@ -277,19 +340,30 @@ fn moved_from(stream: &Stream, front: u64, had_ended: bool) -> Moved
     }
 }
 
+/// Tells the readers that a side has ended, where it has.
+fn end_if(readers: &mut Readers, side: Side, ended: bool)
+    ensures { (protocol : Option Speaks) (streams : Both Placed) (units : Both (List Said)) → ReadersStand readers.old protocol streams units
+        → ReadersStand readers.new protocol (with_stream side (ended_by (of_side side streams) ended) streams) units }
+{
+    if ended {
+        readers.end(side);
+    }
+}
+
 /// Takes all places of a stream from its old front to its new one.
 fn drain(
     stream: &mut Stream,
     conn: ConnNo,
     side: Side,
     front: u64,
+    readers: &mut Readers,
     news: &mut News,
 ) -> Result<(), Mem>
     ensures { OnOk result ((base limit : ℕ) (told : List Told) → StandsFor stream.old base limit told front → front ≤ front_of base limit told
-        → IsDrained conn side base limit told front stream.new news.old news.new) }
+        → IsDrained conn side base limit told front stream.new news.old news.new readers.old readers.new) }
 {
     let mut place = front;
-    while let Some(next) = take_run(stream, conn, side, place, news)? {
+    while let Some(next) = take_run(stream, conn, side, place, readers, news)? {
         place = next;
     }
     Ok(())
@@ -302,10 +376,11 @@ fn take_run(
     conn: ConnNo,
     side: Side,
     place: u64,
+    readers: &mut Readers,
     news: &mut News,
 ) -> Result<Option<u64>, Mem>
     ensures taken { IfOk result (λ next. (base limit : ℕ) (told : List Told) → StandsFor stream.old base limit told place → place ≤ front_of base limit told
-        → IsTaken conn side base limit told place next stream.new news.old news.new) }
+        → IsTaken conn side base limit told place next stream.new news.old news.new readers.old readers.new) }
     ensures further { IfOk result (λ next. IfSome next (λ n. place < n)) }
 {
     if stream.front() <= place {
@@ -314,10 +389,12 @@ fn take_run(
     let run = stream.run();
     let len = run.len();
     news.add_run(conn, side, place, run)?;
+    readers.add_bytes(side, run)?;
     stream.take(len);
     let end = place.saturating_add(len as u64);
     let gap = stream.gap();
     news.add_gap(side, end, gap)?;
+    readers.add_gap(side, gap)?;
     stream.skip(gap);
     let next = end.saturating_add(gap);
     if next == place {

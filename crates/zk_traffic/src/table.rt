@@ -1,18 +1,20 @@
-ghost use Rattle.std.specs.Prelude.{◌≡◌, ◌≤ℤ◌, ◌^◌, ◌&&◌, ◌∷◌, ◌++◌, ℕ, Bool, pos, true, [], List, Some, IfOk, IfNone, IfSome};
+ghost use Rattle.std.specs.Prelude.{◌≡◌, ◌≤ℤ◌, ◌^◌, ◌&&◌, ◌∷◌, ◌++◌, ℕ, Bool, pos, true, false, [], List, Some, IfOk, IfNone, IfSome, OnOk};
 ghost use Rattle.zk_base.specs.declared.time.Moment.{Moment};
 ghost use Rattle.zk_conn.specs.declared.key.Key.{Key};
 ghost use Rattle.zk_conn.specs.Histories.{NoneDue, NoneLive};
 ghost use Rattle.zk_conn.specs.Histories.{latest as conn_latest, IsLive};
-ghost use Rattle.zk_conn.specs.Instance.{Opening, end_of, is_reset, opening, originator};
-ghost use Rattle.zk_conn.specs.Segment.{has_syn};
+ghost use Rattle.zk_conn.specs.Instance.{Opening, end_of, is_reset, opening, originator, responder};
+ghost use Rattle.zk_conn.specs.Segment.{has_syn, is_tcp};
 ghost use Rattle.zk_conn.specs.Standing.{StandsFor};
 ghost use Rattle.zk_conn.specs.State.{is_open};
 ghost use Rattle.zk_conn.specs.Told.{Ending, Front, Reached, Removal, Told};
-ghost use Rattle.zk_traffic.specs.Conversation.{Conversation, other};
+ghost use Rattle.zk_traffic.specs.Conversation.{Conversation, datagram_units, other, protocol_of, sender_in, speaks_dns};
 ghost use Rattle.zk_traffic.specs.Items.{facts};
+ghost use Rattle.zk_traffic.specs.News.{runs_of};
 ghost use Rattle.zk_traffic.specs.Segments.{Segment as SegmentData};
 ghost use Rattle.zk_traffic.specs.Table.{HasLive, Holds, IsCurrent, IsFirst, IsLeast, Removes, TakesSegment, front_told, moved_told};
 ghost use Rattle.zk_traffic.specs.Taken.{segment_of};
+ghost use Rattle.zk_units.specs.Protocols.{protocol_at};
 
 use crate::news::News;
 use crate::segment::Segment;
@@ -21,6 +23,7 @@ use crate::streams::{Moved, Stops};
 use std::alloc::Global;
 use zk_base::{ConnNo, Mem, Moment, Side};
 use zk_conn::{Conns, Facts, Removed};
+use zk_units::{Freed, Protocol, message_unit, protocol_at};
 
 /// What a segment did.
 #[derive(Clone, Copy, Debug, PartialEq, Eq)]
@@ -42,6 +45,7 @@ pub struct Done {
 /// The live connections of a capture and their streams.
 #[derive(Debug, Drop)]
 pub struct Table {
+    alloc: Global,
     conns: Conns,
     streams: StreamTable,
 }
@@ -56,22 +60,40 @@ pub fn peer(side: Side) -> Side
     }
 }
 
+/// Whether a connection speaks DNS.
+fn speaks_dns(protocol: Option<Protocol>) -> bool
+    ensures { result ≡ speaks_dns protocol }
+{
+    match protocol {
+        Some(Protocol::Dns) => true,
+        Some(Protocol::Http) | None => false,
+    }
+}
+
 impl Table {
     /// No connections. No memory is taken.
     pub fn new(alloc: Global, limit: u64) -> Table
         ensures { (t : Moment) → IsCurrent result limit [] t }
     {
         Table {
+            alloc,
             conns: Conns::new(alloc),
             streams: StreamTable::new(alloc, limit),
         }
     }
 
-    /// How many bytes all streams hold.
+    /// How many bytes all streams hold where as many as may wait to be read.
     pub fn kept(&self) -> u64
         ensures { result ≡ self.now.streams.kept }
     {
         self.streams.kept()
+    }
+
+    /// How many bytes fewer of all streams wait to be read than may.
+    pub fn spare(&self) -> u64
+        ensures { result ≡ self.now.streams.spare }
+    {
+        self.streams.spare()
     }
 
     /// Removes the first connection that is due by a moment.
@@ -123,7 +145,11 @@ impl Table {
         let conn = touched.conn;
         let side = touched.side;
         let stops = self.stops(conn, touched.reset, segment);
-        let moves = self.streams.take(conn, side, stops, segment, news)?;
+        let protocol = self.protocol(conn, segment);
+        self.read_datagram(side, protocol, segment, news)?;
+        let moves = self
+            .streams
+            .take(conn, side, stops, protocol, segment, news)?;
         let reached = self.tell(conn, side, moves.sender);
         let receiver_ended = self.tell(conn, peer(side), moves.receiver);
         Ok(Done {
@@ -136,6 +162,55 @@ impl Table {
             gave_up: moves.gave_up,
             reset: touched.reset,
         })
+    }
+
+    /// What a connection speaks, where that is asked for: a SYN may begin a stream, and a datagram is read
+    /// at once.
+    fn protocol(&self, conn: ConnNo, segment: &Segment<'_>) -> Option<Protocol>
+        ensures syn { (told : List Told) (key : Key) (first : Opening) → StandsFor self.now.conns told → IsLive told key conn.0 → opening (conn_latest key told) ≡ Some first
+            → has_syn segment.now.view ≡ true → result ≡ protocol_at first.packet.proto (responder first.packet).port }
+        ensures datagram { (told : List Told) (key : Key) (first : Opening) → StandsFor self.now.conns told → IsLive told key conn.0 → opening (conn_latest key told) ≡ Some first
+            → is_tcp segment.now.view.proto ≡ false → result ≡ protocol_at first.packet.proto (responder first.packet).port }
+    {
+        if segment.has_syn() || segment.is_datagram() {
+            self.protocol_of(conn)
+        } else {
+            None
+        }
+    }
+
+    /// What a connection speaks.
+    fn protocol_of(&self, conn: ConnNo) -> Option<Protocol>
+        ensures { (told : List Told) (key : Key) (first : Opening) → StandsFor self.now.conns told → IsLive told key conn.0 → opening (conn_latest key told) ≡ Some first
+            → result ≡ protocol_at first.packet.proto (responder first.packet).port }
+    {
+        if !self.conns.is_live(conn) {
+            return None;
+        }
+        let facts = self.conns.facts(conn);
+        protocol_at(facts.proto, facts.resp_p)
+    }
+
+    /// Adds the message or the fault that a datagram of DNS is, unless it was cut.
+    fn read_datagram(
+        &self,
+        side: Side,
+        protocol: Option<Protocol>,
+        segment: &Segment<'_>,
+        news: &mut News,
+    ) -> Result<(), Mem>
+        ensures runs { runs_of news.new ≡ runs_of news.old }
+        ensures gaps { news.new.gaps.items ≡ news.old.gaps.items }
+        ensures units { OnOk result ((t : Moment) (c : Conversation) → side ≡ sender_in c (segment_of t segment.now)
+            → (is_tcp segment.now.view.proto ≡ false → protocol ≡ protocol_of c)
+            → news.new.units.items ≡ news.old.units.items ++ datagram_units c (segment_of t segment.now)) }
+    {
+        if !segment.is_datagram() || !speaks_dns(protocol) || segment.was_cut() {
+            return Ok(());
+        }
+        let unit = message_unit(self.alloc, segment.payload)?;
+        news.units.push_back(Freed { side, unit })?;
+        Ok(())
     }
 
     /// How a segment stops the streams of its connection. Whether that was reset is asked where the

@@ -6,6 +6,7 @@ use std::process::Abort;
 use std::test::Fail;
 use zk_base::{LINKTYPE_ETHERNET, Mem, Moment, Side};
 use zk_conn::ConnState;
+use zk_http::{Reason, Unit, UnitKind};
 use zk_pcap::PacketView;
 
 /// What an item shows, its facts aside.
@@ -15,13 +16,29 @@ enum Shown {
     Opened(u64),
     Established(u64),
     Gap(u64, Side, u64, u64),
+    Head(u64, Side, u64),
+    Done(u64, Side, u64, u64),
+    Tunnel(u64, Side, u64),
+    Violation(u64, Side, u64, Reason),
+    Dns(u64, Side, u16, u32),
+    DnsBad(u64, Side, u8, u32),
     Ended(u64, Side),
     GaveUp(u64, Side),
     Reset(u64),
     Removed(u64, ConnState),
 }
 
-use Shown::{Ended, Established, Gap, GaveUp, Opened, Removed, Reset, Seen};
+use Shown::{Done, Ended, Established, Gap, GaveUp, Head, Opened, Removed, Reset, Seen};
+
+fn show_unit(conn: u64, side: Side, unit: &Unit) -> Shown {
+    let place = unit.place;
+    match &unit.what {
+        UnitKind::Head(_) => Head(conn, side, place),
+        UnitKind::Done { body, .. } => Done(conn, side, place, *body),
+        UnitKind::Tunnel => Shown::Tunnel(conn, side, place),
+        UnitKind::Violation(reason) => Shown::Violation(conn, side, place, *reason),
+    }
+}
 
 fn show(what: &What) -> Shown {
     match what {
@@ -35,6 +52,26 @@ fn show(what: &What) -> Shown {
             length,
             ..
         } => Gap(conn.0, *side, *from, *length),
+        What::Http {
+            conn,
+            side,
+            unit,
+            ..
+        } => show_unit(conn.0, *side, unit),
+        What::Dns {
+            conn,
+            side,
+            len,
+            message,
+            ..
+        } => Shown::Dns(conn.0, *side, message.id, *len),
+        What::DnsBad {
+            conn,
+            side,
+            fault,
+            len,
+            ..
+        } => Shown::DnsBad(conn.0, *side, *fault, *len),
         What::Ended { conn, side, .. } => Ended(conn.0, *side),
         What::GaveUp { conn, side, .. } => GaveUp(conn.0, *side),
         What::Reset { conn, .. } => Reset(conn.0),
@@ -111,7 +148,11 @@ fn an_exchange_gives_its_items_in_order(rt: HostRuntime) -> Result<(), Fail> {
         (at(1), Seen(at(1), 54, 54)),
         (at(1), Established(1)),
         (at(2), Seen(at(2), 86, 86)),
+        (at(2), Head(1, Side::Orig, 32)),
+        (at(2), Done(1, Side::Orig, 32, 0)),
         (at(3), Seen(at(3), 94, 94)),
+        (at(3), Head(1, Side::Resp, 38)),
+        (at(3), Done(1, Side::Resp, 40, 2)),
         (at(4), Seen(at(4), 54, 54)),
         (at(4), Ended(1, Side::Orig)),
         (at(5), Seen(at(5), 54, 54)),
@@ -151,11 +192,12 @@ fn bytes_that_the_capture_lacks_are_a_gap(rt: HostRuntime) -> Result<(), Fail> {
     assert!(rt; traffic.fresh(1).is_none());
     give(&rt, &mut traffic, 4, &mut items)?;
     assert!(rt; traffic.fresh(0).is_none());
-    assert_eq!(rt; traffic.kept(), 0);
+    assert_eq!(rt; traffic.kept(), 40);
     let wanted = [
         (at(0), Opened(1)),
         (at(1), Established(1)),
         (at(4), Gap(1, Side::Orig, 0, 32)),
+        (at(4), Shown::Violation(1, Side::Orig, 1, Reason::Gap)),
         (at(4), Ended(1, Side::Orig)),
     ];
     assert_eq!(rt; items.as_slice(), wanted.as_slice());

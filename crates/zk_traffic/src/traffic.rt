@@ -1,4 +1,4 @@
-ghost use Rattle.std.specs.Prelude.{◌≡◌, ◌≤ℤ◌, ◌≤◌, ◌<◌, ◌*◌, ◌+◌, ◌^◌, ℕ, Bool, true, false, pos, length, slice_get, Option, Some, None, Err, List, [], ◌∷◌, ◌++◌, IfOk, OnOk, OnErr, IfSome, IfNone};
+ghost use Rattle.std.specs.Prelude.{◌≡◌, ◌≤ℤ◌, ◌≤◌, ◌<◌, ◌*◌, ◌+◌, ◌-◌, ◌^◌, ℕ, Bool, true, false, pos, length, slice_get, Option, Some, None, Err, List, [], ◌∷◌, ◌++◌, IfOk, OnOk, OnErr, IfSome, IfNone};
 ghost use Rattle.std.specs.Option.{option_map};
 ghost use Rattle.zk_link_ip.specs.Views.{packet};
 ghost use Rattle.zk_pcap.specs.NetworkTime.{later};
@@ -6,8 +6,14 @@ ghost use Rattle.zk_pcap.specs.View.{packet_of};
 ghost use Rattle.zk_pcap.specs.declared.records.Packet.{Packet};
 ghost use Rattle.zk_traffic.specs.Datagram.{is_fragment, packet_in, time_at};
 ghost use Rattle.zk_traffic.specs.Fresh.{fresh_lent};
-ghost use Rattle.zk_traffic.specs.Items.{fresh_at, items_of};
-ghost use Rattle.zk_traffic.specs.Kept.{bytes_kept, live_streams};
+ghost use Rattle.zk_conn.specs.Segment.{key_of};
+ghost use Rattle.zk_conn.specs.declared.key.Key.{Key};
+ghost use Rattle.zk_traffic.specs.Conversation.{Conversation};
+ghost use Rattle.zk_traffic.specs.Instances.{is_over_by, latest as latest_of, segments_of};
+ghost use Rattle.zk_traffic.specs.Items.{fresh_at, items_of, own_items, segment_items};
+ghost use Rattle.zk_traffic.specs.Kept.{live_streams, most_kept};
+ghost use Rattle.zk_traffic.specs.Own.{with_number};
+ghost use Rattle.zk_traffic.specs.Segments.{Segment as SegmentData};
 ghost use Rattle.zk_traffic.specs.Steps.{Step};
 ghost use Rattle.zk_traffic.specs.declared.item.Item.{Item as ItemData};
 ghost use Rattle.zk_traffic.specs.declared.options.Options.{Options as OptionsData};
@@ -28,6 +34,22 @@ pub fn items_stay()
     // The items of the records so far are a prefix of those of the capture, however much of it is still to come.
     ensures { (options : OptionsData) (link : ℕ) (records more : List Packet) (ended : Bool)
         → (rest : List ItemData) × (items_of options link (records ++ more) ended ≡ items_of options link records false ++ rest) }
+{}
+
+/// What a connection's items rest on, in the subject's own words. There is nothing to run.
+pub fn items_are_own()
+    // A segment's items, the number of its connection aside, are those that the segments of its key give alone, however
+    // the segments of others stand between them.
+    ensures alone { (limit number : ℕ) (before alone : List SegmentData) (s : SegmentData) → segments_of (key_of s.view) before ≡ segments_of (key_of s.view) alone
+        → with_number number (segment_items limit before s) ≡ with_number number (segment_items limit alone s) }
+
+    // So is the latest conversation of a key, by which it is removed: when, and what is known of it then.
+    ensures latest { (limit : ℕ) (key : Key) (before alone : List SegmentData) → segments_of key before ≡ segments_of key alone
+        → latest_of limit key before ≡ latest_of limit key alone }
+
+    // A connection that begins where its key's latest one is over owes that one nothing.
+    ensures anew { (limit number : ℕ) (c : Conversation) (s : SegmentData) → is_over_by s.moment c ≡ true
+        → own_items limit number (Some c) s ≡ own_items limit number None s }
 {}
 
 /// The items of a capture, as its records come.
@@ -63,7 +85,7 @@ fn latest(a: Moment, b: Moment) -> Moment
 }
 
 impl Traffic {
-    ghost use Rattle.zk_traffic.specs.Standing.{HasFailed, StandsFor, waiting};
+    ghost use Rattle.zk_traffic.specs.Standing.{HasFailed, StandsFor, spare_bytes, waiting};
     ghost use Rattle.zk_traffic.specs.Taking.{HasTaken, IsReady};
 
     /// A capture of this link type, before its first packet.
@@ -132,14 +154,18 @@ impl Traffic {
         ended
     }
 
-    /// How many bytes the streams of live connections hold.
+    /// How many bytes are held: those that the streams of live connections hold, and those that wait
+    /// to be read, of which a stream has at most 65,536. That is the most that there may be, without
+    /// what there is less.
     pub fn kept(&self) -> u64
         ensures exact { (options : OptionsData) (link : ℕ) (records : List Packet) (given : List ItemData) (ended : Bool) → StandsFor self.now options link records given ended
-            → result ≡ bytes_kept options link records ended }
+            → result ≡ most_kept options link records ended - spare_bytes self.now }
         ensures bound { (options : OptionsData) (link : ℕ) (records : List Packet) (given : List ItemData) (ended : Bool) → StandsFor self.now options link records given ended
             → result ≤ (options.buffer + 65537) * live_streams options link records ended }
     {
-        self.connections.kept()
+        self.connections
+            .kept()
+            .saturating_sub(self.connections.spare())
     }
 
     /// The k-th run of bytes by which the last packet moved a front: those of its sender's stream

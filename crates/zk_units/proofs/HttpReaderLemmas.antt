@@ -242,3 +242,7 @@ next_at_orig side a b found is same reads none streams units stands = subst (λ 
 pub next_at_resp : (side : Side) (a b : HttpReader) (found : Option HttpUnit) → side ≡ Resp → b.orig ≡ a.orig → ReadsOn Resp a.http b.http a.resp b.resp found → IfNone found (HasNone Resp a.http a.resp b.resp)
     → (streams : Both Stream) (units : Both (List HttpUnit)) → HttpStands a streams units → NextIs side a b found streams units
 next_at_resp side a b found is same reads none streams units stands = subst (λ s. NextIs s a b found streams units) (sym is) (next_resp a b found same reads none streams units stands)
+
+pub each_side : (P : Side → Type 0) → P Orig → P Resp → (side : Side) → P side
+each_side P orig resp Orig = orig
+each_side P orig resp Resp = resp

@@ -47,6 +47,15 @@ pub silent_stands : (P : Option Protocol → Type 0) (protocol : Option Protocol
 silent_stands P None streams units stands then = then
 silent_stands P (Some protocol) streams units stands then = absurd stands
 
+-- how many bytes of a side a reader keeps
+pub http_held : (side : Side) (r : HttpReader) → held_by side (reads.Http r) ≡ length (bytes_of (unread_of side r).bytes)
+http_held Orig r = refl
+http_held Resp r = refl
+
+pub dns_held : (side : Side) (r : DnsReader) → held_by side (reads.Dns r) ≡ length (bytes_of (dns_side side r).«unread».bytes)
+dns_held Orig r = refl
+dns_held Resp r = refl
+
 -- ---- what is given
 
 pub gets_silent : (side : Side) (places : List Place) (old new : Readers) → old.reader ≡ reads.Silent → new.reader ≡ reads.Silent → Gets side places old new

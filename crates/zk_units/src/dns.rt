@@ -1,5 +1,6 @@
 ghost use Rattle.std.specs.Prelude.{◌≡◌, ◌+◌, ◌≤◌, ℕ, false, List, length, Some, IfOk, OnOk};
 ghost use Rattle.zk_base.specs.ByteQueue.{bytes_of};
+ghost use Rattle.zk_base.specs.declared.network.Side.{Side as SideData};
 ghost use Rattle.zk_dns.specs.Stream.{step_of};
 ghost use Rattle.zk_dns.specs.declared.tcp.DnsStep.TheVariants.{More, One};
 ghost use Rattle.zk_http.specs.Places.{Both, Stream, of_side};
@@ -61,7 +62,8 @@ struct DnsSide {
 
 impl DnsSide {
     fn new(alloc: Global) -> DnsSide
-        ensures { SideStands result no_stream 0 }
+        ensures stands { SideStands result no_stream 0 }
+        ensures held { length (bytes_of result.unread.bytes) ≡ 0 }
     {
         DnsSide {
             unread: Unread::new(alloc),
@@ -152,7 +154,8 @@ pub struct DnsReader {
 impl DnsReader {
     /// Nothing was read. No memory is taken.
     pub fn new(alloc: Global) -> DnsReader
-        ensures { DnsStands result no_streams no_units }
+        ensures stands { DnsStands result no_streams no_units }
+        ensures held { (side : SideData) → length (bytes_of (dns_side side result).unread.bytes) ≡ 0 }
     {
         DnsReader {
             alloc,

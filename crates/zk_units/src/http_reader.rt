@@ -1,5 +1,6 @@
 ghost use Rattle.std.specs.Prelude.{◌≡◌, ◌≤◌, true, List, [], length, IfOk, OnOk};
 ghost use Rattle.zk_base.specs.ByteQueue.{bytes_of};
+ghost use Rattle.zk_base.specs.declared.network.Side.{Side as SideData};
 ghost use Rattle.zk_base.specs.declared.network.Side.TheVariants.{Orig, Resp};
 ghost use Rattle.zk_http.specs.Places.{Both, Stream, of_side};
 ghost use Rattle.zk_http.specs.Units.{no_units as no_http_units};
@@ -29,6 +30,7 @@ impl HttpReader {
     /// Nothing was read. No memory is taken.
     pub fn new(alloc: Global) -> HttpReader
         ensures stands { HttpStands result no_streams no_http_units }
+        ensures held { (side : SideData) → length (bytes_of (unread_of side result).bytes) ≡ 0 }
     {
         HttpReader {
             http: Http::new(alloc),

@@ -13,3 +13,6 @@ pub use dns::message_unit;
 pub use protocol::{Protocol, protocol_at};
 pub use readers::Readers;
 pub use stream_unit::{Freed, StreamUnit};
+
+#[cfg(test)]
+mod tests;

@@ -1,5 +1,5 @@
 ghost use Rattle.std.specs.Prelude.{◌≡◌, ◌≤◌, ◌+◌, true, List, length, Option, IfOk, OnOk};
-ghost use Rattle.zk_base.specs.declared.network.Side.TheVariants.{Orig, Resp};
+ghost use Rattle.zk_base.specs.declared.network.Side.{Side as SideData};
 ghost use Rattle.zk_http.specs.Places.{Both, Stream, of_side, other};
 ghost use Rattle.zk_units.specs.Cuts.{byte_places, gap_places};
 ghost use Rattle.zk_units.specs.Standing.{BothTurn, Gets, Reads, StandsFor, Turn, ended_by, held_in, no_streams, with_stream};
@@ -45,7 +45,8 @@ fn peer(side: Side) -> Side
 impl Readers {
     /// Reads two streams of which nothing has come. No memory is taken.
     pub fn new(alloc: Global, protocol: Option<Protocol>) -> Readers
-        ensures { StandsFor result protocol no_streams no_units }
+        ensures stands { StandsFor result protocol no_streams no_units }
+        ensures held { (side : SideData) → held_in side result ≡ 0 }
     {
         let reader = match protocol {
             None => Reader::Silent,

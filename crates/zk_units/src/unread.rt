@@ -48,6 +48,7 @@ impl Unread {
     /// No places. No memory is taken.
     pub fn new(alloc: Global) -> Unread
         ensures places { places_of result ≡ [] }
+        ensures held { length (bytes_of result.bytes) ≡ 0 }
         ensures front { result.front ≡ 0 }
         ensures ended { result.ended ≡ false }
     {

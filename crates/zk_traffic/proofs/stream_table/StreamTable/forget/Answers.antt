@@ -9,5 +9,5 @@ unfolding entry_at
 returns-in-Some-clause-kept c = λ talk has within.
     let limit = c.args.self.now.limit in
     let are = some_has limit _ c.in-Some.streams talk (sym c.remove.ensures.value ∙ c.in-Some.is) has in
-    let sum = counted_sum c.kept.result (held_in limit talk) c.args.self.now.kept (c.kept.ensures limit talk.orig talk.resp are) within (omega arith) in
+    let sum = counted_sum c.kept.result (held_in limit talk) c.args.self.now.kept (c.kept.ensures limit talk.orig talk.resp are.0) within (omega arith) in
     omega (arith, sum, c.unwrap_or.ensures, c.saturating_sub-self.ensures, within)

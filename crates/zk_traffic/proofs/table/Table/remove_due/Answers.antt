@@ -3,6 +3,6 @@ use Rattle.zk_traffic.proofs.table.Table.remove_due.Goals as goal
 
 pub returns-clause-removed : goal.returns-clause-removed
 returns-clause-removed c = λ limit segments gone told holds.
-    removed_due c.args.self.now (record { conns = c.remove_due.new.self; streams = c.forget.new.self }) c.args.t c.in_ok-removed.removed limit segments gone told holds
+    removed_due c.args.self.now (record { alloc = c.args.self.now.alloc; conns = c.remove_due.new.self; streams = c.forget.new.self }) c.args.t c.in_ok-removed.removed limit segments gone told holds
     (c.in_ok-removed.ensures.removed told holds.stands) (λ key live. c.in_ok-removed.ensures.taken told key holds.stands live)
     (record { limit_is = c.forget.ensures.limit; entry = c.forget.ensures.entry; others = c.forget.ensures.others; kept = c.forget.ensures.kept })

@@ -36,6 +36,7 @@ returns c = record {
         current = subst (λ x. IsCurrent x options.buffer segs (time_at step)) (sym c.give_seen.ensures.table) (subst (IsCurrent c.remove_due.new.self.table options.buffer segs) t_is due.0);
         no_runs = ap runs_of news_are ∙ c.begin.ensures.runs;
         no_gaps = ap (λ n. n.gaps.items) news_are ∙ c.begin.ensures.gaps;
+        no_units = ap (λ n. n.«units».items) news_are ∙ c.begin.ensures.units;
       }))
       (c.take_frame.ensures.works ∙ stands.works)
       (c.in_ok-give_seen.ensures.items

@@ -12,5 +12,8 @@ pub mod Ending
 pub mod Lies
 pub mod Laid
 pub mod Means
+pub mod Emission
+pub mod Seams
+pub mod Joins
 pub mod Budgets
 mod Rows

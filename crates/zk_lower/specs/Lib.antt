@@ -4,3 +4,4 @@ pub mod Steps
 pub mod Run
 pub mod Lowering
 pub mod Meant
+pub mod View

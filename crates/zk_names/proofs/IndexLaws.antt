@@ -80,7 +80,7 @@ slot_push names one name =
     ap (λ (x : Option ℕ). option_map (λ at. record { first = at; exported = x }) (first_place same (names ++ one ∷ []))) (first_push seen names one) ∙
     ap (option_map (λ at. record { first = at; exported = or_else (first_place seen names) (shown (seen one) (length names)) })) (first_push same names one) ∙
     combined (first_place same names) (first_place seen names) (same one) one.exported (length names)
-        (none_narrower same seen (λ other. both_fail (bytes_eq other.name name) other.exported) names)
+    (none_narrower same seen (λ other. both_fail (bytes_eq other.name name) other.exported) names)
 
 by_name : (names : List Declared) (old : List ℕ → Option Slot) (key q : List ℕ) (exported : Bool) (place : ℕ) → ((name : List ℕ) → old name ≡ slot_in names name) → place ≡ length names →
     (b : Bool) → bytes_eq key q ≡ b →

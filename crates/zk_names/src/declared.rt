@@ -6,7 +6,9 @@ use zk_typed::script::{BuiltIn, ValueType};
 #[derive(Debug, Drop)]
 pub enum Signature<'a> {
     /// Those of a predefined event.
-    Known { params: Vec<ValueType> },
+    Known {
+        params: Vec<ValueType>,
+    },
     /// As a declaration or a body writes them.
     Written {
         home: Home<'a>,
@@ -29,11 +31,18 @@ pub enum LogFunction {
 #[derive(Debug, Drop)]
 pub enum Meant<'a> {
     /// A predefined type.
-    KnownType { known: ValueType },
+    KnownType {
+        known: ValueType,
+    },
     /// The type of a declaration.
-    WrittenType { home: Home<'a>, tree: &'a Type },
+    WrittenType {
+        home: Home<'a>,
+        tree: &'a Type,
+    },
     /// A word of the enum of this number.
-    Word { number: u32 },
+    Word {
+        number: u32,
+    },
     /// A global or a constant.
     Variable {
         home: Home<'a>,
@@ -42,11 +51,21 @@ pub enum Meant<'a> {
         init: &'a Option<Init>,
         attrs: &'a [Attr],
     },
-    Event { signature: Signature<'a> },
-    Hook { signature: Signature<'a> },
-    Function { signature: Signature<'a> },
-    BuiltInFunction { function: BuiltIn },
-    Log { function: LogFunction },
+    Event {
+        signature: Signature<'a>,
+    },
+    Hook {
+        signature: Signature<'a>,
+    },
+    Function {
+        signature: Signature<'a>,
+    },
+    BuiltInFunction {
+        function: BuiltIn,
+    },
+    Log {
+        function: LogFunction,
+    },
 }
 
 /// A name that is declared: the whole name, whether it is seen outside its module, and what it means.

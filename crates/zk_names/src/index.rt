@@ -28,8 +28,14 @@ fn with_place(slot: Option<Slot>, exported: bool, place: usize) -> Slot
 {
     let shown = if exported { Some(place) } else { None };
     match slot {
-        Some(slot) => Slot { first: slot.first, exported: slot.exported.or(shown) },
-        None => Slot { first: place, exported: shown },
+        Some(slot) => Slot {
+            first: slot.first,
+            exported: slot.exported.or(shown),
+        },
+        None => Slot {
+            first: place,
+            exported: shown,
+        },
     }
 }
 
@@ -40,7 +46,9 @@ impl Index {
     pub fn new(alloc: Global) -> Index
         ensures { Indexes result [] }
     {
-        Index { slots: IndexMap::new(alloc) }
+        Index {
+            slots: IndexMap::new(alloc),
+        }
     }
 
     /// Adds a name that stands at the list's end. At `Mem` nothing is changed.
@@ -59,6 +67,10 @@ impl Index {
         ensures { (names : List Declared) → Indexes self.now names → result ≡ first_place (λ one. bytes_eq one.name name.now && (one.exported || anywhere)) names }
     {
         let slot = self.slots.get(name)?;
-        if anywhere { Some(slot.first) } else { slot.exported }
+        if anywhere {
+            Some(slot.first)
+        } else {
+            slot.exported
+        }
     }
 }

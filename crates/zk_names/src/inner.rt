@@ -14,7 +14,11 @@ pub fn within<'a>(tree: &'a Type, found: &mut Vec<&'a Type>) -> Result<(), Mem>
 {
     found.push(tree)?;
     match tree {
-        Type::Table { place: _, keys, value } => {
+        Type::Table {
+            place: _,
+            keys,
+            value,
+        } => {
             within_types(keys.as_slice(), found)?;
             within(value.get(), found)?;
             Ok(())
@@ -43,7 +47,11 @@ pub fn within<'a>(tree: &'a Type, found: &mut Vec<&'a Type>) -> Result<(), Mem>
             within_params(params.as_slice(), found)?;
             Ok(())
         }
-        Type::Function { place: _, params, result } => {
+        Type::Function {
+            place: _,
+            params,
+            result,
+        } => {
             within_params(params.as_slice(), found)?;
             within(result.get(), found)?;
             Ok(())

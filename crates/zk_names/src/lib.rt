@@ -8,11 +8,15 @@ mod inner;
 mod name;
 mod node;
 mod order;
+mod outright;
 mod table;
+#[cfg(test)]
+mod tests;
 mod types;
 mod whole;
 
 pub use declared::{Declared, LogFunction, Meant, Signature};
 pub use home::{Home, Stated};
 pub use node::Node;
+pub use outright::outright_name;
 pub use table::Table;

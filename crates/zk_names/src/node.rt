@@ -32,11 +32,23 @@ fn add_node<'a>(home: Home<'a>, tree: &'a Type, nodes: &mut Vec<Node<'a>>) -> Re
 {
     match tree {
         Type::Record { place, fields } => {
-            nodes.push(Node::Record { home, place: *place, fields: fields.as_slice() })?;
+            nodes.push(Node::Record {
+                home,
+                place: *place,
+                fields: fields.as_slice(),
+            })?;
             Ok(())
         }
-        Type::Enum { place, words, comma: _ } => {
-            nodes.push(Node::Enum { home, place: *place, words: words.as_slice() })?;
+        Type::Enum {
+            place,
+            words,
+            comma: _,
+        } => {
+            nodes.push(Node::Enum {
+                home,
+                place: *place,
+                words: words.as_slice(),
+            })?;
             Ok(())
         }
         Type::Atomic { .. }

@@ -3,7 +3,6 @@ ghost use Rattle.std.specs.List.{position};
 ghost use Rattle.zk_typed.specs.LoadOrder.{add, decl_lines, decls_of, enter, file_named, is_in, lines, load, load_order, one_line, walk_to};
 ghost use Rattle.zk_names.specs.Lent.{files_of, found_of, line_of, lines_lent, stated_lent};
 
-
 use crate::home::{Home, Stated};
 use std::alloc::Global;
 use zk_base::{Bytes, Mem};
@@ -154,7 +153,10 @@ fn one_line<'a>(
             found.module_name = name.text.as_slice();
             Ok(())
         }
-        Decl::Load { place: _, file: name } => {
+        Decl::Load {
+            place: _,
+            file: name,
+        } => {
             let number = file_named(files, name);
             load(alloc, depth, files, number, line.exported, found)?;
             Ok(())
@@ -206,7 +208,10 @@ fn add<'a>(file: usize, line: Line<'a>, found: &mut Finding<'a>) -> Result<(), M
         module_name: found.module_name,
         exported: line.exported,
     };
-    found.stated.push(Stated { home, decl: line.decl })?;
+    found.stated.push(Stated {
+        home,
+        decl: line.decl,
+    })?;
     Ok(())
 }
 
@@ -225,6 +230,10 @@ pub fn load_order<'a>(alloc: Global, files: &'a [(Bytes, Tree)]) -> Result<Vec<S
             walk(alloc, files.len(), files, number, false, &mut found)?;
         }
     }
-    let Finding { placed: _, module_name: _, stated } = found;
+    let Finding {
+        placed: _,
+        module_name: _,
+        stated,
+    } = found;
     Ok(stated)
 }

@@ -49,12 +49,19 @@ impl<'a> Table<'a> {
     pub fn find_whole(&self, from_module: &[u8], whole: &Whole) -> Option<&Declared<'a>>
         ensures { option_map (λ one. declared_of one.now) result ≡ find_whole (declared_lent self.now.names.items) from_module.now whole.now }
     {
-        let place = self.index.find(whole, is_open(from_module, whole.as_slice()))?;
+        let place = self
+            .index
+            .find(whole, is_open(from_module, whole.as_slice()))?;
         at(&self.names, place)
     }
 
     /// What a name means in a module: one of the module, or else one of none.
-    pub fn look_up(&self, alloc: Global, from_module: &[u8], name: &[u8]) -> Result<Option<&Declared<'a>>, Mem>
+    pub fn look_up(
+        &self,
+        alloc: Global,
+        from_module: &[u8],
+        name: &[u8],
+    ) -> Result<Option<&Declared<'a>>, Mem>
         ensures { IfOk result (λ found. option_map (λ one. declared_of one.now) found ≡ look_up (declared_lent self.now.names.items) from_module.now name.now) }
     {
         let whole = whole_name(alloc, from_module, name)?;

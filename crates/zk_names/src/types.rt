@@ -17,24 +17,48 @@ fn stmt_locals<'a>(stmt: &'a Stmt, types: &mut Vec<&'a Type>) -> Result<(), Mem>
             stmts_locals(block.stmts.as_slice(), types)?;
             Ok(())
         }
-        Stmt::If { place: _, test: _, yes } => {
+        Stmt::If {
+            place: _,
+            test: _,
+            yes,
+        } => {
             stmt_locals(yes.get(), types)?;
             Ok(())
         }
-        Stmt::IfElse { place: _, test: _, yes, no } => {
+        Stmt::IfElse {
+            place: _,
+            test: _,
+            yes,
+            no,
+        } => {
             stmt_locals(yes.get(), types)?;
             stmt_locals(no.get(), types)?;
             Ok(())
         }
-        Stmt::While { place: _, test: _, body } => {
+        Stmt::While {
+            place: _,
+            test: _,
+            body,
+        } => {
             stmt_locals(body.get(), types)?;
             Ok(())
         }
-        Stmt::For { place: _, keys: _, value: _, over: _, body } => {
+        Stmt::For {
+            place: _,
+            keys: _,
+            value: _,
+            over: _,
+            body,
+        } => {
             stmt_locals(body.get(), types)?;
             Ok(())
         }
-        Stmt::Local { place: _, name: _, local_type, init: _ } => {
+        Stmt::Local {
+            place: _,
+            name: _,
+            local_type,
+            init: _,
+        } => {
             maybe_type(local_type, types)?;
             Ok(())
         }
@@ -108,24 +132,52 @@ pub fn add_decl_types<'a>(decl: &'a Decl, types: &mut Vec<&'a Type>) -> Result<(
     ensures { OnOk result (types_lent types.new.items ≡ types_lent types.old.items ++ decl_types (out-Decl decl.now)) }
 {
     match decl {
-        Decl::Variable { place: _, lasting: _, name: _, variable_type, init: _, attrs: _ } => {
+        Decl::Variable {
+            place: _,
+            lasting: _,
+            name: _,
+            variable_type,
+            init: _,
+            attrs: _,
+        } => {
             maybe_type(variable_type, types)?;
             Ok(())
         }
-        Decl::Type { place: _, name: _, meant } => {
+        Decl::Type {
+            place: _,
+            name: _,
+            meant,
+        } => {
             types.push(meant)?;
             Ok(())
         }
-        Decl::RedefRecord { place: _, name: _, fields } => {
+        Decl::RedefRecord {
+            place: _,
+            name: _,
+            fields,
+        } => {
             add_field_types(fields.as_slice(), types)?;
             Ok(())
         }
-        Decl::Body { place: _, kind: _, name: _, params, attrs: _, body } => {
+        Decl::Body {
+            place: _,
+            kind: _,
+            name: _,
+            params,
+            attrs: _,
+            body,
+        } => {
             add_param_types(params.as_slice(), types)?;
             add_local_types(body, types)?;
             Ok(())
         }
-        Decl::Function { place: _, name: _, params, result_type, body } => {
+        Decl::Function {
+            place: _,
+            name: _,
+            params,
+            result_type,
+            body,
+        } => {
             add_param_types(params.as_slice(), types)?;
             maybe_type(result_type, types)?;
             add_local_types(body, types)?;

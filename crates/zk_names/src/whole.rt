@@ -42,6 +42,14 @@ impl Whole {
     {
         &self.bytes
     }
+
+    /// The vector that holds the bytes. No memory is taken.
+    pub fn into_vec(self) -> Vec<u8>
+        ensures { result.items ≡ self }
+    {
+        let Whole { bytes } = self;
+        bytes
+    }
 }
 
 impl PartialEq for Whole {

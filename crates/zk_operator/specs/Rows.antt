@@ -1,5 +1,5 @@
 -- The table of arithmetic, as the rows that the rules have.
-use Rattle.std.specs.Prelude.{ℕ, List, map, find, Option, Some, None, Bool, true, false, ◌&&◌, if◌then◌else◌}
+use Rattle.std.specs.Prelude.{List, map, find, Option, Some, None, Bool, true, false, ◌&&◌, if◌then◌else◌}
 use Rattle.std.specs.List.{list_any}
 use Rattle.std.specs.Option.{option_map}
 use Rattle.zk_tree.specs.declared.operator.Assigning.{Assigning}

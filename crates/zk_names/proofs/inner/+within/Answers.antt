@@ -56,5 +56,5 @@ pub within-returns-in_ok-within-in-Function : goal.within-returns-in_ok-within-i
 within-returns-in_ok-within-in-Function t c =
     joined _ _ _ c.args.tree _ _ _ c.in_ok-push.ensures.items
     (twice _ _ _ _ _ _ _ (c.in_ok-within_params-in-Function.ensures) (c.in_ok-within-in-Function.ensures)
-        (ap (flat_map (λ param. within (out-Param param).param_type)) c.as_slice-in-Function.ensures) (ap within c.get-in-Function.ensures))
+    (ap (flat_map (λ param. within (out-Param param).param_type)) c.as_slice-in-Function.ensures) (ap within c.get-in-Function.ensures))
     c.in-Function.is (within_function _ _ _) refl

@@ -10,5 +10,5 @@ loop-at-preserved c =
     let at = c.loop-at.at in
     let whole : take (length name - at) (drop at name) ≡ drop at name = ap (λ (n : ℕ). take n (drop at name)) (sym (length-drop at name)) ∙ take-length (drop at name) in
     let plain : starts_with nat_eq (drop at name) (codes "::") ≡ false =
-        ap (λ (x : List ℕ). starts_with nat_eq x (codes "::")) (sym whole) ∙ sym c.starts_with.ensures.value ∙ c.if-starts_with.false in
+    ap (λ (x : List ℕ). starts_with nat_eq x (codes "::")) (sym whole) ∙ sym c.starts_with.ensures.value ∙ c.if-starts_with.false in
     read_on name at c.loop-at-test.true plain c.loop-at.invariant

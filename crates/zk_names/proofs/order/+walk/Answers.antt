@@ -9,4 +9,4 @@ unfolding trees
 one_line-returns-in_ok-load-in-Load t c =
     rw c.in-Load.is
     (c.in_ok-load-in-Load.ensures ∙
-     ap (load (walk_to c.args.depth (files_of c.args.files.now)) c.args.line.exported (found_of c.args.found.now)) c.file_named-number.ensures)
+    ap (load (walk_to c.args.depth (files_of c.args.files.now)) c.args.line.exported (found_of c.args.found.now)) c.file_named-number.ensures)

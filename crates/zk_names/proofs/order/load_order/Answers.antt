@@ -19,7 +19,7 @@ loop-number-preserved c =
           let placed : is_in number c.loop-number.found.placed.items ≡ false = cc in
           let entered : found_of w.enter.new.found ≡ enter number found = w.in_ok-enter.ensures.entered in
           let walked : found_of c.if-not-is_placed.found ≡ walk number false (enter number found) =
-              ap found_of w.found-is ∙ w.in_ok-walk.ensures ∙ ap (walk_to (length c.args.files.now) files number false) entered ∙ ap (λ (f : Found → Found). f (enter number found)) depth in
+          ap found_of w.found-is ∙ w.in_ok-walk.ensures ∙ ap (walk_to (length c.args.files.now) files number false) entered ∙ ap (λ (f : Found → Found). f (enter number found)) depth in
           ap (λ f. (roots walk (number + 1) f (drop (number + 1) files)).stated) walked ∙ ap (λ (f : Found). f.stated) (sym (roots_enter walk files number found within placed)) ∙ c.loop-number.invariant)
       | else-not-is_placed w ↦
           (let truth = w.if-not-is_placed.false in

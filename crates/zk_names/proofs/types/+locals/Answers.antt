@@ -33,4 +33,4 @@ pub stmt_locals-returns-in_ok-stmt_locals-in-IfElse-2 : goal.stmt_locals-returns
 stmt_locals-returns-in_ok-stmt_locals-in-IfElse-2 t c =
     twice _ _ _ _ _ _ c.in_ok-stmt_locals-in-IfElse.ensures c.in_ok-stmt_locals-in-IfElse-2.ensures
     (ap (λ x. stmt_locals x ++ stmt_locals c.get-in-IfElse-2.result.now) c.get-in-IfElse.ensures ∙ ap (λ x. stmt_locals c.in-IfElse.yes ++ stmt_locals x) c.get-in-IfElse-2.ensures ∙
-     sym (locals_of_else c.in-IfElse.place c.in-IfElse.test c.in-IfElse.yes c.in-IfElse.no) ∙ ap stmt_locals (sym c.in-IfElse.is))
+    sym (locals_of_else c.in-IfElse.place c.in-IfElse.test c.in-IfElse.yes c.in-IfElse.no) ∙ ap stmt_locals (sym c.in-IfElse.is))

@@ -11,7 +11,7 @@ returns-in_err-place c =
     let names = declared_lent c.args.self.now.names.items in
     ap (option_map (λ (one : Bor Declared). declared_of one.now)) c.from_residual.ensures ∙
     whole_found names c.args.from_module.now c.args.whole.now c.is_open.result None (c.is_open.ensures ∙ ap (is_open c.args.from_module.now) c.as_slice.ensures)
-        (c.in_err-place.ensures names c.args.self.now.indexed)
+    (c.in_err-place.ensures names c.args.self.now.indexed)
 
 pub returns : goal.returns
 returns c =
@@ -20,4 +20,4 @@ returns c =
     seen_through declared_of c.at.result ∙ ap (option_map declared_of) (c.at.ensures ∙ ap (λ (x : List Declared). slice_get x c.in_ok-place.place) c.deref.ensures.value) ∙
     sym (get_of_map declared_of items c.in_ok-place.place) ∙
     whole_found names c.args.from_module.now c.args.whole.now c.is_open.result (Some c.in_ok-place.place) (c.is_open.ensures ∙ ap (is_open c.args.from_module.now) c.as_slice.ensures)
-        (c.in_ok-place.ensures names c.args.self.now.indexed)
+    (c.in_ok-place.ensures names c.args.self.now.indexed)

@@ -1,0 +1,4 @@
+pub mod FilterLemmas
+pub mod FirstLemmas
+pub mod PlaceLemmas
+pub mod StreamLemmas

@@ -1,5 +1,5 @@
 -- Captures that show what the definitions of `Items` say.
-use Rattle.std.proofs.Common.{◌≡◌, ℕ, ◌*◌, ◌+◌, ◌^◌, pos, List, [], ◌∷◌, ◌++◌, length, map, replicate, true, false, refl}
+use Rattle.std.proofs.Common.{◌≡◌, ℕ, ◌*◌, ◌+◌, ◌^◌, pos, List, [], ◌∷◌, ◌++◌, length, map, refl}
 use Rattle.std.specs.List.{flat_map}
 use Rattle.std.specs.Prelude.{codes}
 use Rattle.zk_base.specs.declared.network.Addr.TheVariants.{V4}

@@ -23,7 +23,7 @@ use Rattle.zk_traffic.specs.Streams.{AreStreams, IsStream}
 use Rattle.zk_http.specs.Places.{Both, Stream as Placed}
 use Rattle.zk_units.specs.declared.protocol.Protocol.{Protocol}
 use Rattle.zk_units.specs.declared.stream_unit.StreamUnit.{StreamUnit}
-use Rattle.zk_units.specs.Standing.{Reads, StandsFor as ReadersStand, held_in as reader_held, no_streams}
+use Rattle.zk_units.specs.Standing.{Reads, StandsFor as ReadersStand, held_in as reader_held}
 use Rattle.zk_units.specs.Units.{add_all, all_freed, no_units}
 use Rattle.zk_units.proofs.ReaderLemmas.{none_freed}
 

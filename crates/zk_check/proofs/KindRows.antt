@@ -81,7 +81,7 @@ a_string_beside_a_count = refl
 -- event connection_state_remove(c: connection) { print c$nosuch; }
 a_field_that_there_is_not :
     errors (script (decl.Body 0 body.Event (at 6 (codes "connection_state_remove")) (roll-Param (record { name = at 30 (codes "c"); param_type = written.Named (at 33 (codes "connection")) }) ∷ []) []
-      (roll-Block (record { place = 45; stmts = stmt.Print 47 (expr.Post (expr.Name (at 53 (codes "c"))) (part.Field (at 55 (codes "nosuch")) ∷ []) ∷ []) ∷ [] })) ∷ [])) ≡ tells rule.Field 53
+    (roll-Block (record { place = 45; stmts = stmt.Print 47 (expr.Post (expr.Name (at 53 (codes "c"))) (part.Field (at 55 (codes "nosuch")) ∷ []) ∷ []) ∷ [] })) ∷ [])) ≡ tells rule.Field 53
 unfolding script tells at trees
 a_field_that_there_is_not = refl
 

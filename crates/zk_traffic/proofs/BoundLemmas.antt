@@ -13,7 +13,7 @@ use Rattle.zk_traffic.specs.declared.streams.Streams.{Streams}
 use Rattle.zk_traffic.specs.declared.traffic.Traffic.{Traffic}
 use Rattle.zk_traffic.specs.Conversation.{Conversation, Direction}
 use Rattle.zk_traffic.specs.Instances.{Instance, instances}
-use Rattle.zk_traffic.specs.Kept.{bytes_kept, held_by, held_in, held_in_all, live_streams, one_if, streams_in}
+use Rattle.zk_traffic.specs.Kept.{most_kept, held_by, held_in, held_in_all, live_streams, one_if, streams_in}
 use Rattle.zk_traffic.specs.Segments.{segments}
 use Rattle.zk_traffic.specs.Standing.{StandsFor}
 use Rattle.zk_traffic.specs.StreamTable.{HasStreams}
@@ -40,8 +40,8 @@ held_within limit None c none =
     let fits : 0 ≤ (limit + 65537) * streams_in c = omega arith in
     omega (arith, orig_is, resp_is, fits)
 held_within limit (Some streams) c are =
-    let first = one_held limit streams.orig c.orig are.orig_is in
-    let second = one_held limit streams.resp c.resp are.resp_is in
+    let first = one_held limit streams.orig c.orig are.0.orig_is in
+    let second = one_held limit streams.resp c.resp are.0.resp_is in
     omega (arith, first, second)
 
 sum_within : (limit : ℕ) (l : List Instance) → Each (λ i. held_in limit i.conversation ≤ (limit + 65537) * streams_in i.conversation) l
@@ -56,8 +56,8 @@ sum_within limit (i ∷ rest) each =
     sums limit all one more all_n n more_n all_is n_is first second = grind (arith, common_steps, all_is, n_is, first, second)
 
 pub kept_is : (traffic : Traffic) (options : Options) (link : ℕ) (records : List Packet) (given : List Item) (ended : Bool) → StandsFor traffic options link records given ended
-    → traffic.connections.table.streams.kept ≡ bytes_kept options link records ended
-unfolding bytes_kept
+    → traffic.connections.table.streams.kept ≡ most_kept options link records ended
+unfolding most_kept
 kept_is traffic options link records given true stands = stands.table_is
 kept_is traffic options link records given false stands =
     stands.table_is.holds.kept_is ∙ ap (held_in_all options.buffer) (sym (live_left options.buffer (segments options link records) (now records) (instances options.buffer (segments options link records)) (all_are options.buffer (segments options link records))))

@@ -10,7 +10,7 @@ use Rattle.zk_traffic.specs.declared.item.Item.{Item}
 use Rattle.zk_traffic.specs.declared.item.What.{What}
 use Rattle.zk_traffic.specs.declared.item.What.TheVariants as what
 use Rattle.zk_traffic.specs.Conversation.{Conversation, gives_up, other, resets, sender_in, unbegun, with_segment}
-use Rattle.zk_traffic.specs.Instances.{begins, goes_on, is_over_by, joined_by, latest, number_of, removal, segments_of}
+use Rattle.zk_traffic.specs.Instances.{begins, goes_on, is_over_by, joined_by, latest, number_of, segments_of}
 use Rattle.zk_traffic.specs.Items.{ends, establishes, facts, gaps, item, items_with, numbered, own_items, segment_items, unit_item, units_with, when}
 use Rattle.zk_traffic.specs.Own.{item_of, told_of, with_number}
 use Rattle.zk_traffic.specs.Places.{Gap}

@@ -1,5 +1,5 @@
 -- Captures that show what the definitions of `Items` say.
-use Rattle.std.proofs.Common.{◌≡◌, ℕ, ◌*◌, ◌+◌, ◌^◌, pos, List, [], ◌∷◌, ◌++◌, length, map, replicate, true, false, refl}
+use Rattle.std.proofs.Common.{◌≡◌, ℕ, ◌*◌, ◌+◌, ◌^◌, pos, List, [], ◌∷◌, ◌++◌, length, map, refl}
 use Rattle.std.specs.List.{flat_map}
 use Rattle.std.specs.Prelude.{codes}
 use Rattle.zk_base.specs.declared.network.Addr.TheVariants.{V4}
@@ -15,17 +15,19 @@ use Rattle.zk_reasm.specs.Told.{acked, fin_place, payload_end}
 use Rattle.zk_traffic.specs.declared.item.Item.{Item}
 use Rattle.zk_traffic.specs.declared.item.What.{What}
 use Rattle.zk_traffic.specs.declared.item.What.TheVariants as what
-use Rattle.zk_traffic.specs.Conversation.{with_segment}
+use Rattle.zk_traffic.specs.Conversation.{datagram_units, freed_with, with_segment}
 use Rattle.zk_traffic.specs.Instances.{begun, instances, latest, live_at}
 use Rattle.zk_traffic.specs.Items.{own_items, removed_at, segment_items}
 use Rattle.zk_traffic.specs.Segments.{Segment}
 use Rattle.zk_traffic.specs.Steps.{Step, steps}
+use Rattle.zk_units.specs.Protocols.{protocol_at}
+use Rattle.zk_units.specs.Units.{next_unit, units_freed}
 
 -- a moment some milliseconds after the first
 abbrev at : ℕ → Moment
 at milliseconds = record { 0 = pos (1000 * milliseconds) }
 
--- a segment of the client 10.0.0.1:40001 to the server 10.0.0.80:80
+-- a segment of the client 10.0.0.1:40001 to the server 10.0.0.80:22, of whose protocol nothing is known
 abbrev client : ℕ → ℕ → ℕ → ℕ → List ℕ → Segment
 client milliseconds flags seq ack payload = record {
   moment = at milliseconds;
@@ -33,7 +35,7 @@ client milliseconds flags seq ack payload = record {
     src = V4 0x0a000001;
     dst = V4 0x0a000050;
     sport = 40001;
-    dport = 80;
+    dport = 22;
     proto = Tcp;
     flags = flags;
     seq = seq;
@@ -51,7 +53,7 @@ server milliseconds flags seq ack payload = record {
   view = record {
     src = V4 0x0a000050;
     dst = V4 0x0a000001;
-    sport = 80;
+    sport = 22;
     dport = 40001;
     proto = Tcp;
     flags = flags;
@@ -77,7 +79,10 @@ abbrev shown_as : Moment → What → Shown
 shown_as t (what.Seen own caplen len) = record { moment = t; word = codes "Seen"; numbers = caplen ∷ len ∷ [] }
 shown_as t (what.Opened conn known) = record { moment = t; word = codes "Opened"; numbers = conn.0 ∷ [] }
 shown_as t (what.Established conn known) = record { moment = t; word = codes "Established"; numbers = conn.0 ∷ [] }
-shown_as t (what.Gap conn known side from length) = record { moment = t; word = codes "Gap"; numbers = conn.0 ∷ side_of side ∷ from ∷ length ∷ [] }
+shown_as t (what.Gap conn known side from count) = record { moment = t; word = codes "Gap"; numbers = conn.0 ∷ side_of side ∷ from ∷ count ∷ [] }
+shown_as t (what.Http conn known side found) = record { moment = t; word = codes "Http"; numbers = conn.0 ∷ side_of side ∷ [] }
+shown_as t (what.Dns conn known side len message) = record { moment = t; word = codes "Dns"; numbers = conn.0 ∷ side_of side ∷ len ∷ [] }
+shown_as t (what.DnsBad conn known side fault len) = record { moment = t; word = codes "DnsBad"; numbers = conn.0 ∷ side_of side ∷ fault ∷ len ∷ [] }
 shown_as t (what.Ended conn known side) = record { moment = t; word = codes "Ended"; numbers = conn.0 ∷ side_of side ∷ [] }
 shown_as t (what.GaveUp conn known side) = record { moment = t; word = codes "GaveUp"; numbers = conn.0 ∷ side_of side ∷ [] }
 shown_as t (what.Reset conn known) = record { moment = t; word = codes "Reset"; numbers = conn.0 ∷ [] }
@@ -99,7 +104,7 @@ exchange-items : shown exchange (at 60)
     ≡ record { moment = at 0; word = codes "Opened"; numbers = 1 ∷ [] } ∷ record { moment = at 10; word = codes "Established"; numbers = 1 ∷ [] }
     ∷ record { moment = at 40; word = codes "Ended"; numbers = 1 ∷ 0 ∷ [] } ∷ record { moment = at 50; word = codes "Ended"; numbers = 1 ∷ 1 ∷ [] }
     ∷ record { moment = at 60; word = codes "Removed"; numbers = 1 ∷ [] } ∷ []
-unfolding exchange segment_items own_items latest begun instances with_segment front run_end byte_at reach told_steps acked fin_place payload_end places_of byte_of put_of content kept_of gets_place counted is_over above held_between
+unfolding exchange segment_items own_items latest begun instances with_segment front run_end byte_at reach told_steps acked fin_place payload_end places_of byte_of put_of content kept_of gets_place counted is_over above held_between freed_with datagram_units units_freed next_unit protocol_at
 exchange-items = refl
 
 -- the capture lacks the client's bytes: they are passed where more of the client is known, and stand before its end
@@ -110,5 +115,5 @@ gap-items : shown gap (at 40)
     ≡ record { moment = at 0; word = codes "Opened"; numbers = 1 ∷ [] } ∷ record { moment = at 10; word = codes "Established"; numbers = 1 ∷ [] }
     ∷ record { moment = at 40; word = codes "Gap"; numbers = 1 ∷ 0 ∷ 0 ∷ 3 ∷ [] } ∷ record { moment = at 40; word = codes "Ended"; numbers = 1 ∷ 0 ∷ [] }
     ∷ record { moment = at 40; word = codes "Removed"; numbers = 1 ∷ [] } ∷ []
-unfolding gap segment_items own_items latest begun instances with_segment front run_end byte_at reach told_steps acked fin_place payload_end places_of byte_of put_of content kept_of gets_place counted is_over above held_between
+unfolding gap segment_items own_items latest begun instances with_segment front run_end byte_at reach told_steps acked fin_place payload_end places_of byte_of put_of content kept_of gets_place counted is_over above held_between freed_with datagram_units units_freed next_unit protocol_at
 gap-items = refl

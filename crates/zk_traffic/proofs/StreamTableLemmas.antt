@@ -23,7 +23,7 @@ use Rattle.zk_traffic.specs.Streams.{AreStreams, IsStream}
 use Rattle.zk_http.specs.Places.{Both, Stream as Placed}
 use Rattle.zk_units.specs.declared.protocol.Protocol.{Protocol}
 use Rattle.zk_units.specs.declared.stream_unit.StreamUnit.{StreamUnit}
-use Rattle.zk_units.specs.Standing.{Reads, StandsFor as ReadersStand, held_in as reader_held, no_streams}
+use Rattle.zk_units.specs.Standing.{Reads, StandsFor as ReadersStand, held_in as reader_held}
 use Rattle.zk_units.specs.Units.{add_all, all_freed, no_units}
 use Rattle.zk_units.proofs.ReaderLemmas.{none_freed}
 
@@ -49,20 +49,6 @@ pub has_streams-with : (limit : ℕ) (c : Conversation) (s : Segment) (streams :
     → ((side : Side) → reader_held side streams.readers ≤ 65536) → HasStreams limit (Some streams) (with_segment limit c s)
 unfolding with_segment
 has_streams-with limit c s streams are stands few = (are, record { stands = stands; few = few })
-
--- streams of which nothing has come
-pub has_new : (limit : ℕ) (c : Conversation) (streams : Streams) (protocol : Option Protocol) → protocol ≡ protocol_of c → HasStreams limit None c → AreStreams limit streams None None
-    → ReadersStand streams.readers protocol no_streams no_units → ((side : Side) → reader_held side streams.readers ≡ 0) → HasStreams limit (Some streams) c
-has_new limit c streams protocol is none are stands held = (
-  subst (λ d. AreStreams limit streams d c.resp) (sym none.0) (subst (λ d. AreStreams limit streams None d) (sym none.1) are),
-  record {
-    stands = subst (λ u. ReadersStand streams.readers (protocol_of c) (streams_of limit c.orig c.resp) u) (sym none.2)
-        (subst (λ d. ReadersStand streams.readers (protocol_of c) (streams_of limit d c.resp) no_units) (sym none.0)
-        (subst (λ d. ReadersStand streams.readers (protocol_of c) (streams_of limit None d) no_units) (sym none.1)
-        (subst (λ p. ReadersStand streams.readers p no_streams no_units) is stands)));
-    few = λ side. omega (arith, held side);
-  },
-)
 
 -- no streams free nothing
 freed-none : (limit : ℕ) (c : Conversation) (s : Segment) → direction_with c s Orig ≡ None → direction_with c s Resp ≡ None → c.«units» ≡ no_units → freed_with limit c s ≡ []

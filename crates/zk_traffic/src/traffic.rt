@@ -1,6 +1,5 @@
-ghost use Rattle.std.specs.Prelude.{◌≡◌, ◌≤ℤ◌, ◌≤◌, ◌<◌, ◌*◌, ◌+◌, ◌^◌, ℕ, Bool, true, false, pos, length, slice_get, Option, Some, None, Err, List, [], ◌∷◌, ◌++◌, IfOk, OnOk, OnErr, IfSome, IfNone};
+ghost use Rattle.std.specs.Prelude.{◌≡◌, ◌≤ℤ◌, ◌≤◌, ◌<◌, ◌*◌, ◌+◌, ◌-◌, ◌^◌, ℕ, Bool, true, false, pos, length, slice_get, Option, Some, None, Err, List, [], ◌∷◌, ◌++◌, IfOk, OnOk, OnErr, IfSome, IfNone};
 ghost use Rattle.std.specs.Option.{option_map};
-ghost use Rattle.zk_conn.specs.Instance.{counted};
 ghost use Rattle.zk_link_ip.specs.Views.{packet};
 ghost use Rattle.zk_pcap.specs.NetworkTime.{later};
 ghost use Rattle.zk_pcap.specs.View.{packet_of};
@@ -12,7 +11,7 @@ ghost use Rattle.zk_conn.specs.declared.key.Key.{Key};
 ghost use Rattle.zk_traffic.specs.Conversation.{Conversation};
 ghost use Rattle.zk_traffic.specs.Instances.{is_over_by, latest as latest_of, segments_of};
 ghost use Rattle.zk_traffic.specs.Items.{fresh_at, items_of, own_items, segment_items};
-ghost use Rattle.zk_traffic.specs.Kept.{bytes_kept, live_streams};
+ghost use Rattle.zk_traffic.specs.Kept.{live_streams, most_kept};
 ghost use Rattle.zk_traffic.specs.Own.{with_number};
 ghost use Rattle.zk_traffic.specs.Segments.{Segment as SegmentData};
 ghost use Rattle.zk_traffic.specs.Steps.{Step};
@@ -86,7 +85,7 @@ fn latest(a: Moment, b: Moment) -> Moment
 }
 
 impl Traffic {
-    ghost use Rattle.zk_traffic.specs.Standing.{HasFailed, StandsFor, unread_bytes, waiting};
+    ghost use Rattle.zk_traffic.specs.Standing.{HasFailed, StandsFor, spare_bytes, waiting};
     ghost use Rattle.zk_traffic.specs.Taking.{HasTaken, IsReady};
 
     /// A capture of this link type, before its first packet.
@@ -155,17 +154,18 @@ impl Traffic {
         ended
     }
 
-    /// How many bytes are held: those that the streams of live connections hold, and those that their
-    /// readers have not used yet. The count stands still at its type's end.
+    /// How many bytes are held: those that the streams of live connections hold, and those that wait
+    /// to be read, of which a stream has at most 65,536. That is the most that there may be, without
+    /// what there is less.
     pub fn kept(&self) -> u64
         ensures exact { (options : OptionsData) (link : ℕ) (records : List Packet) (given : List ItemData) (ended : Bool) → StandsFor self.now options link records given ended
-            → result ≡ counted (bytes_kept options link records ended + unread_bytes self.now) }
+            → result ≡ most_kept options link records ended - spare_bytes self.now }
         ensures bound { (options : OptionsData) (link : ℕ) (records : List Packet) (given : List ItemData) (ended : Bool) → StandsFor self.now options link records given ended
-            → result ≤ (options.buffer + 65537) * live_streams options link records ended + unread_bytes self.now }
+            → result ≤ (options.buffer + 65537) * live_streams options link records ended }
     {
         self.connections
             .kept()
-            .saturating_add(self.connections.unread())
+            .saturating_sub(self.connections.spare())
     }
 
     /// The k-th run of bytes by which the last packet moved a front: those of its sender's stream

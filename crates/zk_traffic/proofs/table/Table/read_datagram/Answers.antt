@@ -1,4 +1,4 @@
-use Rattle.std.proofs.Common.{◌++◌, ◌∷◌, [], refl, sym, ◌∙◌}
+use Rattle.std.proofs.Common.{refl, sym, ◌∙◌}
 use Rattle.zk_traffic.specs.News.{runs_of}
 use Rattle.zk_traffic.specs.Taken.{segment_of}
 use Rattle.zk_traffic.proofs.DatagramLemmas.{none_cut, none_else, none_tcp, one_said}
@@ -9,7 +9,7 @@ pub returns-then-not-is_datagram-clause-units : goal.returns-then-not-is_datagra
 returns-then-not-is_datagram-clause-units c = λ t talk side speaks.
     let s = segment_of t c.args.segment.now in
     elim c.then-not-is_datagram.branch [
-      then-not-is_datagram-via-then-not-is_datagram w ↦ none_tcp talk s c.args.news.now.«units».items (sym c.is_datagram.ensures ∙ w.if-not-is_datagram.true)
+      | then-not-is_datagram-via-then-not-is_datagram w ↦ none_tcp talk s c.args.news.now.«units».items (sym c.is_datagram.ensures ∙ w.if-not-is_datagram.true)
       | then-not-is_datagram-via-else-not-is_datagram+then-not-speaks_dns w ↦ none_else talk s c.args.news.now.«units».items c.args.protocol speaks (sym w.speaks_dns.ensures ∙ w.if-not-speaks_dns.true)
       | then-not-is_datagram-via-else-not-is_datagram+else-not-speaks_dns+then-was_cut w ↦ none_cut talk s c.args.news.now.«units».items (sym (w.was_cut.ensures t) ∙ w.if-was_cut.true)
     ]

@@ -16,8 +16,8 @@ returns-in_err-push_line-clause-stopped g c =
     stopped_in first program far.0 world c.loop-out.self mid (with_line_ends world.lines) c.in_err-push_line.field-0.0 new far.1
     (taken_prefix first program far.0 world c.loop-out.self mid far.1) c.in_err-push_line.ensures.stopped)
 
-pub loop-out-preserved : goal.loop-out-preserved
-loop-out-preserved g c =
+pub loop-out-preserved-in_ok-push_line : goal.loop-out-preserved-in_ok-push_line
+loop-out-preserved-in_ok-push_line g c =
     let mid = g.S.Shelf.outside c.loop-out.shelf in
     let new = g.S.Shelf.outside c.push_line.new.shelf in
     let line = c.line_in.result.now in

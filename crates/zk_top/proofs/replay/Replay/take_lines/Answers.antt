@@ -32,6 +32,22 @@ loop-out-preserved-in_ok-push_line g c =
       input = (c.in_ok-push_line.ensures.input.0 ∙ c.loop-out.invariant.input.0, c.in_ok-push_line.ensures.input.1 ∙ c.loop-out.invariant.input.1);
     }
 
+pub loop-out-preserved : goal.loop-out-preserved
+loop-out-preserved g c =
+    let mid = g.S.Shelf.outside c.loop-out.shelf in
+    let new = g.S.Shelf.outside c.push_line.new.shelf in
+    let line = c.line_in.result.now in
+    let after : Replay = record { machine = c.out.new.self; piece = c.push_line.new.piece } in
+    record {
+      came = λ first program taken world come.
+          let far = c.loop-out.invariant.came first program taken world come in
+          let stands : StandsFor c.out.new.self program (far.0 ++ line ∷ []) world =
+          subst (λ l. StandsFor c.out.new.self program (far.0 ++ l ∷ []) world) (sym c.line_in.ensures) (c.in-Some.ensures.some program far.0 world far.1.stands) in
+          (far.0 ++ line ∷ [], line_taken first program far.0 world c.loop-out.self after mid new line far.1 stands c.in_ok-push_line.ensures.said);
+      code = c.out.ensures.code ∙ c.loop-out.invariant.code;
+      input = (c.in_ok-push_line.ensures.input.0 ∙ c.loop-out.invariant.input.0, c.in_ok-push_line.ensures.input.1 ∙ c.loop-out.invariant.input.1);
+    }
+
 pub returns-clause-came : goal.returns-clause-came
 returns-clause-came g c = λ first program taken world come.
     let mid = g.S.Shelf.outside c.loop-out.shelf in

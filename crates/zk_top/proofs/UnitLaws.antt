@@ -150,8 +150,12 @@ module _ (n : ℕ) (x : Expr) (is : is_call x ≡ true) where
       at : (parts : List Part) → x ≡ posted p.0.0 parts → Repeated (Spells (Within n) a_part) parts p.2.0 rest → 2 + length rest ≤ length tokens
       at [] same end = absurd (no_prim tokens p.2.0 (subst (λ (e : Expr). Spells (Within n) prim e tokens p.2.0) (sym same) p.2.1))
       at (part ∷ parts) same more =
-          omega (arith, short (Within n) (within n) (exact n) prim p.0.0 tokens p.2.0 p.2.1, short (Within n) (within n) (exact n) a_part part p.2.0 more.0 more.1,
-          repeated_short (Spells (Within n) a_part) (λ a ts after q. short (Within n) (within n) (exact n) a_part a ts after q) parts more.0 rest more.2)
+          omega (
+            arith,
+            short (Within n) (within n) (exact n) prim p.0.0 tokens p.2.0 p.2.1,
+            short (Within n) (within n) (exact n) a_part part p.2.0 more.0 more.1,
+            repeated_short (Spells (Within n) a_part) (λ a ts after q. short (Within n) (within n) (exact n) a_part a ts after q) parts more.0 rest more.2,
+          )
 
 unary_tokens : (n : ℕ) (x : Expr) → is_call x ≡ true → (tokens rest : List Token) → Within n Expr AUnary x tokens rest → 2 + length rest ≤ length tokens
 unfolding Within unary prefixed trees

@@ -8,14 +8,10 @@ use crate::forms::is_decl;
 use crate::mapping::map_each;
 use std::alloc::Global;
 use zk_base::{Bytes, Mem, Sequence};
-use zk_tree::first;
-use zk_tree::{Atomic, BodyKind, Decl, Expr, Literal, Param, Part, Stmt, Type};
+use zk_tree::{Atomic, BodyKind, Decl, Expr, Literal, Param, Part, Stmt, Type, first};
 
 /// Declarations of forms that are run, or the place of the first of another.
-pub fn decls_of(
-    alloc: Global,
-    trees: &[Decl],
-) -> Result<Result<Sequence<first::Decl>, u64>, Mem>
+pub fn decls_of(alloc: Global, trees: &[Decl]) -> Result<Result<Sequence<first::Decl>, u64>, Mem>
     ensures { IfOk result (λ found. found ≡ decls_of trees.now) }
 {
     let mut decls = Vec::with_capacity(alloc, trees.len())?;

@@ -78,11 +78,7 @@ fn compile_decls(
             let program = program_of(alloc, &Tree { decls })?;
             Ok(Found::Accepted(code_of(alloc, &program)?))
         }
-        Some(number) => Ok(refused(
-            name,
-            place_of(tokens, number),
-            ScriptKind::NoTree,
-        )),
+        Some(number) => Ok(refused(name, place_of(tokens, number), ScriptKind::NoTree)),
     }
 }
 

@@ -7,7 +7,7 @@ use Rattle.zk_units.proofs.readers.Readers.new.Goals.{in-None, in-Some-Http, in-
 pub returns-clause-held : goal.returns-clause-held
 unfolding held_in
 returns-clause-held c = λ side. elim c.match-protocol.branch [
-  in-None w ↦ ap (held_by side) w.reader-is
+  | in-None w ↦ ap (held_by side) w.reader-is
   | in-Some-Http w ↦ ap (held_by side) w.reader-is ∙ http_held side w.new.result ∙ w.new.ensures.held side
   | in-Some-Dns w ↦ ap (held_by side) w.reader-is ∙ dns_held side w.new-in-Some-Dns.result ∙ w.new-in-Some-Dns.ensures.held side
 ]

@@ -1,5 +1,7 @@
 use super::*;
 use std::test::Fail;
+use zk_parse::parse;
+use zk_token::tokens;
 
 #[test]
 fn three_scripts_declare_their_modules_and_logs(rt: HostRuntime) -> Result<(), Fail> {
@@ -26,6 +28,18 @@ fn three_scripts_declare_their_modules_and_logs(rt: HostRuntime) -> Result<(), F
         assert_eq!(rt; *name, *wanted);
         assert!(rt; text.starts_with(module));
         assert!(rt; text.windows(stream.len()).any(|part| part == *stream));
+    }
+    Ok(())
+}
+
+#[test]
+fn each_script_is_read_whole(rt: HostRuntime) -> Result<(), Fail> {
+    let alloc = rt.alloc();
+    let declarations = [6, 16, 9];
+    for ((_, text), wanted) in default_scripts().iter().zip(&declarations) {
+        let tokens = tokens(alloc, text)?;
+        let tree = parse(alloc, tokens.as_slice())?;
+        assert_eq!(rt; tree.decls.len(), *wanted);
     }
     Ok(())
 }

@@ -1,0 +1,3 @@
+pub mod ChecksumLaws
+pub mod ListLaws
+pub mod ConversationLaws

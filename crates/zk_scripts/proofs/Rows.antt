@@ -35,7 +35,7 @@ use Rattle.zk_tree.specs.declared.decl.Lasting.TheVariants as lasting
 use Rattle.zk_tree.specs.declared.decl.Redefining.TheVariants as redefining
 use Rattle.zk_tree.specs.declared.decl.Tree.{Tree}
 use Rattle.zk_tree.specs.Rules.{place_of}
-use Rattle.zk_token.specs.Fault.{Fault}
+use Rattle.zk_token.specs.Fault.{Fault, BadByte, OpenString, BigNumber}
 use Rattle.zk_token.specs.Tokens.{tokens_of}
 use Rattle.zk_parse.specs.Opening.{reading}
 use Rattle.zk_parse.specs.Trees.{tree_of}
@@ -91,6 +91,10 @@ Reads text decls = read (tokens_of text) ≡ Ok decls
 -- a text is refused at a byte
 abbrev Refuses : List ℕ → ℕ → Type 0
 Refuses text place = read (tokens_of text) ≡ Err (Some place)
+
+-- a text has this fault, and so no tokens
+abbrev Faults : List ℕ → Fault → Type 0
+Faults text fault = tokens_of text ≡ Err fault
 
 -- a text behind `function f() { ` is these statements
 abbrev IsStmts : List ℕ → List Stmt → Type 0
@@ -241,3 +245,58 @@ no_open_body : Refuses (codes "event e() {} event e() {") 13
 unfolding reading
 no_open_body = refl
 
+-- Whole texts that are refused: the byte of the declaration, or the fault in the tokens ---------------------------
+
+comparisons_in_a_row : Refuses (codes "# Comparisons don't follow one another.\nglobal a = ( 1 < 2 ) == T;\nglobal b = 1 < 2 == T;\n") 67
+unfolding reading
+comparisons_in_a_row = refl
+
+statement_outside : Refuses (codes "# A statement outside of a body; the declaration before it is whole.\nglobal a = 1;\nprint a;\n") 83
+unfolding reading
+statement_outside = refl
+
+within_an_export : Refuses (codes "# Within an export the place is that of the export.\nmodule M;\nexport {\n\tglobal a = 1;\n\tglobal b = ;\n}\n") 62
+unfolding reading
+within_an_export = refl
+
+within_a_body : Refuses (codes "global a = 1;\n# However late in a body.\nevent zeek_init()\n\t{\n\tprint a;\n\tif ( a == 1 )\n\t\t{\n\t\tprint a\n\t\t}\n\t}\n") 40
+unfolding reading
+within_a_body = refl
+
+field_of_a_reserved_name : Refuses (codes "# A reserved word is no name, also of a field.\ntype R: record { a: count; };\ntype S: record { set: count; };\n") 77
+unfolding reading
+field_of_a_reserved_name = refl
+
+two_bars_are_one_sign : Refuses (codes "# Two bars without a blank are one sign.\nglobal v = vector(\"ab\");\nglobal a = | |v| - 1 |;\nglobal b = ||v| - 1|;\n") 90
+unfolding reading
+two_bars_are_one_sign = refl
+
+missing_semicolon : Refuses (codes "# The place is where the declaration begins that doesn't read, not where it goes wrong.\nglobal a = 1;\nglobal b = 2\nglobal c = 3;\n") 102
+unfolding reading
+missing_semicolon = refl
+
+braces_as_an_expression : Refuses (codes "# Braces give an initial value alone.\nglobal s: set[count] = { 1, 2, };\nevent zeek_init() { local t: set[count] = { 3 }; s = set(4); }\nevent zeek_init() { s = { 5 }; }\n") 135
+unfolding reading
+braces_as_an_expression = refl
+
+nesting_past_the_limit : Refuses (codes "global a = (((((((((((((((((((((((((((((((((((((((((((((((((((((((((((((((((7)))))))))))))))))))))))))))))))))))))))))))))))))))))))))))))))));\n# One more.\nglobal b = ((((((((((((((((((((((((((((((((((((((((((((((((((((((((((((((((((7))))))))))))))))))))))))))))))))))))))))))))))))))))))))))))))))));\n") 156
+unfolding reading
+nesting_past_the_limit = refl
+
+open_string_at_the_end : Faults (codes "global a = \"x\" + \"y\\\"") (OpenString 17)
+open_string_at_the_end = refl
+
+open_string_with_another_escape : Faults (codes "# The quote stands before the bad escape.\nglobal a = \"x\\qy;\n") (OpenString 53)
+open_string_with_another_escape = refl
+
+byte_of_no_token : Faults (codes "# A byte that begins no token. It is judged before the tree, which this file hasn't either.\nprint 1;\nevent zeek_init() { print 1 ~ 2; }\n") (BadByte 129)
+byte_of_no_token = refl
+
+escape_that_is_none : Faults (codes "# An escape that isn't there: the place of its backslash.\nevent zeek_init() { print \"fine\\n\", \"a\\q\"; }\n") (BadByte 96)
+escape_that_is_none = refl
+
+point_in_a_number : Faults (codes "# A number with a point is none, and three numbers make no address.\nglobal a = 1.2.3.4;\nglobal b = 1.5;\n") (BadByte 100)
+point_in_a_number = refl
+
+number_past_64_bits : Faults (codes "# Leading zeros don't make a number big, digits do; this one stands before the bad byte.\nglobal a = 00000000000000000000000000000001 sec;\nglobal b = 99999999999999999999 usec;\nglobal c = ~;\n") (BigNumber 149)
+number_past_64_bits = refl

@@ -15,10 +15,20 @@ use Rattle.zk_conn.specs.Holds.{Follows, removal_of}
 use Rattle.zk_conn.specs.Removals.{IsTree}
 use Rattle.zk_conn.specs.Told.{Told}
 use Rattle.zk_conn.specs.contracts.key.KeyOrd.TheImpl as key_ord
+use Rattle.zk_conn.specs.contracts.key.KeyPartialEq.TheImpl as key_partial_eq
 
 -- the order of the keys in the table
 unfoldable pub key_cmp : Key → Key → Ordering
 key_cmp = (key_ord.ghosts).cmp
+
+-- the test whether two keys are the same
+unfoldable pub key_eq : Key → Key → Bool
+key_eq = (key_partial_eq.ghosts).eq
+
+-- the instance is there and has this key
+abbrev pub has_key : Option Instance → Key → Bool
+has_key None key = false
+has_key (Some instance) key = key_eq instance.key key
 
 -- a slot that has an instance
 abbrev pub kept : Slab Instance → Option ℕ → Option ℕ

@@ -127,6 +127,9 @@ pub struct Conns {
     /// Slots of keys, each at its key's place. They save the walk through `keys`, and no more: one counts
     /// where the slot's instance has that very key.
     hints: Vec<usize>,
+    /// The slot of the last packet's instance, or of another: what is told of the instance behind its
+    /// packet finds it there.
+    recent: usize,
     /// How many instances have begun.
     begun: u64,
 }
@@ -136,7 +139,7 @@ impl Conns {
     ghost use Rattle.zk_conn.specs.Instance.{Opening, opening, originator, end_of, is_reset, facts_of};
     ghost use Rattle.zk_conn.specs.Removals.{removal_at};
     ghost use Rattle.zk_conn.specs.State.{is_open};
-    ghost use Rattle.zk_conn.specs.Table.{first_by, has_key, is_stale, slot_of, slot_numbered, IsLeast, IsTable, Files, Hastens, Tells, Inserts, SameTable, Removes};
+    ghost use Rattle.zk_conn.specs.Table.{first_by, has_key, has_number, is_stale, slot_of, slot_numbered, IsLeast, IsTable, Files, Hastens, Tells, Inserts, SameTable, Removes};
 
     /// No connections. No memory is taken.
     pub fn new(alloc: Global) -> Conns
@@ -148,6 +151,7 @@ impl Conns {
             numbers: BTreeMap::new(alloc),
             firsts: Vec::new(alloc),
             hints: Vec::new(alloc),
+            recent: 0,
             begun: 0,
         }
     }
@@ -297,10 +301,12 @@ impl Conns {
     {
         let hint = hint_of(&self.hints, key);
         if self.has_key(hint, key) {
+            self.recent = hint;
             return Some(hint);
         }
         let slot = self.slot_of(key)?;
         note(&mut self.hints, key, slot);
+        self.recent = slot;
         Some(slot)
     }
 
@@ -333,9 +339,22 @@ impl Conns {
         ensures slot { result ≡ slot_numbered self.now conn }
         ensures there { IfSome result (ContainsKey self.now.slots) }
     {
+        if self.has_number(self.recent, conn) {
+            return Some(self.recent);
+        }
         match self.numbers.get(&conn.0) {
             Some(slot) if self.slots.contains(*slot) => Some(*slot),
             _ => None,
+        }
+    }
+
+    /// Whether the instance of a slot has this number.
+    fn has_number(&self, slot: usize, conn: ConnNo) -> bool
+        ensures { result ≡ has_number (get self.now.slots slot) conn.0 }
+    {
+        match self.slots.get(slot) {
+            Some(instance) => instance.number == conn.0,
+            None => false,
         }
     }
 

@@ -18,7 +18,7 @@ use Rattle.zk_conn.specs.Holds.{Has, Holds, Follows, removal_of, touched_between
 use Rattle.zk_conn.specs.Instance.{Opening, opening, originator}
 use Rattle.zk_conn.specs.Segment.{key_of, same_key}
 use Rattle.zk_conn.specs.Standing.{StandsFor, IsGone, Keeps}
-use Rattle.zk_conn.specs.Table.{key_cmp, kept, slot_of, slot_numbered, instance_at, key_at, number_at, HasLive, IsTable, Inserts, SameTable}
+use Rattle.zk_conn.specs.Table.{has_number, key_cmp, kept, slot_of, slot_numbered, instance_at, key_at, number_at, HasLive, IsTable, Inserts, SameTable}
 use Rattle.zk_conn.specs.Told.{Told, Packet}
 use Rattle.zk_conn.proofs.HoldsLemmas.{has-append}
 use Rattle.zk_conn.proofs.KeyLemmas.{is_eq-key_cmp, same_key_is, same_key-refl}
@@ -110,9 +110,12 @@ gone_key conns told key stands is =
 -- an instance that is put into the table is found by its number
 pub live_inserted : (old mid : Conns) (instance : Instance) (number : ℕ) → Inserts old mid instance → HasLive (record mid { begun = number }) (record { 0 = instance.number })
 unfolding slot_numbered
-live_inserted old mid instance number inserts =
-    subst (λ o. IsSome (kept mid.slots o)) (sym inserts.number_found)
-    (subst (λ p. IsSome (cond (is_some p) (Some inserts.slot) None)) (sym inserts.there) refl)
+live_inserted old mid instance number inserts = by_test (has_number (get mid.slots mid.recent) instance.number)
+  where
+    by_test : (b : Bool) → IsSome (cond b (Some mid.recent) (kept mid.slots (tree.get nat_cmp mid.numbers instance.number)))
+    by_test true = refl
+    by_test false = subst (λ o. IsSome (kept mid.slots o)) (sym inserts.number_found)
+        (subst (λ p. IsSome (cond (is_some p) (Some inserts.slot) None)) (sym inserts.there) refl)
 
 -- a packet that begins an instance
 pub stands_begun : (old mid : Conns) (told : List Told) (t : Moment) (p : L4View) (instance : Instance) (number : ℕ) → StandsFor old told → comes_late (latest (key_of p) told) t ≡ true

@@ -20,7 +20,7 @@ use Rattle.zk_conn.specs.Standing.{StandsFor}
 use Rattle.zk_conn.specs.Table.{HasLive, slot_numbered, kept}
 use Rattle.zk_conn.specs.Told.{Told, Packet, Front, Reached, Removal, Ending}
 use Rattle.zk_conn.proofs.RemoveLemmas.{found_in_slot, same_slot}
-use Rattle.zk_conn.proofs.StandingLemmas.{found_live, numbered_found}
+use Rattle.zk_conn.proofs.StandingLemmas.{found_live, numbered_found, numbered-kept}
 
 -- an instance with one more event is the last part of what was told with it
 joined_last : (current before : List Told) (event : Told) → (rest : List Told) × (before ++ current ++ event ∷ [] ≡ rest ++ joined_by current event)
@@ -107,8 +107,11 @@ instance_timely events = timely_from [] events timely_none
 -- a live number is that of a key's latest instance
 pub live_told : (conns : Conns) (told : List Told) (conn : ConnNo) → StandsFor conns told → HasLive conns conn → (key : Key) × IsLive told key conn.0
 unfolding slot_numbered found_in_slot
-live_told conns told conn stands is = by_slot (tree.get nat_cmp conns.numbers conn.0) refl
+live_told conns told conn stands live = by_slot (tree.get nat_cmp conns.numbers conn.0) refl
   where
+    is : IsSome (kept conns.slots (tree.get nat_cmp conns.numbers conn.0))
+    is = subst IsSome (numbered-kept conns conn stands.table) live
+
     never : {A : Type 0} {o : Option A} → o ≡ None → IsSome o → ⊥
     never none some = true≢false (sym (subst IsSome none some))
 

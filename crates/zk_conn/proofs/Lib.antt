@@ -2,6 +2,7 @@ pub mod BeginLemmas
 pub mod CutLaws
 pub mod DueLemmas
 pub mod HalfLemmas
+pub mod HintLemmas
 pub mod HistoryLemmas
 pub mod HoldsLemmas
 pub mod KeyLemmas

@@ -1,11 +1,11 @@
 -- A value behind one more event of what it stands for.
-use Rattle.std.proofs.Common.{◌≡◌, ℕ, ◌^◌, pos, ◌≤ℤ◌, true, false, cond, List, [], ◌∷◌, ◌++◌, length, length-append, get_or, Option, None, Some, is_some, IsSome, refl, sym, ap, subst, ◌∙◌, arith, ⊎_elim}
+use Rattle.std.proofs.Common.{◌≡◌, ℕ, ◌^◌, pos, ◌≤ℤ◌, Bool, ◌==◌, true, false, cond, List, [], ◌∷◌, ◌++◌, length, length-append, get_or, Option, None, Some, is_some, IsSome, refl, sym, ap, subst, ◌∙◌, arith, ⊎_elim}
 use Rattle.std.specs.BTreeMap as tree
 use Rattle.std.specs.Option.{option_map, option_and_then}
 use Rattle.std.specs.Ordering.{nat_cmp}
 use Rattle.std.specs.Map.{lookup}
 use Rattle.std.specs.Prelude.{int_le, All}
-use Rattle.std.proofs.lemmas.Bool.{cases_Bool, cases_eq, true≢false}
+use Rattle.std.proofs.lemmas.Bool.{cases_Bool, cases_eq, eqb-true, false≢true, true≢false}
 use Rattle.std.proofs.lemmas.Grind.{common_steps}
 use Rattle.std.proofs.lemmas.List.{append-nil}
 use Rattle.slab.specs.Slab.{get}
@@ -24,7 +24,7 @@ use Rattle.zk_conn.specs.Instance.{Opening, opening, originator, end_of, moment_
 use Rattle.zk_conn.specs.Removals.{filing_of}
 use Rattle.zk_conn.specs.Segment.{same_key}
 use Rattle.zk_conn.specs.Standing.{StandsFor, IsLatest, Keeps}
-use Rattle.zk_conn.specs.Table.{key_cmp, kept, slot_numbered, HasLive, instance_at, key_at, number_at, Matches, IsTable, Changes, Tells}
+use Rattle.zk_conn.specs.Table.{has_number, key_cmp, kept, slot_numbered, HasLive, instance_at, key_at, number_at, Matches, IsTable, Changes, Tells}
 use Rattle.zk_conn.specs.Told.{Told, key_told}
 use Rattle.zk_conn.proofs.HoldsLemmas.{holds-append, facts_in-is}
 use Rattle.zk_conn.proofs.KeyLemmas.{same_key_is, same_key-refl}
@@ -95,12 +95,31 @@ found_live conns told key stands live = by_slot (tree.get key_cmp conns.keys key
           latest = subst (Keeps told key) (ap (option_and_then (get conns.slots)) some ∙ there) (stands.keeps key);
         }
 
+-- a slot whose instance has the number
+number_in : (o : Option Instance) (n : ℕ) → has_number o n ≡ true → option_map (λ (i : Instance). i.number) o ≡ Some n
+number_in None n is = absurd (false≢true is)
+number_in (Some instance) n is = ap Some (eqb-true instance.number n is)
+
+-- in a table that is in order the number finds the slot, wherever it is looked for first
+pub numbered-kept : (conns : Conns) (conn : ConnNo) → IsTable conns → slot_numbered conns conn ≡ kept conns.slots (tree.get nat_cmp conns.numbers conn.0)
+unfolding slot_numbered
+numbered-kept conns conn table = by_test (has_number (get conns.slots conns.recent) conn.0) refl
+  where
+    there : (o : Option Instance) → has_number o conn.0 ≡ true → is_some o ≡ true
+    there None is = absurd (false≢true is)
+    there (Some instance) is = refl
+
+    by_test : (b : Bool) → has_number (get conns.slots conns.recent) conn.0 ≡ b
+        → cond b (Some conns.recent) (kept conns.slots (tree.get nat_cmp conns.numbers conn.0)) ≡ kept conns.slots (tree.get nat_cmp conns.numbers conn.0)
+    by_test false is = refl
+    by_test true is = sym (ap (kept conns.slots) (table.numbers.found conns.recent conn.0 (number_in (get conns.slots conns.recent) conn.0 is))
+        ∙ ap (λ b. cond b (Some conns.recent) None) (there (get conns.slots conns.recent) is))
+
 -- the slot that a live instance's number finds
 pub numbered_found : (conns : Conns) (told : List Told) (key : Key) (conn : ConnNo) → (stands : StandsFor conns told) → (found : Found conns told key) → IsLive told key conn.0
     → slot_numbered conns conn ≡ Some found.slot
-unfolding slot_numbered
 numbered_found conns told key conn stands found live =
-    ap (λ n. kept conns.slots (tree.get nat_cmp conns.numbers n)) (sym live.number_is ∙ found.latest.number_is)
+    numbered-kept conns conn stands.table ∙ ap (λ n. kept conns.slots (tree.get nat_cmp conns.numbers n)) (sym live.number_is ∙ found.latest.number_is)
     ∙ ap (kept conns.slots) (stands.table.numbers.found found.slot found.instance.number (ap (option_map (λ (i : Instance). i.number)) found.there))
     ∙ ap (λ o. cond (is_some o) (Some found.slot) None) found.there
 
@@ -206,11 +225,20 @@ told_live old new told key conn slot event numbered tells stands live of_key joi
     (subst (λ (m : Moment). m.0 ≤ℤ pos (2 ^ 62)) (sym (same found.instance.last)) found.latest.in_time)
 
 -- what is live stays so where the instance of a slot changed
-pub live_changed : (old new : Conns) (slot : ℕ) (was is : Instance) (conn : ConnNo) → Changes old new slot was is → HasLive old conn → HasLive new conn
+pub live_changed : (old new : Conns) (slot : ℕ) (was is : Instance) (conn : ConnNo) → get old.slots slot ≡ Some was → Changes old new slot was is → HasLive old conn → HasLive new conn
 unfolding slot_numbered
-live_changed old new slot was is conn changes live =
-    subst (λ o. IsSome (kept new.slots o)) (sym (changes.numbers_are conn.0)) (by_number (tree.get nat_cmp old.numbers conn.0) live)
+live_changed old new slot was is conn seen changes live =
+    subst (λ r. IsSome (cond (has_number (get new.slots r) conn.0) (Some r) (kept new.slots (tree.get nat_cmp new.numbers conn.0)))) (sym changes.recent_is)
+    (subst (λ b. IsSome (cond b (Some old.recent) (kept new.slots (tree.get nat_cmp new.numbers conn.0)))) (sym (same_number old.recent))
+    (by_test (has_number (get old.slots old.recent) conn.0) live))
   where
+    same_number : (s : ℕ) → has_number (get new.slots s) conn.0 ≡ has_number (get old.slots s) conn.0
+    same_number s = ⊎_elim
+        (λ here. subst (λ r. has_number (get new.slots r) conn.0 ≡ has_number (get old.slots r) conn.0) (sym here)
+        (ap (λ o. has_number o conn.0) changes.is_there ∙ ap (λ n. n == conn.0) changes.number_is ∙ sym (ap (λ o. has_number o conn.0) seen)))
+        (λ apart. ap (λ o. has_number o conn.0) (changes.others s apart))
+        (cases_eq s slot)
+
     there : (o p : Option Instance) (s : ℕ) → is_some o ≡ is_some p → IsSome (cond (is_some p) (Some s) None) → IsSome (cond (is_some o) (Some s) None)
     there o p s same some = subst (λ b. IsSome (cond b (Some s) None)) (sym same) some
 
@@ -220,6 +248,11 @@ live_changed old new slot was is conn changes live =
         (λ here. subst (λ b. IsSome (cond b (Some s) None)) (sym (ap (λ n. is_some (get new.slots n)) here ∙ ap is_some changes.is_there)) refl)
         (λ apart. there (get new.slots s) (get old.slots s) s (ap is_some (changes.others s apart)) some)
         (cases_eq s slot)
+
+    by_test : (b : Bool) → IsSome (cond b (Some old.recent) (kept old.slots (tree.get nat_cmp old.numbers conn.0)))
+        → IsSome (cond b (Some old.recent) (kept new.slots (tree.get nat_cmp new.numbers conn.0)))
+    by_test true some = some
+    by_test false some = subst (λ o. IsSome (kept new.slots o)) (sym (changes.numbers_are conn.0)) (by_number (tree.get nat_cmp old.numbers conn.0) some)
 
 -- a live instance that is told something stays live, as do all others
 pub live_told : (old new : Conns) (slot : ℕ) (conn other : ConnNo) (event : Instance → Told) → slot_numbered old conn ≡ Some slot
@@ -238,16 +271,24 @@ live_told old new slot conn other event numbered tells live = by_instance (get o
             let at : s ≡ slot = cc in
             let no : None ≡ Some instance = sym none ∙ ap (get old.slots) (sym at) ∙ found in cc
 
+    no_number : (o : Option Instance) → o ≡ None → has_number o conn.0 ≡ true → ⊥
+    no_number None none is = false≢true is
+    no_number (Some instance) none is = cc
+
+    by_test : (b : Bool) → has_number (get old.slots old.recent) conn.0 ≡ b → cond b (Some old.recent) (kept old.slots (tree.get nat_cmp old.numbers conn.0)) ≡ Some slot
+        → get old.slots slot ≡ None → ⊥
+    by_test true is same none = let at : old.recent ≡ slot = cc in no_number (get old.slots old.recent) (ap (get old.slots) at ∙ none) is
+    by_test false is same none = held (tree.get nat_cmp old.numbers conn.0) same none
+
     by_instance : (o : Option Instance) → get old.slots slot ≡ o → HasLive new other
-    by_instance None none = absurd (held (tree.get nat_cmp old.numbers conn.0) numbered none)
-    by_instance (Some was) there = let told = tells was there in live_changed old new slot was told.is other told.changes live
+    by_instance None none = absurd (by_test (has_number (get old.slots old.recent) conn.0) refl numbered none)
+    by_instance (Some was) there = let told = tells was there in live_changed old new slot was told.is other there told.changes live
 
 -- the number of an instance of the table finds it
 pub live_at-slot : (conns : Conns) (slot : ℕ) (instance : Instance) → IsTable conns → get conns.slots slot ≡ Some instance → HasLive conns (record { 0 = instance.number })
-unfolding slot_numbered
 live_at-slot conns slot instance table there =
-    subst (λ o. IsSome (kept conns.slots o)) (sym (table.numbers.found slot instance.number (ap (option_map (λ (i : Instance). i.number)) there)))
-    (subst (λ p. IsSome (cond (is_some p) (Some slot) None)) (sym there) refl)
+    subst IsSome (sym (numbered-kept conns (record { 0 = instance.number }) table)) (subst (λ o. IsSome (kept conns.slots o)) (sym (table.numbers.found slot instance.number (ap (option_map (λ (i : Instance). i.number)) there)))
+    (subst (λ p. IsSome (cond (is_some p) (Some slot) None)) (sym there) refl))
 
 -- what a live instance that is found by its number has
 pub has_live : (conns : Conns) (told : List Told) (key : Key) (conn : ConnNo) (slot : ℕ) (now : Instance) (first : Opening) → slot_numbered conns conn ≡ Some slot

@@ -73,9 +73,9 @@ one_value first second = cc
 
 -- the table in which the instance of a slot was written
 pub changes_written : (old new : Conns) (slot : ℕ) (was is : Instance) → get old.slots slot ≡ Some was → new.slots ≡ with_value old.slots slot is
-    → is.key ≡ was.key → is.number ≡ was.number → new.keys ≡ old.keys → new.numbers ≡ old.numbers → new.begun ≡ old.begun
+    → is.key ≡ was.key → is.number ≡ was.number → new.keys ≡ old.keys → new.numbers ≡ old.numbers → new.begun ≡ old.begun → new.recent ≡ old.recent
     → (IsTree old.slots old.firsts.items → IsTree new.slots new.firsts.items) → Changes old new slot was is
-changes_written old new slot was is there written key_is number_is same_keys same_numbers same_begun tree = record {
+changes_written old new slot was is there written key_is number_is same_keys same_numbers same_begun same_recent tree = record {
   is_there = ap (λ s. get s slot) written ∙ with_value-here old.slots slot was is there;
   others = λ other apart. ap (λ s. get s other) written ∙ with_value-other old.slots slot other is apart;
   key_is = key_is;
@@ -83,19 +83,20 @@ changes_written old new slot was is there written key_is number_is same_keys sam
   keys_are = λ key. ap (λ m. btree.get key_cmp m key) same_keys;
   numbers_are = λ number. ap (λ m. btree.get nat_cmp m number) same_numbers;
   begun_is = same_begun;
+  recent_is = same_recent;
   tree = tree;
 }
 
 -- the instance of a slot that was filed at its removal moment
 pub files_written : (old new : Conns) (slot : ℕ) (was now is : Instance) → get old.slots slot ≡ Some was → get old.slots slot ≡ Some now → SameFacts now is
-    → is.filed ≡ removal_of now → new.slots ≡ with_value old.slots slot is → new.keys ≡ old.keys → new.numbers ≡ old.numbers → new.begun ≡ old.begun
+    → is.filed ≡ removal_of now → new.slots ≡ with_value old.slots slot is → new.keys ≡ old.keys → new.numbers ≡ old.numbers → new.begun ≡ old.begun → new.recent ≡ old.recent
     → (AllBut new.slots old.firsts.items slot → IsTree new.slots new.firsts.items) → Files old new slot was
-files_written old new slot was now is there seen same filed written same_keys same_numbers same_begun refiled =
+files_written old new slot was now is there seen same filed written same_keys same_numbers same_begun same_recent refiled =
     subst (Files old new slot) (one_value there seen)
     (record {
       is = is;
       written = written;
-      changes = changes_written old new slot now is seen written same.key_is same.number_is same_keys same_numbers same_begun
+      changes = changes_written old new slot now is seen written same.key_is same.number_is same_keys same_numbers same_begun same_recent
           (λ tree. refiled (all_but old.slots new.slots old.firsts.items slot now seen
           (λ other apart. ap (λ s. get s other) written ∙ with_value-other old.slots slot other is apart) tree));
       same = same;
@@ -165,15 +166,16 @@ changes_then old mid new slot was between is first second = record {
   keys_are = λ key. second.keys_are key ∙ first.keys_are key;
   numbers_are = λ number. second.numbers_are number ∙ first.numbers_are number;
   begun_is = second.begun_is ∙ first.begun_is;
+  recent_is = second.recent_is ∙ first.recent_is;
   tree = λ tree. second.tree (first.tree tree);
 }
 
 -- the table in which the instance of a slot had an event
 written_changes : (old mid : Conns) (slot : ℕ) (now between : Instance) (event : Told) → get old.slots slot ≡ Some now → Follows now between event
     → between.filed ≡ now.filed → mid.slots ≡ with_value old.slots slot between → mid.keys ≡ old.keys → mid.numbers ≡ old.numbers → mid.firsts ≡ old.firsts
-    → mid.begun ≡ old.begun → Changes old mid slot now between
-written_changes old mid slot now between event seen follows filed written same_keys same_numbers same_firsts same_begun =
-    changes_written old mid slot now between seen written follows.key_is follows.number_is same_keys same_numbers same_begun
+    → mid.begun ≡ old.begun → mid.recent ≡ old.recent → Changes old mid slot now between
+written_changes old mid slot now between event seen follows filed written same_keys same_numbers same_firsts same_begun same_recent =
+    changes_written old mid slot now between seen written follows.key_is follows.number_is same_keys same_numbers same_begun same_recent
     (λ tree. subst (λ f. IsTree mid.slots f) (sym (ap (λ v. v.items) same_firsts))
     (tree_same old.slots mid.slots old.firsts.items
     (λ other. ap (λ s. filing_at s other) written ∙ filings_written old.slots slot now between seen filed follows.number_is other) tree))
@@ -181,9 +183,9 @@ written_changes old mid slot now between event seen follows filed written same_k
 -- an event of an instance, which is then filed anew
 pub tells_hastened : (old mid new : Conns) (slot : ℕ) (was now between : Instance) (event : Told) → get old.slots slot ≡ Some was → get old.slots slot ≡ Some now
     → Follows now between event → between.filed ≡ now.filed → mid.slots ≡ with_value old.slots slot between → mid.keys ≡ old.keys → mid.numbers ≡ old.numbers
-    → mid.firsts ≡ old.firsts → mid.begun ≡ old.begun → ((w : Instance) → get mid.slots slot ≡ Some w → Hastens mid new slot w) → Tells old new slot was event
-tells_hastened old mid new slot was now between event there seen follows filed written same_keys same_numbers same_firsts same_begun hastens =
-    let first = written_changes old mid slot now between event seen follows filed written same_keys same_numbers same_firsts same_begun in
+    → mid.firsts ≡ old.firsts → mid.begun ≡ old.begun → mid.recent ≡ old.recent → ((w : Instance) → get mid.slots slot ≡ Some w → Hastens mid new slot w) → Tells old new slot was event
+tells_hastened old mid new slot was now between event there seen follows filed written same_keys same_numbers same_firsts same_begun same_recent hastens =
+    let first = written_changes old mid slot now between event seen follows filed written same_keys same_numbers same_firsts same_begun same_recent in
     let second = hastens between first.is_there in
     subst (λ w. Tells old new slot w event) (one_value there seen)
     (record {
@@ -214,12 +216,12 @@ removal_of-front was is key of front follows =
 -- a front of an instance
 pub tells_front : (old new : Conns) (slot : ℕ) (was now is : Instance) (of : Side) (front : ℕ) → get old.slots slot ≡ Some was → get old.slots slot ≡ Some now
     → Follows now is (Front now.key of front) → is.filed ≡ now.filed → new.slots ≡ with_value old.slots slot is → new.keys ≡ old.keys → new.numbers ≡ old.numbers
-    → new.firsts ≡ old.firsts → new.begun ≡ old.begun → Tells old new slot was (Front was.key of front)
-tells_front old new slot was now is of front there seen follows filed written same_keys same_numbers same_firsts same_begun =
+    → new.firsts ≡ old.firsts → new.begun ≡ old.begun → new.recent ≡ old.recent → Tells old new slot was (Front was.key of front)
+tells_front old new slot was now is of front there seen follows filed written same_keys same_numbers same_firsts same_begun same_recent =
     subst (λ (w : Instance). Tells old new slot w (Front w.key of front)) (one_value there seen)
     (record {
       is = is;
-      changes = written_changes old new slot now is (Front now.key of front) seen follows filed written same_keys same_numbers same_firsts same_begun;
+      changes = written_changes old new slot now is (Front now.key of front) seen follows filed written same_keys same_numbers same_firsts same_begun same_recent;
       follows = follows;
       filed = λ early. subst (λ (m : Moment). int_le m.0 (removal_of is).0 ≡ true) (sym filed)
           (subst (λ (m : Moment). int_le now.filed.0 m.0 ≡ true) (sym (removal_of-front now is now.key of front follows)) early);

@@ -1,5 +1,5 @@
 -- The table of live connections: its slots, and where a key or a number finds its slot.
-use Rattle.std.specs.Prelude.{◌≡◌, ◌≢◌, ◌≤◌, ◌&&◌, true, false, ℕ, Bool, int_le, int_lt, slice_index_or, Option, Some, None, is_some, IsSome, if◌then◌else◌}
+use Rattle.std.specs.Prelude.{◌≡◌, ◌≢◌, ◌≤◌, ◌&&◌, ◌==◌, true, false, ℕ, Bool, int_le, int_lt, slice_index_or, Option, Some, None, is_some, IsSome, if◌then◌else◌}
 use Rattle.std.specs.declared.cmp.Ordering.{Ordering}
 use Rattle.std.specs.BTreeMap as tree
 use Rattle.std.specs.Option.{option_map, option_and_then}
@@ -15,10 +15,20 @@ use Rattle.zk_conn.specs.Holds.{Follows, removal_of}
 use Rattle.zk_conn.specs.Removals.{IsTree}
 use Rattle.zk_conn.specs.Told.{Told}
 use Rattle.zk_conn.specs.contracts.key.KeyOrd.TheImpl as key_ord
+use Rattle.zk_conn.specs.contracts.key.KeyPartialEq.TheImpl as key_partial_eq
 
 -- the order of the keys in the table
 unfoldable pub key_cmp : Key → Key → Ordering
 key_cmp = (key_ord.ghosts).cmp
+
+-- the test whether two keys are the same
+unfoldable pub key_eq : Key → Key → Bool
+key_eq = (key_partial_eq.ghosts).eq
+
+-- the instance is there and has this key
+abbrev pub has_key : Option Instance → Key → Bool
+has_key None key = false
+has_key (Some instance) key = key_eq instance.key key
 
 -- a slot that has an instance
 abbrev pub kept : Slab Instance → Option ℕ → Option ℕ
@@ -29,9 +39,14 @@ kept slots (Some slot) = if is_some (get slots slot) then Some slot else None
 unfoldable pub slot_of : Conns → Key → Option ℕ
 slot_of conns key = kept conns.slots (tree.get key_cmp conns.keys key)
 
--- the slot of a live instance
+-- the instance is there and has this number
+abbrev pub has_number : Option Instance → ℕ → Bool
+has_number None number = false
+has_number (Some instance) number = instance.number == number
+
+-- the slot of a live instance: that of the last packet's instance, or the one that its number finds
 unfoldable pub slot_numbered : Conns → ConnNo → Option ℕ
-slot_numbered conns conn = kept conns.slots (tree.get nat_cmp conns.numbers conn.0)
+slot_numbered conns conn = if has_number (get conns.slots conns.recent) conn.0 then Some conns.recent else kept conns.slots (tree.get nat_cmp conns.numbers conn.0)
 
 -- the value has a live instance of this number
 abbrev pub HasLive : Conns → ConnNo → Type 0
@@ -69,6 +84,7 @@ pub record Changes (old new : Conns) (slot : ℕ) (was is : Instance) : Type 0 w
   pub keys_are : (key : Key) → tree.get key_cmp new.keys key ≡ tree.get key_cmp old.keys key
   pub numbers_are : (number : ℕ) → tree.get nat_cmp new.numbers number ≡ tree.get nat_cmp old.numbers number
   pub begun_is : new.begun ≡ old.begun
+  pub recent_is : new.recent ≡ old.recent
   pub tree : IsTree old.slots old.firsts.items → IsTree new.slots new.firsts.items
 
 -- the instances know the same

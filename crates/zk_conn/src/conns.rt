@@ -81,6 +81,34 @@ pub fn live_instances()
         → IsLive told key number → IsLive told other number → key ≡ other }
 {}
 
+/// How many hints there are for each slot, so that few keys share one.
+const HINTS: usize = 4;
+
+/// The slot that is noted at a key's place.
+fn hint_of(hints: &[usize], key: &Key) -> usize {
+    match hints.get(key.place_among(hints.len())) {
+        Some(slot) => *slot,
+        None => 0,
+    }
+}
+
+/// Notes a slot at a key's place.
+fn note(hints: &mut [usize], key: &Key, slot: usize) {
+    let place = key.place_among(hints.len());
+    if place < hints.len() {
+        hints[place] = slot;
+    }
+}
+
+/// Makes places for the hints of so many slots.
+fn make_places(hints: &mut Vec<usize>, slots: usize) -> Result<(), Mem> {
+    let places = slots.saturating_mul(HINTS);
+    if hints.len() < places {
+        hints.resize(places, 0)?;
+    }
+    Ok(())
+}
+
 /// The live connections of a capture.
 ///
 /// Packets belong to one connection where their protocol and their two ends are the same, whichever
@@ -96,6 +124,12 @@ pub struct Conns {
     numbers: BTreeMap<u64, usize>,
     /// The index of removals, by slots.
     firsts: Vec<Option<Filing>>,
+    /// Slots of keys, each at its key's place. They save the walk through `keys`, and no more: one counts
+    /// where the slot's instance has that very key.
+    hints: Vec<usize>,
+    /// The slot of the last packet's instance, or of another: what is told of the instance behind its
+    /// packet finds it there.
+    recent: usize,
     /// How many instances have begun.
     begun: u64,
 }
@@ -105,7 +139,7 @@ impl Conns {
     ghost use Rattle.zk_conn.specs.Instance.{Opening, opening, originator, end_of, is_reset, facts_of};
     ghost use Rattle.zk_conn.specs.Removals.{removal_at};
     ghost use Rattle.zk_conn.specs.State.{is_open};
-    ghost use Rattle.zk_conn.specs.Table.{first_by, is_stale, slot_of, slot_numbered, IsLeast, IsTable, Files, Hastens, Tells, Inserts, SameTable, Removes};
+    ghost use Rattle.zk_conn.specs.Table.{first_by, has_key, has_number, is_stale, slot_of, slot_numbered, IsLeast, IsTable, Files, Hastens, Tells, Inserts, SameTable, Removes};
 
     /// No connections. No memory is taken.
     pub fn new(alloc: Global) -> Conns
@@ -116,6 +150,8 @@ impl Conns {
             keys: BTreeMap::new(alloc),
             numbers: BTreeMap::new(alloc),
             firsts: Vec::new(alloc),
+            hints: Vec::new(alloc),
+            recent: 0,
             begun: 0,
         }
     }
@@ -150,7 +186,7 @@ impl Conns {
         ensures memory { OnErr result ((told : List Told) → StandsFor self.old told → StandsFor self.new told) }
         ensures live { IfOk result (λ touched. (told : List Told) → StandsFor self.old told → HasLive self.new touched.conn) }
     {
-        match self.slot_of(&Key::of(p)) {
+        match self.find(&Key::of(p)) {
             Some(slot) => Ok(self.go_on(slot, t, p)),
             None => self.begin(t, p),
         }
@@ -256,7 +292,36 @@ impl Conns {
         self.slot_numbered(conn).is_some()
     }
 
-    /// The slot of a live connection.
+    /// The slot of a live connection: at the key's hint, or through the keys, and then it is noted.
+    fn find(&mut self, key: &Key) -> Option<usize>
+        ensures same { SameTable self.old self.new }
+        ensures some { IfSome result (λ slot. IsTable self.old → slot_of self.new key.now ≡ Some slot) }
+        ensures none { IfNone result (slot_of self.new key.now ≡ None) }
+        ensures there { IfSome result (ContainsKey self.new.slots) }
+    {
+        let hint = hint_of(&self.hints, key);
+        if self.has_key(hint, key) {
+            self.recent = hint;
+            return Some(hint);
+        }
+        let slot = self.slot_of(key)?;
+        note(&mut self.hints, key, slot);
+        self.recent = slot;
+        Some(slot)
+    }
+
+    /// Whether the instance of a slot has this key.
+    #[tactic(auto, unfolding(crate::specs::Table::key_eq))]
+    fn has_key(&self, slot: usize, key: &Key) -> bool
+        ensures { result ≡ has_key (get self.now.slots slot) key.now }
+    {
+        match self.slots.get(slot) {
+            Some(instance) => instance.key == *key,
+            None => false,
+        }
+    }
+
+    /// The slot of a live connection, by its key.
     #[tactic(auto, unfolding(crate::specs::Table::slot_of, crate::specs::Table::key_cmp))]
     fn slot_of(&self, key: &Key) -> Option<usize>
         ensures slot { result ≡ slot_of self.now key.now }
@@ -274,9 +339,22 @@ impl Conns {
         ensures slot { result ≡ slot_numbered self.now conn }
         ensures there { IfSome result (ContainsKey self.now.slots) }
     {
+        if self.has_number(self.recent, conn) {
+            return Some(self.recent);
+        }
         match self.numbers.get(&conn.0) {
             Some(slot) if self.slots.contains(*slot) => Some(*slot),
             _ => None,
+        }
+    }
+
+    /// Whether the instance of a slot has this number.
+    fn has_number(&self, slot: usize, conn: ConnNo) -> bool
+        ensures { result ≡ has_number (get self.now.slots slot) conn.0 }
+    {
+        match self.slots.get(slot) {
+            Some(instance) => instance.number == conn.0,
+            None => false,
         }
     }
 
@@ -382,6 +460,7 @@ impl Conns {
     {
         self.slots.reserve(1)?;
         let room = self.slots.capacity();
+        make_places(&mut self.hints, room)?;
         if self.firsts.len() < room {
             self.firsts.resize(room, None)?;
         }

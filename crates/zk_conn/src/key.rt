@@ -11,6 +11,9 @@ pub struct Endpoint {
     pub port: u16,
 }
 
+/// An odd number whose bits are spread evenly: 2^64 by the golden ratio.
+const SPREAD: u64 = 0x9E37_79B9_7F4A_7C15;
+
 /// Whether an address comes before another: IPv4 before IPv6, and by their numbers.
 fn address_is_before(a: Addr, b: Addr) -> bool
     ensures { result ≡ address_is_before a b }
@@ -51,6 +54,15 @@ impl Endpoint {
         address_is_before(self.addr, other.addr)
             || self.addr == other.addr && self.port < other.port
     }
+
+    /// A number that two ends seldom share.
+    fn scattered(&self) -> u64 {
+        let addr = match self.addr {
+            Addr::V4(addr) => addr as u64,
+            Addr::V6(addr) => (addr & 0xFFFF_FFFF_FFFF_FFFF) as u64 ^ (addr >> 64) as u64,
+        };
+        (addr.rotate_left(16) ^ self.port as u64).wrapping_mul(SPREAD)
+    }
 }
 
 /// What the packets of a connection have in common: the protocol and the two ends, whichever of
@@ -79,5 +91,14 @@ impl Key {
             low,
             high,
         }
+    }
+    /// A place among so many that two keys seldom share: for hints alone, since whoever writes a capture
+    /// can choose keys that share one.
+    pub fn place_among(&self, places: usize) -> usize {
+        if places == 0 {
+            return 0;
+        }
+        let ends = self.low.scattered().rotate_left(29) ^ self.high.scattered();
+        ((ends.wrapping_mul(SPREAD) >> 32) % places as u64) as usize
     }
 }

@@ -8,7 +8,7 @@ pub returns-clause-removes : goal.returns-clause-removes
 unfolding key_cmp
 returns-clause-removes c = λ was there.
     let old = c.args.self.now in
-    subst (Removes old (record { slots = c.remove-instance.new.self; keys = c.remove.new.self; numbers = c.remove-2.new.self; firsts = with_items old.firsts c.refile.new.firsts; begun = old.begun }) c.args.slot)
+    subst (Removes old (record old { slots = c.remove-instance.new.self; keys = c.remove.new.self; numbers = c.remove-2.new.self; firsts = with_items old.firsts c.refile.new.firsts }) c.args.slot)
     (one_value there c.remove-instance.ensures.value)
     (record {
       gone = c.remove-instance.ensures.updates.changed;

@@ -1,0 +1,12 @@
+use Rattle.std.proofs.Common.{sym, ◌∙◌}
+use Rattle.zk_conn.specs.Table.{slot_of}
+use Rattle.zk_conn.proofs.HintLemmas.{hint_found}
+use Rattle.zk_conn.proofs.conns.Conns.find.Goals as goal
+
+pub returns-then-has_key-clause-some : goal.returns-then-has_key-clause-some
+unfolding slot_of
+returns-then-has_key-clause-some c = λ table. hint_found c.args.self.now c.args.key.now c.hint_of-hint.result table (sym c.has_key.ensures ∙ c.if-has_key.true)
+
+pub returns-clause-some : goal.returns-clause-some
+unfolding slot_of
+returns-clause-some c = λ table. sym c.slot_of.ensures.slot ∙ c.in_ok-slot.was

@@ -1,5 +1,5 @@
 -- The readers of both protocols.
-use Rattle.std.proofs.Common.{◌≡◌, ℕ, zero, suc, ◌≤◌, true, List, [], ◌∷◌, ◌++◌, length, Option, Some, None, refl, sym, ap, subst, ◌∙◌, arith, append_assoc}
+use Rattle.std.proofs.Common.{◌≡◌, ℕ, zero, suc, ◌+◌, ◌≤◌, true, List, [], ◌∷◌, ◌++◌, length, drop, Option, Some, None, refl, sym, ap, subst, ◌∙◌, arith, append_assoc}
 use Rattle.std.specs.List.{filter_map}
 use Rattle.std.specs.Option.{option_map, option_or, option_to_list}
 use Rattle.std.proofs.lemmas.List.{append-nil}
@@ -20,8 +20,9 @@ use Rattle.zk_units.specs.declared.readers.Reader.TheVariants as reads
 use Rattle.zk_units.specs.declared.unread.Unread.{Unread}
 use Rattle.zk_base.specs.ByteQueue.{bytes_of}
 use Rattle.zk_dns.specs.Stream.{units_from, units_of}
-use Rattle.zk_http.specs.Reads.{shortest}
-use Rattle.zk_http.specs.Units.{next}
+use Rattle.zk_http.specs.Cases.{case_of}
+use Rattle.zk_http.specs.Reads.{shortest, used_in}
+use Rattle.zk_http.specs.Units.{next, unread as not_read}
 use Rattle.zk_units.specs.declared.readers.Readers.{Readers}
 use Rattle.zk_units.specs.declared.stream_unit.Freed.{Freed}
 use Rattle.zk_units.specs.declared.stream_unit.StreamUnit.{StreamUnit}
@@ -29,7 +30,7 @@ use Rattle.zk_units.specs.declared.stream_unit.StreamUnit.TheVariants as says
 use Rattle.zk_units.specs.Standing.{BothTurn, DnsStands, DnsTurn, Gets, HttpStands, NextIs, StandsBy, StandsFor, Turn, add_some, behind, dns_side, ended_by, held_by, held_in, no_streams, unread_of, with_stream}
 use Rattle.zk_units.specs.Unread.{cuts_of, places_of}
 use Rattle.zk_units.proofs.CutLemmas.{bytes-cut}
-use Rattle.zk_units.specs.Units.{add, add_all, bytes_in, bytes_unread, freed, http_in, http_units, all_freed, many, next_of_both, next_unit, no_units, units_freed}
+use Rattle.zk_units.specs.Units.{add, add_all, bytes_in, bytes_unread, dns_unread, freed, http_in, http_units, all_freed, many, next_of_both, next_unit, no_units, units_freed}
 
 -- how many bytes are kept of a side
 bytes_counted : (u : Unread) → bytes_in (places_of u) ≡ length (bytes_of u.bytes)
@@ -327,6 +328,22 @@ none_next (Some speaks.Http) Orig = refl
 none_next (Some speaks.Http) Resp = refl
 none_next (Some speaks.Dns) Orig = refl
 none_next (Some speaks.Dns) Resp = refl
+
+drop-none : (n : ℕ) → drop n (let places : List Place = [] in places) ≡ []
+drop-none zero = refl
+drop-none (suc n) = refl
+
+-- of a stream of which nothing has come nothing is unread
+pub none_unread : (protocol : Option Protocol) (side : Side) (streams : Both Stream) (units : Both (List StreamUnit)) → (of_side side streams).places ≡ []
+    → bytes_unread protocol side streams units ≡ 0
+unfolding bytes_unread not_read units_from units_of
+none_unread None side streams units none = refl
+none_unread (Some speaks.Http) side streams units none =
+    let stream = of_side side streams in
+    let us = of_side side (http_units units) in
+    let from = http.place us + used_in (http.decide side (case_of side (http_units units)) (http.header_length stream us) stream.ended (drop (http.place us) stream.places)) in
+    ap (λ places. bytes_in (drop from places)) none ∙ ap bytes_in (drop-none from)
+none_unread (Some speaks.Dns) side streams units none = ap (λ places. bytes_in (dns_unread places)) none
 
 -- streams of which nothing has come free no unit
 pub none_freed : (protocol : Option Protocol) (side : Side) → all_freed protocol side no_streams no_units ≡ []

@@ -1,6 +1,7 @@
 -- The table of streams behind a segment.
 use Rattle.std.proofs.Common.{◌≡◌, ℕ, ◌+◌, ◌-◌, ◌^◌, ◌<◌, ◌≤◌, Bool, true, false, cond, not, ◌&&◌, List, [], ◌++◌, map, Option, None, Some, unwrap_or, refl, sym, ap, subst, ◌∙◌, arith}
 use Rattle.std.specs.Option.{MatchOption}
+use Rattle.std.specs.Prelude.{is_some}
 use Rattle.std.proofs.lemmas.List.{append-nil}
 use Rattle.zk_base.specs.declared.network.Side.{Side}
 use Rattle.zk_base.specs.declared.network.Side.TheVariants.{Orig, Resp}
@@ -24,7 +25,7 @@ use Rattle.zk_http.specs.Places.{Both, Stream as Placed, of_side}
 use Rattle.zk_units.specs.declared.readers.Readers.{Readers}
 use Rattle.zk_units.specs.declared.protocol.Protocol.{Protocol}
 use Rattle.zk_units.specs.declared.stream_unit.StreamUnit.{StreamUnit}
-use Rattle.zk_units.specs.Standing.{Reads, StandsFor as ReadersStand, held_in as reader_held}
+use Rattle.zk_units.specs.Standing.{Reads, StandsFor as ReadersStand, held_in as reader_held, no_streams}
 use Rattle.zk_units.specs.Units.{add_all, all_freed, bytes_unread, no_units}
 use Rattle.zk_units.proofs.ReaderLemmas.{none_freed, none_unread}
 
@@ -43,7 +44,6 @@ pub some_sum : (o : Option ℕ) (sum n : ℕ) → MatchOption o (2 ^ 64 ≤ sum)
 some_sum None sum n is some = absurd (none_some n some)
 some_sum (Some m) sum n is some = (let same : n ≡ m = cc in same) ∙ is
 
--- how many bytes a conversation's streams hold with a segment
 held_in-with : (limit : ℕ) (c : Conversation) (s : Segment) → held_in limit (with_segment limit c s)
     ≡ held_by limit (direction_with c s Orig) + held_by limit (direction_with c s Resp) + (unread_in limit (with_segment limit c s) Orig + unread_in limit (with_segment limit c s) Resp)
 unfolding with_segment
@@ -98,6 +98,31 @@ has_none-with limit c s orig resp none = (orig, resp, ap (λ l. add_all l c.«un
 freed-are : (limit : ℕ) (c : Conversation) (s : Segment) → all_freed (protocol_of c) (sender_in c s) (streams_of limit (direction_with c s Orig) (direction_with c s Resp)) c.«units» ≡ freed_with limit c s
 unfolding freed_with
 freed-are limit c s = refl
+
+pub not_some : (o : Option Streams) → is_some o ≡ false → o ≡ None
+not_some None is = refl
+not_some (Some streams) is = absurd (apart is)
+  where
+    apart : true ≡ false → ⊥
+    apart e = cc
+
+-- new streams, of a connection that has none
+pub has_new : (limit : ℕ) (c : Conversation) (streams : Streams) (protocol : Option Protocol) → protocol ≡ protocol_of c → (c.orig ≡ None) × (c.resp ≡ None) × (c.«units» ≡ no_units)
+    → AreStreams limit streams None None → ReadersStand streams.readers protocol no_streams no_units → ((side : Side) → reader_held side streams.readers ≡ 0) → HasStreams limit (Some streams) c
+has_new limit c streams protocol is none are stands held = (
+  record {
+    orig_is = subst (λ d. IsStream limit streams.orig d) (sym none.0) are.orig_is;
+    resp_is = subst (λ d. IsStream limit streams.resp d) (sym none.1) are.resp_is;
+  },
+  record {
+    stands = subst (λ u. ReadersStand streams.readers (protocol_of c) (streams_of limit c.orig c.resp) u) (sym none.2)
+        (subst (λ d. ReadersStand streams.readers (protocol_of c) (streams_of limit c.orig d) no_units) (sym none.1)
+        (subst (λ d. ReadersStand streams.readers (protocol_of c) (streams_of limit d None) no_units) (sym none.0)
+        (subst (λ p. ReadersStand streams.readers p no_streams no_units) is stands)));
+    few = λ side. omega (arith, held side);
+    left = λ side. held side ∙ sym (unread_none limit c none.0 none.1 side);
+  },
+)
 
 pub takes_some : (limit : ℕ) (conn : ConnNo) (c : Conversation) (s : Segment) (moves : Moves) (before after : StreamTable) (was_streams taken_streams streams : Streams) (old between new : News) (side : Side) (was is : ℕ)
     → HasTaken limit conn c s moves was_streams.readers taken_streams old between → HasRead limit was_streams.readers c → side ≡ sender_in c s

@@ -1,7 +1,6 @@
 -- What the table of streams has of a connection, and what a segment does there.
-use Rattle.std.specs.Prelude.{◌≡◌, ℕ, ◌+◌, ◌≤◌, ◌++◌, Option, Some, None}
-use Rattle.std.specs.BTreeMap as tree
-use Rattle.std.specs.Ordering.{nat_cmp}
+use Rattle.std.specs.Prelude.{◌≡◌, ℕ, ◌+◌, ◌≤◌, ◌++◌, nat_eq, Option, Some, None}
+use Rattle.std.specs.HashMap as hashed
 use Rattle.zk_base.specs.declared.network.Side.{Side}
 use Rattle.zk_base.specs.declared.numbers.ConnNo.{ConnNo}
 use Rattle.zk_traffic.specs.declared.news.News.{News}
@@ -20,7 +19,7 @@ use Rattle.zk_units.specs.Standing as readers
 use Rattle.zk_units.specs.Units.{no_units}
 
 unfoldable pub entry_at : StreamTable → ℕ → Option Streams
-entry_at table number = tree.get nat_cmp table.streams number
+entry_at table number = hashed.get nat_eq table.streams number
 
 -- all units of the streams were read, and the bytes that are kept are those that are not read, few of each side
 pub record HasRead (limit : ℕ) (reads : Readers) (c : Conversation) : Type 0 where

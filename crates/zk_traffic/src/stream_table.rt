@@ -10,7 +10,7 @@ use crate::news::News;
 use crate::segment::Segment;
 use crate::streams::{Moved, Moves, Stops, Streams};
 use std::alloc::Global;
-use std::collections::BTreeMap;
+use std::collections::HashMap;
 use zk_base::{ConnNo, Mem, Side};
 use zk_units::Protocol;
 
@@ -20,7 +20,7 @@ pub struct StreamTable {
     alloc: Global,
     limit: u64,
     /// The streams of the connections that have one, by the number of the connection.
-    streams: BTreeMap<u64, Streams>,
+    streams: HashMap<u64, Streams>,
     /// How many bytes all streams hold, with those that wait to be read.
     kept: u64,
 }
@@ -49,7 +49,7 @@ impl StreamTable {
         StreamTable {
             alloc,
             limit,
-            streams: BTreeMap::new(alloc),
+            streams: HashMap::new(alloc),
             kept: 0,
         }
     }

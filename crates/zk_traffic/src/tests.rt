@@ -54,7 +54,10 @@ fn show(what: &What) -> (u64, Shown) {
             ..
         } => (conn.0, Gap(*side, *from, *length)),
         What::Http {
-            conn, side, unit, ..
+            conn,
+            side,
+            unit,
+            ..
         } => (conn.0, show_unit(*side, unit)),
         What::Dns {
             conn,
@@ -253,7 +256,11 @@ fn bytes_that_the_capture_lacks_are_a_gap(rt: HostRuntime) -> Result<(), Fail> {
 fn connections_that_interleave_keep_their_items(rt: HostRuntime) -> Result<(), Fail> {
     let get = items_of(&rt, rt.alloc(), &[0, 1, 2, 3, 4, 5, 6])?;
     let head = items_of(&rt, rt.alloc(), &[7, 8, 9, 10, 11, 12, 13])?;
-    let both = items_of(&rt, rt.alloc(), &[0, 7, 1, 8, 9, 2, 10, 3, 4, 11, 12, 5, 6, 13])?;
+    let both = items_of(
+        &rt,
+        rt.alloc(),
+        &[0, 7, 1, 8, 9, 2, 10, 3, 4, 11, 12, 5, 6, 13],
+    )?;
     let first = own(rt.alloc(), 1, get.as_slice())?;
     let second = own(rt.alloc(), 1, head.as_slice())?;
     let of_get = own(rt.alloc(), 1, both.as_slice())?;

@@ -1,7 +1,6 @@
-use Rattle.std.proofs.Common.{◌≡◌, ◌+◌, ◌<◌, ◌^◌, IsSome, None, Some, sym, ap, subst, refl, ◌∙◌, arith}
-use Rattle.std.specs.BTreeMap as tree
+use Rattle.std.proofs.Common.{◌≡◌, ◌+◌, ◌<◌, ◌^◌, nat_eq, IsSome, None, Some, sym, ap, subst, refl, ◌∙◌, arith}
+use Rattle.std.specs.HashMap as hashed
 use Rattle.std.specs.Option.{SomeIff, option_copied_mut}
-use Rattle.std.specs.Ordering.{nat_cmp}
 use Rattle.zk_base.specs.declared.network.Side.TheVariants.{Orig, Resp}
 use Rattle.zk_traffic.specs.Conversation.{direction_with}
 use Rattle.zk_traffic.specs.Kept.{held_by, held_in}
@@ -17,7 +16,7 @@ returns-in_default-clause-taken c = λ t talk has syn side stops was within.
     let none : entry_at c.args.self.now c.args.conn.0 ≡ None = sym c.get_mut.ensures.value ∙ ap option_copied_mut c.in_default.is in
     let nothing = none_has c.args.self.now.limit _ talk none has in
     takes_none c.args.self.now.limit c.args.conn talk (segment_of t c.args.segment.now) c.args.self.now _ c.args.news.now nothing.0 nothing.1 nothing.2 (syn none)
-    (ap (λ m. tree.get nat_cmp m c.args.conn.0) c.get_mut.follows.holds-at-none ∙ none) refl
+    (ap (λ m. hashed.get nat_eq m c.args.conn.0) c.get_mut.follows.holds-at-none ∙ none) refl
 
 pub returns-clause-taken : goal.returns-clause-taken
 unfolding entry_at

@@ -39,20 +39,20 @@ use Rattle.zk_http.proofs.PairLaws.{request_kind, requests_go_on, answers_added,
 -- ---- only where a message begins is a head told
 
 NoHeadIn : Answer UnitKind → Type 0
-NoHeadIn Waits = Unit {0}
+NoHeadIn (Waits used) = Unit {0}
 NoHeadIn (Gives used what) = IsNoHead what
 NoHeadIn (Refuses used why) = Unit {0}
 
 later_no_head : (n : ℕ) (answer : Answer UnitKind) → NoHeadIn answer → NoHeadIn (later n answer)
 unfolding NoHeadIn
-later_no_head n Waits none = tt
+later_no_head n (Waits used) none = tt
 later_no_head n (Gives used what) none = none
 later_no_head n (Refuses used why) none = tt
 
 then_no_head : {A : Type 0} (answer : Answer A) (next : A → Reads UnitKind) (places : List Place) → ((value : A) (rest : List Place) → NoHeadIn (next value rest))
     → NoHeadIn (and_then answer next places)
 unfolding NoHeadIn
-then_no_head Waits next places none = tt
+then_no_head (Waits used) next places none = tt
 then_no_head (Gives used value) next places none = later_no_head used (next value (drop used places)) (none value (drop used places))
 then_no_head (Refuses used why) next places none = tt
 
@@ -66,14 +66,14 @@ body_no_head ToEnd header ended places = then_no_head (to_end ended places) (λ 
 body_no_head Tunnels header ended places = tt
 body_no_head (Unknown why) header ended places = tt
 
-held_no_head : (many : Bool) → NoHeadIn (cond many (Refuses (waiting_limit + 1) Unpaired) Waits)
+held_no_head : (many : Bool) → NoHeadIn (cond many (Refuses (waiting_limit + 1) Unpaired) (Waits 0))
 unfolding NoHeadIn
 held_no_head true = tt
 held_no_head false = tt
 
 unit_no_head : (from : ℕ) (answer : Answer UnitKind) (unit : MessageUnit) (head : MessageHead) → NoHeadIn answer → unit_at from answer ≡ Some unit → unit.what ≡ kind.Head head → ⊥
 unfolding NoHeadIn
-unit_no_head from Waits unit head none is what = cc
+unit_no_head from (Waits used) unit head none is what = cc
 unit_no_head from (Gives used found) unit head none is what =
     let same : record { place = from + used; what = found } ≡ unit = cc in
     subst IsNoHead (ap (λ (unit : MessageUnit). unit.what) same ∙ what) none
@@ -92,12 +92,12 @@ head_before stream side (Within body) units unit head next what = absurd (by_tes
     by_test false next = cc
 head_before stream side Held units unit head next what = absurd (by_test (nat_le (place units) (length stream.places)) next)
   where
-    by_test : (test : Bool) → cond test (unit_at (place units) (cond (nat_lt waiting_limit (length (drop (place units) stream.places))) (Refuses (waiting_limit + 1) Unpaired) Waits)) None ≡ Some unit → ⊥
+    by_test : (test : Bool) → cond test (unit_at (place units) (cond (nat_lt waiting_limit (length (drop (place units) stream.places))) (Refuses (waiting_limit + 1) Unpaired) (Waits 0))) None ≡ Some unit → ⊥
     by_test true next = unit_no_head (place units) _ unit head (held_no_head (nat_lt waiting_limit (length (drop (place units) stream.places)))) next what
     by_test false next = cc
 head_before stream side Over units unit head next what = absurd (by_test (nat_le (place units) (length stream.places)) next)
   where
-    by_test : (test : Bool) → cond test (unit_at (place units) Waits) None ≡ Some unit → ⊥
+    by_test : (test : Bool) → cond test (unit_at (place units) (Waits (length (drop (place units) stream.places)))) None ≡ Some unit → ⊥
     by_test true next = cc
     by_test false next = cc
 

@@ -28,7 +28,7 @@ use Rattle.zk_http.proofs.UntilLaws.{found_some, knows_nowhere, until_found, unt
 -- two forms that follow and give the same of no more places
 same_within : {A B : Type 0} (answer : Answer A) (next again : A → Reads B) (places : List Place)
     → ((value : A) (rest : List Place) → length rest ≤ length places → next value rest ≡ again value rest) → and_then answer next places ≡ and_then answer again places
-same_within Waits next again places same = refl
+same_within (Waits used) next again places same = refl
 same_within (Gives used value) next again places same = ap (later used) (same value (drop used places) (omega (arith, length-drop used places)))
 same_within (Refuses used reason) next again places same = refl
 
@@ -56,7 +56,7 @@ line_uses places used size is = by_end (shortest ends_line (take chunk_line_limi
     never limit is = by_tests _ _ is
       where
         by_tests : (full gap : Bool)
-            → and_then (cond full (Refuses limit ChunkBad) (cond gap (Refuses (length (bytes_before_gap places) + 1) Gap) Waits)) (λ (text : List ℕ). size_or_bad (size_of text)) places
+            → and_then (cond full (Refuses limit ChunkBad) (cond gap (Refuses (length (bytes_before_gap places) + 1) Gap) (Waits 0))) (λ (text : List ℕ). size_or_bad (size_of text)) places
             ≡ Gives used size → ⊥
         by_tests true gap is = cc
         by_tests false true is = cc
@@ -87,7 +87,7 @@ agree (suc count) (suc again) amount places few fewer =
     by_line : (line : Answer ℕ) → chunk_line places ≡ line
         → ((amount : Amount) (rest : List Place) → length rest < count → length rest < again → chunks count amount rest ≡ chunks again amount rest)
         → and_then line (chunk (chunks count) amount) places ≡ and_then line (chunk (chunks again) amount) places
-    by_line Waits is same = refl
+    by_line (Waits used) is same = refl
     by_line (Refuses used reason) is same = refl
     by_line (Gives used size) is same =
         let less = less_behind places used size is in
@@ -102,7 +102,7 @@ chunked_is amount places =
   where
     by_line : (line : Answer ℕ) → chunk_line places ≡ line
         → and_then line (chunk (chunks (length places)) amount) places ≡ and_then line (chunk (λ amount rest. chunks (length rest + 1) amount rest) amount) places
-    by_line Waits is = refl
+    by_line (Waits used) is = refl
     by_line (Refuses used reason) is = refl
     by_line (Gives used size) is =
         let less = less_behind places used size is in
@@ -228,10 +228,10 @@ line_stays old new told was search bytes is knows short new_is = (
       (subst (λ all. Knows search ending.Line (take chunk_line_limit all)) (sym (before_gap-places bytes)) knows.1),
   λ ended ends.
       ap (λ read. read (places_of bytes)) (means_is new (Size search) ended then)
-      ∙ waits_then (chunked (amount_of new)) (λ amount. gives (what.Done amount.body new.header amount.gap)) (places_of bytes)
+      ∙ waits_then (chunked (amount_of new)) (λ amount. gives (what.Done amount.body new.header amount.gap)) 0 (places_of bytes)
       (chunked_is (amount_of new) (places_of bytes)
-      ∙ waits_then chunk_line (chunk chunked (amount_of new)) (places_of bytes)
-      (waits_then (until ends_line chunk_line_limit ChunkBad) (λ text. size_or_bad (size_of text)) (places_of bytes)
+      ∙ waits_then chunk_line (chunk chunked (amount_of new)) 0 (places_of bytes)
+      (waits_then (until ends_line chunk_line_limit ChunkBad) (λ text. size_or_bad (size_of text)) 0 (places_of bytes)
       (until_waits search ending.Line chunk_line_limit ChunkBad bytes knows short))),
 )
   where
@@ -282,8 +282,8 @@ trailer_stays old new told was search bytes is knows short new_is = (
       (subst (λ all. Knows search ending.Section (take head_limit all)) (sym (before_gap-places bytes)) knows.1),
   λ ended ends.
       ap (λ read. read (places_of bytes)) (means_is new (Trailer search) ended then)
-      ∙ waits_then (trailer >>= λ _. gives (amount_of new)) (λ amount. gives (what.Done amount.body new.header amount.gap)) (places_of bytes)
-      (waits_then trailer (λ _. gives (amount_of new)) (places_of bytes)
+      ∙ waits_then (trailer >>= λ _. gives (amount_of new)) (λ amount. gives (what.Done amount.body new.header amount.gap)) 0 (places_of bytes)
+      (waits_then trailer (λ _. gives (amount_of new)) 0 (places_of bytes)
       (until_waits search ending.Section head_limit ChunkBad bytes knows short)),
 )
   where

@@ -14,18 +14,18 @@ use Rattle.zk_http.specs.Turns.{places_of}
 -- ---- answers further on
 
 pub later_none : {A : Type 0} (answer : Answer A) → later 0 answer ≡ answer
-later_none Waits = refl
+later_none (Waits used) = let same : 0 + used ≡ used = omega arith in ap (λ n. Waits n) same
 later_none (Gives used value) = let same : 0 + used ≡ used = omega arith in ap (λ n. Gives n value) same
 later_none (Refuses used reason) = let same : 0 + used ≡ used = omega arith in ap (λ n. Refuses n reason) same
 
 pub later_later : {A : Type 0} (n m : ℕ) (answer : Answer A) → later n (later m answer) ≡ later (n + m) answer
-later_later n m Waits = refl
+later_later n m (Waits used) = let same : n + (m + used) ≡ (n + m) + used = omega arith in ap (λ k. Waits k) same
 later_later n m (Gives used value) = let same : n + (m + used) ≡ (n + m) + used = omega arith in ap (λ k. Gives k value) same
 later_later n m (Refuses used reason) = let same : n + (m + used) ≡ (n + m) + used = omega arith in ap (λ k. Refuses k reason) same
 
 then_later : {A B : Type 0} (n : ℕ) (answer : Answer A) (next : A → Reads B) (places : List Place)
     → and_then (later n answer) next places ≡ later n (and_then answer next (drop n places))
-then_later n Waits next places = refl
+then_later n (Waits used) next places = refl
 then_later n (Gives used value) next places =
     ap (λ rest. later (n + used) (next value rest)) (sym (drop-drop used n places))
     ∙ sym (later_later n used (next value (drop used (drop n places))))
@@ -54,14 +54,14 @@ pub refused_then : {A B : Type 0} (old : Reads A) (next : A → Reads B) (n : �
     → old places ≡ Refuses n why → (old >>= next) places ≡ Refuses n why
 refused_then old next n why places is = ap (λ answer. and_then answer next places) is
 
-pub waits_then : {A B : Type 0} (old : Reads A) (next : A → Reads B) (places : List Place)
-    → old places ≡ Waits → (old >>= next) places ≡ Waits
-waits_then old next places is = ap (λ answer. and_then answer next places) is
+pub waits_then : {A B : Type 0} (old : Reads A) (next : A → Reads B) (n : ℕ) (places : List Place)
+    → old places ≡ Waits n → (old >>= next) places ≡ Waits n
+waits_then old next n places is = ap (λ answer. and_then answer next places) is
 
 -- two forms that follow and give the same
 pub same_then : {A B : Type 0} (answer : Answer A) (next again : A → Reads B) (places : List Place)
     → ((value : A) (rest : List Place) → next value rest ≡ again value rest) → and_then answer next places ≡ and_then answer again places
-same_then Waits next again places same = refl
+same_then (Waits used) next again places same = refl
 same_then (Gives used value) next again places same = ap (later used) (same value (drop used places))
 same_then (Refuses used reason) next again places same = refl
 
@@ -91,7 +91,7 @@ places_pass left next again places behind same = pass (nat_le left (length behin
         (sym (later_later (length places) left (again (gaps (take left behind)) (drop left behind))))
     pass false is =
         let none : nat_le (length places + left) (length (places ++ behind)) ≡ false = fewer (nat_le (length places + left) (length (places ++ behind))) refl in
-        rw (none, is) refl
+        rw (none, is) (ap (λ n. Waits n) (length-append places behind))
       where
         fewer : (all : Bool) → nat_le (length places + left) (length (places ++ behind)) ≡ all → all ≡ false
         fewer false was = refl
@@ -109,7 +109,7 @@ places_there left places behind le =
     rw (all, take-append-le left places behind le) refl
 
 -- fewer are
-pub places_wait : (left : ℕ) (places : List Place) → length places < left → any_places left places ≡ Waits
+pub places_wait : (left : ℕ) (places : List Place) → length places < left → any_places left places ≡ Waits (length places)
 places_wait left places fewer =
     let none : nat_le left (length places) ≡ false = test left (length places) fewer in
     rw none refl

@@ -21,7 +21,7 @@ use Rattle.zk_http.proofs.UnitLaws.{decide_stays, decide_within}
 
 unit_at_stays : (from : ℕ) (early late : Answer UnitKind) (unit : MessageUnit) → Stays early late → unit_at from early ≡ Some unit
     → unit_at from late ≡ Some unit
-unit_at_stays from Waits late unit stays is = absurd (cc)
+unit_at_stays from (Waits used) late unit stays is = absurd (cc)
 unit_at_stays from (Gives used what) late unit stays is = ap (unit_at from) stays ∙ is
 unit_at_stays from (Refuses used why) late unit stays is = ap (unit_at from) stays ∙ is
 
@@ -65,7 +65,7 @@ held_unpaired : (stream : Stream) (side : Side) (units : List MessageUnit) (unit
 held_unpaired stream side units unit is = unpaired (nat_le (place units) (length stream.places)) (nat_lt waiting_limit (length (drop (place units) stream.places))) is
   where
     unpaired : (reached many : Bool)
-        → cond reached (unit_at (place units) (cond many (Refuses (waiting_limit + 1) Unpaired) Waits)) None ≡ Some unit → is_unpaired unit ≡ true
+        → cond reached (unit_at (place units) (cond many (Refuses (waiting_limit + 1) Unpaired) (Waits 0))) None ≡ Some unit → is_unpaired unit ≡ true
     unpaired true true is =
         let same : record { place = place units + (waiting_limit + 1); what = Violation Unpaired } ≡ unit = cc in
         ap is_unpaired (sym same)
@@ -88,7 +88,7 @@ given_again side early late known longer unit grows same on is paired = again (c
 
 unit_at_within : (from n : ℕ) (answer : Answer UnitKind) (unit : MessageUnit) → IsWithin answer n → unit_at from answer ≡ Some unit
     → (from ≤ unit.place) × (unit.place ≤ from + n)
-unit_at_within from n Waits unit within is = absurd (cc)
+unit_at_within from n (Waits used) unit within is = absurd (cc)
 unit_at_within from n (Gives used what) unit within is =
     let same : from + used ≡ unit.place = cc in
     (omega arith, omega arith)

@@ -30,22 +30,21 @@ use Rattle.zk_http.specs.declared.units.Reason.TheVariants.{Gap}
 use Rattle.zk_http.specs.Lines.{ends_line, text_length}
 use Rattle.zk_http.specs.Places.{Stream}
 use Rattle.zk_http.specs.Reading.{KnowsAt, KnowsIn, head_unit, means, means_at, phase_of, searched}
-use Rattle.zk_http.specs.Reads.{Waits, Reads, later}
+use Rattle.zk_http.specs.Reads.{Answer, Waits, Gives, Refuses, Reads, later}
 use Rattle.zk_http.specs.Search.{Counts, Knows, ends}
 use Rattle.zk_http.specs.Starts.{state_behind}
 use Rattle.zk_http.specs.Turns.{Goes, IsNoHead, Shows, ShowsNothing, places_of}
 use Rattle.zk_http.specs.Units.{decide, header_length, next_in, place, place_behind, unit_at}
-use Rattle.zk_http.proofs.FollowLaws.{before_gap-places, length-places, take-places}
+use Rattle.zk_http.proofs.FollowLaws.{before_gap-places, later_later, length-places, take-places}
 use Rattle.zk_http.proofs.GapLaws.{before_gap-gap, none_left}
 use Rattle.zk_http.proofs.HeadTurnLaws.{head_gap_shows}
 use Rattle.zk_http.proofs.LineLaws.{without_last}
 use Rattle.zk_http.proofs.ReadLaws.{before_gap_grows, length_before_gap, take_grows}
-use Rattle.zk_http.proofs.TurnLaws.{unit_later}
 
 -- ---- what is given
 
 -- places are the bytes before the first gap, and others
-split : (places : List Place) → places ≡ places_of (bytes_before_gap places) ++ drop (length (bytes_before_gap places)) places
+pub split : (places : List Place) → places ≡ places_of (bytes_before_gap places) ++ drop (length (bytes_before_gap places)) places
 split [] = refl
 split (None ∷ places) = refl
 split (Some first ∷ places) = ap (λ rest. Some first ∷ rest) (split places)
@@ -98,6 +97,15 @@ knows_in_grows (Unknown why) places behind knows = tt
 
 -- ---- the next unit
 
+unit_first : (from : ℕ) (answer : Answer UnitKind) → unit_at 0 (later from answer) ≡ unit_at from answer
+unit_first from (Waits used) = refl
+unit_first from (Gives used what) = let same : 0 + (from + used) ≡ from + used = omega arith in ap (λ place. Some (record { place = place; what = what })) same
+unit_first from (Refuses used why) = let same : 0 + (from + used) ≡ from + used = omega arith in ap (λ place. Some (record { place = place; what = kind.Violation why })) same
+
+-- answers that are the same are the same unit
+unit_same : (from used : ℕ) (answer other : Answer UnitKind) → later from answer ≡ later used other → unit_at from answer ≡ unit_at used other
+unit_same from used answer other same = sym (unit_first from answer) ∙ ap (unit_at 0) same ∙ unit_first used other
+
 pub next_told : (side : Side) (used : ℕ) (meaning : Bool → Reads UnitKind) (stream : Stream) (case : Case) (units : List MessageUnit)
     → TellsAs side used meaning stream case units → used ≤ length stream.places
     → next_in stream side case units ≡ unit_at used (meaning stream.ended (drop used stream.places))
@@ -107,7 +115,8 @@ next_told side used meaning stream case units tells within =
     let reached : nat_le from (length stream.places) ≡ true = le-leb from (length stream.places) (omega arith) in
     ap (λ test. cond test (unit_at from (decide side case (header_length stream units) stream.ended (drop from stream.places))) None) reached
     ∙ ap (λ rest. unit_at from (decide side case (header_length stream units) stream.ended rest)) (sym (append-nil (drop from stream.places)))
-    ∙ tells.tells stream.ended [] (λ ended. (refl, ended))
+    ∙ unit_same from used (decide side case (header_length stream units) stream.ended (drop from stream.places ++ [])) (meaning stream.ended (drop used stream.places ++ []))
+    (tells.tells stream.ended [] (λ ended. (refl, ended)))
     ∙ ap (λ rest. unit_at used (meaning stream.ended rest)) (append-nil (drop used stream.places))
 
 -- where nothing more is told
@@ -235,14 +244,14 @@ body_goes side old new reading next stream case units places tail n is stands re
         free = tells.free;
         tells = λ ended behind ends.
             tells.tells ended behind ends
-            ∙ ap (λ rest. unit_at old.used (means reading ended (rest ++ behind))) rest
-            ∙ ap (λ rest. unit_at old.used (means reading ended rest)) (append_assoc places tail behind)
-            ∙ ap (unit_at old.used) (goes.by ended (tail ++ behind))
-            ∙ unit_later old.used n (means next ended (drop n places ++ (tail ++ behind)))
-            ∙ ap (λ at. unit_at at (means next ended (drop n places ++ (tail ++ behind)))) (sym used)
-            ∙ ap (λ rest. unit_at new.used (means next ended rest)) (sym (append_assoc (drop n places) tail behind))
-            ∙ ap (λ rest. unit_at new.used (means next ended (rest ++ behind))) (sym behind_n)
-            ∙ ap (λ now. unit_at new.used (means_at now side ended (drop new.used stream.places ++ behind))) (sym then);
+            ∙ ap (λ rest. later old.used (means reading ended (rest ++ behind))) rest
+            ∙ ap (λ rest. later old.used (means reading ended rest)) (append_assoc places tail behind)
+            ∙ ap (later old.used) (goes.by ended (tail ++ behind))
+            ∙ later_later old.used n (means next ended (drop n places ++ (tail ++ behind)))
+            ∙ ap (λ at. later at (means next ended (drop n places ++ (tail ++ behind)))) (sym used)
+            ∙ ap (λ rest. later new.used (means next ended rest)) (sym (append_assoc (drop n places) tail behind))
+            ∙ ap (λ rest. later new.used (means next ended (rest ++ behind))) (sym behind_n)
+            ∙ ap (λ now. later new.used (means_at now side ended (drop new.used stream.places ++ behind))) (sym then);
         begun = let begun = tells.begun in omega arith;
       };
       knows =
@@ -300,7 +309,7 @@ head_goes side old new search stream case units is knows used ended then = recor
     }
 
 pub head_none : (side : Side) (old : Half) (stream : Stream) (case : Case) (units : List MessageUnit) (places : List Place)
-    → IsAtHead side old stream case units → drop old.used stream.places ≡ places → head_unit side places ≡ Waits → next_in stream side case units ≡ None
+    → IsAtHead side old stream case units → drop old.used stream.places ≡ places → head_unit side places ≡ Waits 0 → next_in stream side case units ≡ None
 head_none side old stream case units places is rest waits =
     next_told side old.used (λ _. head_unit side) stream case units is.tells is.within
     ∙ ap (λ rest. unit_at old.used (head_unit side rest)) rest ∙ ap (unit_at old.used) waits
@@ -317,8 +326,8 @@ begins_head side half stream case units is stands before =
       tells = record {
         free = λ held. absurd cc;
         tells = λ ended behind ends.
-            ap (λ case. unit_at (place units) (decide side case (header_length stream units) ended (drop (place units) stream.places ++ behind))) before
-            ∙ ap (λ used. unit_at used (head_unit side (drop used stream.places ++ behind))) (sym how.0);
+            ap (λ case. later (place units) (decide side case (header_length stream units) ended (drop (place units) stream.places ++ behind))) before
+            ∙ ap (λ used. later used (head_unit side (drop used stream.places ++ behind))) (sym how.0);
         begun = omega (arith, how.0);
       };
       begins = how.0;

@@ -64,11 +64,11 @@ long_head_shows side bytes nowhere long =
     refused_shows side head_limit HeadTooLong (places_of bytes) (λ behind. until_long ending.Head head_limit HeadTooLong bytes behind nowhere long)
 
 pub head_waits : (side : Side) (search : Search) (bytes : List ℕ) → KnowsAll search ending.Head (take head_limit bytes) → length bytes < head_limit
-    → Knows search ending.Head (searched head_limit (places_of bytes)) × (head_unit side (places_of bytes) ≡ Waits)
+    → Knows search ending.Head (searched head_limit (places_of bytes)) × (head_unit side (places_of bytes) ≡ Waits 0)
 head_waits side search bytes knows short = (
   subst (λ all. Knows search ending.Head (take head_limit all)) (sym (before_gap-places bytes)) knows.1,
-  waits_then (head side) (λ found. gives (what.Head found)) (places_of bytes)
-      (waits_then (until ends_head head_limit HeadTooLong) (judge side) (places_of bytes)
+  waits_then (head side) (λ found. gives (what.Head found)) 0 (places_of bytes)
+      (waits_then (until ends_head head_limit HeadTooLong) (judge side) 0 (places_of bytes)
       (until_waits search ending.Head head_limit HeadTooLong bytes knows short)),
 )
 

@@ -21,3 +21,4 @@ pub mod PairLaws
 pub mod AnswerLaws
 pub mod StepLaws
 pub mod StandingLaws
+pub mod UnreadLaws

@@ -29,10 +29,10 @@ use Rattle.zk_http.specs.HalfTurns.{EndsAt, IsBehind, Moves}
 use Rattle.zk_http.specs.Pairing.{BehindHead, KeepsPairs, TakesHead, TakesRequest, TakesRequestKind, between_behind}
 use Rattle.zk_http.specs.Places.{Stream, Both}
 use Rattle.zk_http.specs.Reading.{Phase, Apart, Inside, Past, KnowsAt, KnowsIn, done_behind, means, means_at, phase_of}
-use Rattle.zk_http.specs.Reads.{Waits, Gives, and_then, any_places, gives}
+use Rattle.zk_http.specs.Reads.{Waits, Gives, and_then, any_places, gives, later}
 use Rattle.zk_http.specs.Standing.{StandsFor}
 use Rattle.zk_http.specs.Starts.{IsStart, state_behind}
-use Rattle.zk_http.specs.Units.{add, decide, decide_body, header_length, place, to_end, unit_at}
+use Rattle.zk_http.specs.Units.{add, decide, decide_body, header_length, place, to_end}
 use Rattle.zk_http.proofs.CaseLaws.{IsSettled, case_settled}
 use Rattle.zk_http.proofs.FollowLaws.{same_then}
 use Rattle.zk_http.proofs.HalfLaws.{last_of, place_of_last}
@@ -101,7 +101,7 @@ start_means : (body : Body) (start : Part) (header : ℕ) (ended : Bool) (places
 start_means Empty start header ended places is =
     let none : nat_le 0 (length places) ≡ true = le-leb 0 (length places) (omega arith) in
     sym (ap (λ start. means (record { part = start; header = header; body = 0; gap = 0 }) ended places) is
-    ∙ ap (λ test. and_then (cond test (Gives 0 (gaps (take 0 places))) Waits) (done_behind (record { part = part.Places 0; header = header; body = 0; gap = 0 }) 0) places) none)
+    ∙ ap (λ test. and_then (cond test (Gives 0 (gaps (take 0 places))) (Waits (length places))) (done_behind (record { part = part.Places 0; header = header; body = 0; gap = 0 }) 0) places) none)
 start_means (Length n) start header ended places is =
     let none : n ≡ 0 + n = omega arith in
     same_then (any_places n places) (λ gap. gives (kind.Done n header gap)) (done_behind (record { part = part.Places n; header = header; body = 0; gap = 0 }) n) places
@@ -158,10 +158,10 @@ body_stands side half new stream case units unit head body is behind started cas
       tells = record {
         free = λ held. absurd cc;
         tells = λ ended rest ends.
-            ap (λ case. unit_at (place (units ++ unit ∷ [])) (decide side case header ended (drop (place (units ++ unit ∷ [])) stream.places ++ rest))) case_is
-            ∙ ap (λ at. unit_at at (decide_body body header ended (drop at stream.places ++ rest))) at
-            ∙ ap (unit_at new.used) (start_means body begins.0 header ended (drop new.used stream.places ++ rest) begins.1)
-            ∙ ap (λ now. unit_at new.used (means_at now side ended (drop new.used stream.places ++ rest))) (sym then);
+            ap (λ case. later (place (units ++ unit ∷ [])) (decide side case header ended (drop (place (units ++ unit ∷ [])) stream.places ++ rest))) case_is
+            ∙ ap (λ at. later at (decide_body body header ended (drop at stream.places ++ rest))) at
+            ∙ ap (later new.used) (start_means body begins.0 header ended (drop new.used stream.places ++ rest) begins.1)
+            ∙ ap (λ now. later new.used (means_at now side ended (drop new.used stream.places ++ rest))) (sym then);
         begun = omega (arith, at);
       };
       knows = subst (λ now. KnowsAt now (drop new.used stream.places)) (sym then) (start_knows body begins.0 (drop new.used stream.places) begins.1);

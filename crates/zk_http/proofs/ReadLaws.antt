@@ -11,13 +11,13 @@ use Rattle.zk_http.specs.Reads.{Answer, Waits, Gives, Refuses, Reads, later, and
 
 -- an answer uses so many places at most
 abbrev pub IsWithin : {A : Type 0} → Answer A → ℕ → Type 0
-IsWithin Waits n = Unit {0}
+IsWithin (Waits used) n = Unit {0}
 IsWithin (Gives used value) n = used ≤ n
 IsWithin (Refuses used reason) n = used ≤ n
 
 -- an answer other than to wait is given later too
 abbrev pub Stays : {A : Type 0} → Answer A → Answer A → Type 0
-Stays Waits late = Unit {0}
+Stays (Waits used) late = Unit {0}
 Stays (Gives used value) late = late ≡ Gives used value
 Stays (Refuses used reason) late = late ≡ Refuses used reason
 
@@ -29,22 +29,22 @@ pub record Decides {A : Type 0} (read : Reads A) : Type 0 where
 -- ---- answers
 
 pub stays_same : {A : Type 0} (answer : Answer A) → Stays answer answer
-stays_same Waits = tt
+stays_same (Waits used) = tt
 stays_same (Gives used value) = refl
 stays_same (Refuses used reason) = refl
 
 pub stays_along : {A : Type 0} (early middle late : Answer A) → Stays early middle → Stays middle late → Stays early late
-stays_along Waits middle late first second = tt
+stays_along (Waits used) middle late first second = tt
 stays_along (Gives used value) middle late first second = subst (λ answer. Stays answer late) first second
 stays_along (Refuses used reason) middle late first second = subst (λ answer. Stays answer late) first second
 
 later_within : {A : Type 0} (n : ℕ) (answer : Answer A) (m : ℕ) → n ≤ m → IsWithin answer (m - n) → IsWithin (later n answer) m
-later_within n Waits m le within = tt
+later_within n (Waits used) m le within = tt
 later_within n (Gives used value) m le within = omega arith
 later_within n (Refuses used reason) m le within = omega arith
 
 pub later_stays : {A : Type 0} (n : ℕ) (early late : Answer A) → Stays early late → Stays (later n early) (later n late)
-later_stays n Waits late stays = tt
+later_stays n (Waits used) late stays = tt
 later_stays n (Gives used value) late stays = ap (later n) stays
 later_stays n (Refuses used reason) late stays = ap (later n) stays
 
@@ -52,7 +52,7 @@ later_stays n (Refuses used reason) late stays = ap (later n) stays
 
 and_then_within : {A B : Type 0} (answer : Answer A) (next : A → Reads B) (places : List Place) → IsWithin answer (length places)
     → ((value : A) → Decides (next value)) → IsWithin (and_then answer next places) (length places)
-and_then_within Waits next places within each = tt
+and_then_within (Waits used) next places within each = tt
 and_then_within (Gives used value) next places within each =
     later_within used (next value (drop used places)) (length places) within
     (subst (IsWithin (next value (drop used places))) (length-drop used places) ((each value).within (drop used places)))
@@ -60,7 +60,7 @@ and_then_within (Refuses used reason) next places within each = within
 
 and_then_stays : {A B : Type 0} (early late : Answer A) (next : A → Reads B) (places behind : List Place) → IsWithin early (length places)
     → Stays early late → ((value : A) → Decides (next value)) → Stays (and_then early next places) (and_then late next (places ++ behind))
-and_then_stays Waits late next places behind within stays each = tt
+and_then_stays (Waits used) late next places behind within stays each = tt
 and_then_stays (Gives used value) late next places behind within stays each =
     let early = next value (drop used places) in
     let goes_on : Stays early (next value (drop used (places ++ behind))) =
@@ -115,12 +115,12 @@ any_places_decides n = record {
 }
   where
     within : (places : List Place) (enough : Bool) → nat_le n (length places) ≡ enough
-        → IsWithin (cond enough (Gives n (gaps (take n places))) Waits) (length places)
+        → IsWithin (cond enough (Gives n (gaps (take n places))) (Waits (length places))) (length places)
     within places true is = leb-true n (length places) is
     within places false is = tt
 
     stays : (places behind : List Place) (enough : Bool) → nat_le n (length places) ≡ enough
-        → Stays (cond enough (Gives n (gaps (take n places))) Waits) (any_places n (places ++ behind))
+        → Stays (cond enough (Gives n (gaps (take n places))) (Waits (length places))) (any_places n (places ++ behind))
     stays places behind true is =
         let le = leb-true n (length places) is in
         let still = le-leb n (length (places ++ behind)) (omega (arith, length-append places behind)) in
@@ -202,7 +202,7 @@ not_yet_within limit reason places =
     within (nat_le limit (length (bytes_before_gap places))) (nat_lt (length (bytes_before_gap places)) (length places)) refl refl
   where
     within : (full gap : Bool) → nat_le limit (length (bytes_before_gap places)) ≡ full → nat_lt (length (bytes_before_gap places)) (length places) ≡ gap
-        → IsWithin {A = List ℕ} (cond full (Refuses limit reason) (cond gap (Refuses (length (bytes_before_gap places) + 1) Gap) Waits)) (length places)
+        → IsWithin {A = List ℕ} (cond full (Refuses limit reason) (cond gap (Refuses (length (bytes_before_gap places) + 1) Gap) (Waits 0))) (length places)
     within true gap full_is gap_is = omega (arith, leb-true limit (length (bytes_before_gap places)) full_is, length_before_gap places)
     within false true full_is gap_is = omega (arith, ltb-true (length (bytes_before_gap places)) (length places) gap_is)
     within false false full_is gap_is = tt
@@ -215,7 +215,7 @@ not_yet_stays ends limit reason places behind none =
     stays (nat_le limit (length (bytes_before_gap places))) (nat_lt (length (bytes_before_gap places)) (length places)) refl refl
   where
     stays : (full gap : Bool) → nat_le limit (length (bytes_before_gap places)) ≡ full → nat_lt (length (bytes_before_gap places)) (length places) ≡ gap
-        → Stays (cond full (Refuses limit reason) (cond gap (Refuses (length (bytes_before_gap places) + 1) Gap) Waits))
+        → Stays (cond full (Refuses limit reason) (cond gap (Refuses (length (bytes_before_gap places) + 1) Gap) (Waits 0)))
         (until ends limit reason (places ++ behind))
     stays true gap full_is gap_is =
         let grows = before_gap_grows places behind in

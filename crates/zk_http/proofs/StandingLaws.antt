@@ -16,8 +16,9 @@ use Rattle.zk_http.specs.Growth.{Grows}
 use Rattle.zk_http.specs.HalfStanding.{HalfStands, HowStands, IsInside}
 use Rattle.zk_http.specs.Places.{Stream, of_side}
 use Rattle.zk_http.specs.Reading.{Apart, Inside, KnowsAt, KnowsIn, Past, Phase, means_at, phase_of, seen_at, seen_in}
+use Rattle.zk_http.specs.Reads.{later}
 use Rattle.zk_http.specs.Standing.{LookWithin, StandAsTheyGrow, half_of, is_told, seen_of, used_of}
-use Rattle.zk_http.specs.Units.{decide, header_length, place, unit_at}
+use Rattle.zk_http.specs.Units.{decide, header_length, place}
 use Rattle.zk_http.proofs.GrowthLaws.{header_stays}
 use Rattle.zk_http.proofs.HalfLaws.{knows_in_grows, searched_grows}
 use Rattle.zk_http.proofs.StepLaws.{side_stands}
@@ -34,14 +35,14 @@ inside_grows side half early late case units grows within inside = record {
   tells = record {
     free = inside.tells.free;
     tells = λ ended behind ends.
-        ap (λ header. unit_at (place units) (decide side case header ended (drop (place units) late.places ++ behind))) header
-        ∙ ap (λ rest. unit_at (place units) (decide side case (header_length early units) ended rest)) (rest (place units) behind reached)
+        ap (λ header. later (place units) (decide side case header ended (drop (place units) late.places ++ behind))) header
+        ∙ ap (λ rest. later (place units) (decide side case (header_length early units) ended rest)) (rest (place units) behind reached)
         ∙ inside.tells.tells ended (grows.behind ++ behind)
         (λ over.
         let over_now = grows.ended over in
         let none = ends over_now.1 in
         (ap (λ behind. grows.behind ++ behind) none.0 ∙ append-nil grows.behind ∙ over_now.0, none.1))
-        ∙ ap (λ rest. unit_at half.used (means_at half.state side ended rest)) (sym (rest half.used behind within));
+        ∙ ap (λ rest. later half.used (means_at half.state side ended rest)) (sym (rest half.used behind within));
     begun = inside.tells.begun;
   };
   knows = subst (KnowsAt half.state) (sym more) (knows_at_grows half.state (drop half.used early.places) grows.behind inside.knows);

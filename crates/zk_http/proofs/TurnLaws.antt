@@ -1,5 +1,5 @@
 -- What the places that follow a head come to, part by part.
-use Rattle.std.proofs.Common.{◌≡◌, ℕ, zero, suc, ◌+◌, ◌-◌, ◌<◌, ◌≤◌, Bool, true, false, cond, List, [], ◌∷◌, ◌++◌, length, take, drop, replicate, None, Some, refl, sym, ap, subst, ◌∙◌, arith, length-append, length-drop}
+use Rattle.std.proofs.Common.{◌≡◌, ℕ, zero, suc, ◌+◌, ◌-◌, ◌<◌, ◌≤◌, Bool, true, false, cond, List, [], ◌∷◌, ◌++◌, length, take, drop, replicate, None, Some, refl, sym, ap, subst, ◌∙◌, arith, length-append}
 use Rattle.std.proofs.lemmas.List.{drop-drop}
 use Rattle.std.proofs.Math.Seq.{take-length, drop-length}
 use Rattle.zk_base.specs.Places.{Place, gaps}
@@ -87,11 +87,10 @@ places_go old new left is_gap places is alike fewer new_is = record {
         ∙ ap (λ n. Gives 0 (what.Done ((old.body + length places) + rest) old.header n)) gap_is
         ∙ ap (λ (reading : Reading). Gives 0 (what.Done (reading.body + rest) reading.header (reading.gap + gap))) (sym new_is)
 
-pub places_stop : (reading : Reading) (told : Bool) (left : ℕ) (places : List Place) → reading.part ≡ Places left → length places < left
-    → ShowsNothing reading told places
-places_stop reading told left places is fewer ended ends =
-    ap (λ read. read places) (means_is reading (Places left) ended is)
-    ∙ waits_then (any_places left) (done_behind reading left) places (places_wait left places fewer)
+places_stop : (reading : Reading) (told : Bool) (left : ℕ) → reading.part ≡ Places left → 0 < left → ShowsNothing reading told []
+places_stop reading told left is some ended ends =
+    ap (λ read. read []) (means_is reading (Places left) ended is)
+    ∙ waits_then (any_places left) (done_behind reading left) 0 [] (places_wait left [] some)
 
 pub places_turn : (old new : Reading) (told : Bool) (left n : ℕ) (is_gap : Bool) (places : List Place) → old.part ≡ Places left
     → AreAlike is_gap places → length places ≡ n → n < left
@@ -104,7 +103,7 @@ places_turn old new told left n is_gap places is alike count fewer new_is =
     let here : P (length places) = λ fewer new_is. (
       places_go old new left is_gap places is alike fewer new_is,
       subst (λ all. ShowsNothing new told all) (sym (drop-length places))
-          (places_stop new told (left - length places) [] (ap (λ reading. reading.part) new_is) (omega arith)),
+          (places_stop new told (left - length places) (ap (λ reading. reading.part) new_is) (omega arith)),
     ) in
     subst P count here fewer new_is
 
@@ -113,7 +112,9 @@ places_turn old new told left n is_gap places is alike count fewer new_is =
 to_end_goes : (old new : Reading) (n : ℕ) (ended : Bool) (places behind : List Place) → length places ≡ n
     → new ≡ record { part = ToEnd; header = old.header; body = old.body + n; gap = old.gap + gaps places }
     → means_in ToEnd old ended (places ++ behind) ≡ later n (means_in ToEnd new ended behind)
-to_end_goes old new n false places behind count new_is = refl
+to_end_goes old new n false places behind count new_is =
+    let all : length (places ++ behind) ≡ n + length behind = omega (arith, length-append places behind) in
+    ap (λ used. Waits used) all
 to_end_goes old new n true places behind count new_is =
     let all : length (places ++ behind) ≡ n + length behind = omega (arith, length-append places behind) in
     let used : length (places ++ behind) + 0 ≡ n + (length behind + 0) = omega (arith, length-append places behind) in
@@ -148,8 +149,8 @@ to_end_turn old new told n is_gap places is alike count going new_is = (
     counted : cond is_gap n 0 ≡ gaps places
     counted = sym (all_taken places is_gap alike ∙ ap (λ n. cond is_gap n 0) count)
 
-    waits : (ended : Bool) → (ended ≡ true → told ≡ true) → means_in ToEnd new ended (drop n places) ≡ Waits
-    waits false ends = refl
+    waits : (ended : Bool) → (ended ≡ true → told ≡ true) → means_in ToEnd new ended (drop n places) ≡ Waits 0
+    waits false ends = ap (λ places. means_in ToEnd new false places) none
     waits true ends = let both = ends refl in absurd cc
 
 -- ---- a chunk
@@ -177,12 +178,14 @@ chunk_turn old new told left n is_gap places is alike count fewer new_is = (
         (passed behind) ∙ ap (λ header. later n (done header (any_places rest >>= behind_chunk new rest) (drop n places ++ behind))) header);
     knows = subst (λ reading. KnowsIn reading.part (drop n places)) (sym new_is) tt;
   },
-  λ ended ends. ap (λ read. read (drop n places)) (means_is new (Chunk rest) ended then)
-      ∙ waits_then (any_places rest >>= behind_chunk new rest) (amount_done new) (drop n places)
-      (waits_then (any_places rest) (behind_chunk new rest) (drop n places)
-      (places_wait rest (drop n places) (omega (arith, length-drop n places)))),
+  λ ended ends. ap (λ places. means new ended places) none ∙ ap (λ read. read []) (means_is new (Chunk rest) ended then)
+      ∙ waits_then (any_places rest >>= behind_chunk new rest) (amount_done new) 0 []
+      (waits_then (any_places rest) (behind_chunk new rest) 0 [] (places_wait rest [] (omega arith))),
 )
   where
+    none : drop n places ≡ []
+    none = ap (λ n. drop n places) (sym count) ∙ drop-length places
+
     rest : ℕ
     rest = left - n
 
@@ -274,7 +277,7 @@ chunk_gap_shows reading told left count is lt ended behind from ends =
 -- ---- turns one behind another
 
 pub unit_later : (from n : ℕ) (answer : Answer UnitKind) → unit_at from (later n answer) ≡ unit_at (from + n) answer
-unit_later from n Waits = refl
+unit_later from n (Waits used) = refl
 unit_later from n (Gives used kind) = let same : from + (n + used) ≡ (from + n) + used = omega arith in ap (λ place. Some (record { place = place; what = kind })) same
 unit_later from n (Refuses used why) = let same : from + (n + used) ≡ (from + n) + used = omega arith in ap (λ place. Some (record { place = place; what = what.Violation why })) same
 

@@ -70,7 +70,7 @@ chunks_decide (suc count) amount =
 then_stays : {A B : Type 0} (answer : Answer A) (next again : A → Reads B) (places : List Place)
     → ((value : A) (rest : List Place) → Stays (next value rest) (again value rest))
     → Stays (and_then answer next places) (and_then answer again places)
-then_stays Waits next again places each = tt
+then_stays (Waits used) next again places each = tt
 then_stays (Gives used value) next again places each = later_stays used _ _ (each value _)
 then_stays (Refuses used reason) next again places each = refl
 
@@ -153,7 +153,7 @@ body_within (Unknown why) header ended places = omega arith
 held_within : (places : List Place) → IsWithin (held places) (length places)
 held_within places = within (nat_lt 65536 (length places)) refl
   where
-    within : (many : Bool) → nat_lt 65536 (length places) ≡ many → IsWithin {A = UnitKind} (cond many (Refuses 65537 Unpaired) Waits) (length places)
+    within : (many : Bool) → nat_lt 65536 (length places) ≡ many → IsWithin {A = UnitKind} (cond many (Refuses 65537 Unpaired) (Waits 0)) (length places)
     within true is = omega (arith, ltb-true 65536 (length places) is)
     within false is = tt
 

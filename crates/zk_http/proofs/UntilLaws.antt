@@ -88,7 +88,7 @@ all_taken (suc limit) [] lt = refl
 all_taken (suc limit) (first ∷ bytes) lt = ap (λ rest. first ∷ rest) (all_taken limit bytes (omega arith))
 
 pub until_waits : (search : Search) (ending : Ending) (limit : ℕ) (why : Reason) (bytes : List ℕ)
-    → KnowsAll search ending (take limit bytes) → length bytes < limit → until (ends ending) limit why (places_of bytes) ≡ Waits
+    → KnowsAll search ending (take limit bytes) → length bytes < limit → until (ends ending) limit why (places_of bytes) ≡ Waits 0
 until_waits search ending limit why bytes knows short =
     let none : shortest (ends ending) (take limit bytes) ≡ None =
     shortest_none (ends ending) (take limit bytes) (λ k le. knows.1.none k (omega (arith, knows.0))) in

@@ -75,7 +75,7 @@ chunk others amount (suc n) = any_places (suc n) >>= λ gaps. line_break >>= λ 
 
 -- at most so many chunks
 abbrev pub chunks : ℕ → Amount → Reads Amount
-chunks zero amount places = Waits
+chunks zero amount places = Waits 0
 chunks (suc count) amount places = (chunk_line >>= chunk (chunks count) amount) places
 
 -- a chunk takes at least a place

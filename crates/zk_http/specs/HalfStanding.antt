@@ -15,8 +15,8 @@ use Rattle.zk_http.specs.declared.units.UnitKind.TheVariants as unit
 use Rattle.zk_http.specs.Cases.{Case, Before, Held, Over}
 use Rattle.zk_http.specs.Places.{Stream}
 use Rattle.zk_http.specs.Reading.{Phase, Apart, Inside, Past, phase_of, KnowsAt, head_unit, means_at}
-use Rattle.zk_http.specs.Reads.{Reads}
-use Rattle.zk_http.specs.Units.{decide, header_length, place, unit_at}
+use Rattle.zk_http.specs.Reads.{Reads, later}
+use Rattle.zk_http.specs.Units.{decide, header_length, place}
 
 -- the last unit, if there is one, is the end of a message
 abbrev pub IsDone : UnitKind → Type 0
@@ -30,12 +30,12 @@ EndsMessage None = Unit {0}
 EndsMessage (Some last) = IsDone last.what
 
 -- The side is in a message: whatever comes behind the places that are there, what this reads of those that were not used
--- tells the unit that the definition has.
+-- tells the unit that the definition has; and where there is none, as many places are read.
 pub record TellsAs (side : Side) (used : ℕ) (meaning : Bool → Reads UnitKind) (stream : Stream) (case : Case) (units : List MessageUnit) : Type 0 where
   pub free : case ≡ Held → ⊥
   pub tells : (ended : Bool) (behind : List Place) → (stream.ended ≡ true → (behind ≡ []) × (ended ≡ true))
-      → unit_at (place units) (decide side case (header_length stream units) ended (drop (place units) stream.places ++ behind))
-      ≡ unit_at used (meaning ended (drop used stream.places ++ behind))
+      → later (place units) (decide side case (header_length stream units) ended (drop (place units) stream.places ++ behind))
+      ≡ later used (meaning ended (drop used stream.places ++ behind))
   pub begun : place units ≤ used
 
 -- nothing of a head was used

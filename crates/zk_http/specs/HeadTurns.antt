@@ -34,7 +34,7 @@ HeadShows side n what places =
 abbrev pub IsTold : Side → List ℕ → Told → Type 0
 IsTold side bytes (Is len text what) =
     HeadShows side len what (places_of bytes) × ((head : MessageHead) → what ≡ Head head → text ≡ text_length (take len bytes))
-IsTold side bytes (Waits search) = Knows search ending.Head (searched head_limit (places_of bytes)) × (head_unit side (places_of bytes) ≡ reads.Waits)
+IsTold side bytes (Waits search) = Knows search ending.Head (searched head_limit (places_of bytes)) × (head_unit side (places_of bytes) ≡ reads.Waits 0)
 
 -- how many of the bytes were read
 abbrev pub IsToldWithin : ℕ → Told → Type 0

@@ -53,10 +53,10 @@ head_unit side = head side >>= λ found. gives (what.Head found)
 
 -- and within a head
 abbrev pub means_at : State → Side → Bool → Reads UnitKind
-means_at Between side ended = λ _. Waits
+means_at Between side ended = λ _. Waits 0
 means_at (Head search) side ended = head_unit side
 means_at (Body reading) side ended = means reading ended
-means_at Over side ended = λ _. Waits
+means_at Over side ended = λ _. Waits 0
 
 -- ---- what was looked through
 

@@ -7,8 +7,8 @@ use Rattle.zk_base.specs.Places.{Place, gaps, bytes_before_gap}
 
 -- what the places that are there come to
 pub data Answer (A : Type 0) : Type 0 where
-  -- more places have to come
-  Waits : Answer A
+  -- more places have to come; the first ones, so many, are read, and no longer needed
+  Waits : (used : ℕ) → Answer A
   -- the first places, so many of them, are this
   Gives : (used : ℕ) (value : A) → Answer A
   -- the first places, so many of them, show that they are nothing
@@ -19,14 +19,20 @@ Reads A = List Place → Answer A
 
 -- the same answer, so many places further on
 abbrev pub later : {A : Type 0} → ℕ → Answer A → Answer A
-later n Waits = Waits
+later n (Waits used) = Waits (n + used)
 later n (Gives used value) = Gives (n + used) value
 later n (Refuses used reason) = Refuses (n + used) reason
 
 abbrev pub and_then : {A B : Type 0} → Answer A → (A → Reads B) → List Place → Answer B
-and_then Waits next places = Waits
+and_then (Waits used) next places = Waits used
 and_then (Gives used value) next places = later used (next value (drop used places))
 and_then (Refuses used reason) next places = Refuses used reason
+
+-- how many of the places are read
+abbrev pub used_in : {A : Type 0} → Answer A → ℕ
+used_in (Waits used) = used
+used_in (Gives used value) = used
+used_in (Refuses used reason) = used
 
 -- one form, and behind it the one that follows from it
 infixl 10 ◌>>=◌
@@ -41,11 +47,11 @@ refuses reason places = Refuses 0 reason
 
 -- so many places, whatever they hold: how many of them are gaps
 abbrev pub any_places : ℕ → Reads ℕ
-any_places n places = if nat_le n (length places) then Gives n (gaps (take n places)) else Waits
+any_places n places = if nat_le n (length places) then Gives n (gaps (take n places)) else Waits (length places)
 
 -- one byte
 abbrev pub byte : Reads ℕ
-byte [] = Waits
+byte [] = Waits 0
 byte (None ∷ places) = Refuses 1 Gap
 byte (Some found ∷ places) = Gives 1 found
 
@@ -63,7 +69,7 @@ not_yet limit reason places =
     let known = length (bytes_before_gap places) in
     if nat_le limit known then Refuses limit reason
     else if nat_lt known (length places) then Refuses (known + 1) Gap
-    else Waits
+    else Waits 0
 
 abbrev pub through : Option ℕ → ℕ → Reason → List Place → Answer (List ℕ)
 through None limit reason places = not_yet limit reason places

@@ -1,5 +1,5 @@
 -- What a reader of both streams stands for.
-use Rattle.std.specs.Prelude.{◌≡◌, ℕ, ◌+◌, ◌-◌, ◌≤◌, Bool, true, false, List, [], ◌∷◌, length, take, drop, map, replicate, slice_get, None}
+use Rattle.std.specs.Prelude.{◌≡◌, ◌⊎◌, ℕ, ◌+◌, ◌-◌, ◌≤◌, Bool, true, false, List, [], ◌∷◌, length, take, drop, map, replicate, slice_get, None}
 use Rattle.std.specs.List.{last_or}
 use Rattle.zk_base.specs.Places.{bytes_before_gap}
 use Rattle.zk_base.specs.declared.network.Side.{Side}
@@ -12,11 +12,12 @@ use Rattle.zk_http.specs.declared.http.Http.{Http}
 use Rattle.zk_http.specs.declared.units.Head.{Head as MessageHead}
 use Rattle.zk_http.specs.declared.units.«Unit».{«Unit» as MessageUnit}
 use Rattle.zk_http.specs.Bodies.{asked_by}
-use Rattle.zk_http.specs.Cases.{answers, between_requests, case_of, heads}
+use Rattle.zk_http.specs.Cases.{Held, answers, between_requests, case_of, heads}
 use Rattle.zk_http.specs.Places.{Stream, Both, of_side, other}
 use Rattle.zk_http.specs.Growth.{BothGrow}
 use Rattle.zk_http.specs.HalfStanding.{HalfStands, between_case, waits_in}
 use Rattle.zk_http.specs.Reading.{phase_of, seen_at}
+use Rattle.zk_http.specs.Units.{next, unread}
 
 -- The reader goes on as one that was given the places of these streams that it has used, and has told these units. A stream
 -- that has ended was told to have ended, or is still to be.
@@ -114,3 +115,10 @@ LookWithin =
     → (used_of side http ≤ length (of_side side streams).places)
     × (seen_of side http ≤ length (bytes_before_gap (drop (used_of side http) (of_side side streams).places)))
     × (is_told side http ≡ true → (of_side side streams).ended ≡ true)
+
+-- A side that has no further unit, and waits for the other or has looked at all that follows, has used all that is read.
+abbrev pub UseWhatIsRead : Type 0
+UseWhatIsRead =
+    (http : Http) (streams : Both Stream) (units : Both (List MessageUnit)) (side : Side) → StandsFor http streams units → next side streams units ≡ None
+    → ((case_of side units ≡ Held) ⊎ HasRead side http (length (drop (used_of side http) (of_side side streams).places)))
+    → drop (used_of side http) (of_side side streams).places ≡ unread side streams units

@@ -28,9 +28,9 @@ Shows reading told n what places =
     (ended : Bool) (behind : List Place) (from : ℕ) → (told ≡ true → (behind ≡ []) × (ended ≡ true))
     → unit_at from (means reading ended (places ++ behind)) ≡ Some (record { place = from + n; what = what })
 
--- As long as no more places come, these show nothing, unless the side has ended and that was not told.
+-- As long as no more places come, these show nothing, and none of them is read, unless the side has ended and that was not told.
 abbrev pub ShowsNothing : Reading → Bool → List Place → Type 0
-ShowsNothing reading told places = (ended : Bool) → (ended ≡ true → told ≡ true) → means reading ended places ≡ reads.Waits
+ShowsNothing reading told places = (ended : Bool) → (ended ≡ true → told ≡ true) → means reading ended places ≡ reads.Waits 0
 
 -- the places are all gaps, or all bytes
 abbrev pub AreAlike : Bool → List Place → Type 0

@@ -16,20 +16,20 @@ use Rattle.zk_http.specs.Heads.{head}
 use Rattle.zk_http.specs.Lines.{text_length}
 use Rattle.zk_base.specs.Places.{Place, gaps, bytes_before_gap}
 use Rattle.zk_http.specs.Places.{Stream, Both, of_side}
-use Rattle.zk_http.specs.Reads.{Answer, Waits, Gives, Refuses, Reads, ◌>>=◌, gives, refuses, any_places}
+use Rattle.zk_http.specs.Reads.{Answer, Waits, Gives, Refuses, Reads, ◌>>=◌, gives, refuses, any_places, used_in}
 
 -- ---- the next unit
 
 -- all places, once the side has ended
 abbrev pub to_end : Bool → Reads (List Place)
-to_end ended places = if ended then Gives (length places) places else Waits
+to_end ended places = if ended then Gives (length places) places else Waits (length places)
 
 -- so many places may wait for the other side
 abbrev pub waiting_limit : ℕ
 waiting_limit = 65536
 
 abbrev pub held : Reads UnitKind
-held places = if nat_lt waiting_limit (length places) then Refuses (waiting_limit + 1) reason.Unpaired else Waits
+held places = if nat_lt waiting_limit (length places) then Refuses (waiting_limit + 1) reason.Unpaired else Waits 0
 
 abbrev pub decide_body : Body → ℕ → Bool → Reads UnitKind
 decide_body Empty header ended = gives (Done 0 header 0)
@@ -44,10 +44,10 @@ abbrev pub decide : Side → Case → ℕ → Bool → Reads UnitKind
 decide side Before header ended = head side >>= λ head. gives (Head head)
 decide side (Within body) header ended = decide_body body header ended
 decide side Held header ended = held
-decide side Over header ended = λ _. Waits
+decide side Over header ended = λ places. Waits (length places)
 
 abbrev pub unit_at : ℕ → Answer UnitKind → Option MessageUnit
-unit_at place Waits = None
+unit_at place (Waits used) = None
 unit_at place (Gives used what) = Some (record { place = place + used; what = what })
 unit_at place (Refuses used why) = Some (record { place = place + used; what = Violation why })
 
@@ -74,6 +74,16 @@ next_in stream side case units =
 -- the next unit of a side, if the streams free one, behind the units of both sides
 unfoldable pub next : Side → Both Stream → Both (List MessageUnit) → Option MessageUnit
 next side streams units = next_in (of_side side streams) side (case_of side units) (of_side side units)
+
+-- the places of a side that are not read yet, where it has no further unit: a head, a chunk's line or a trailer that isn't whole,
+-- or what waits for the other side
+abbrev pub unread_in : Stream → Side → Case → List MessageUnit → List Place
+unread_in stream side case units =
+    let read = used_in (decide side case (header_length stream units) stream.ended (drop (place units) stream.places)) in
+    drop (place units + read) stream.places
+
+unfoldable pub unread : Side → Both Stream → Both (List MessageUnit) → List Place
+unread side streams units = unread_in (of_side side streams) side (case_of side units) (of_side side units)
 
 -- ---- units, one after another
 

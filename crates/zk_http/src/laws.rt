@@ -1,6 +1,6 @@
 ghost use Rattle.zk_http.specs.Grammar.{AreRequests, AreResponses, AreSizes};
 ghost use Rattle.zk_http.specs.Growth.{AreFirstUnits, ArePatient, IsGivenAgain, IsInStream};
-ghost use Rattle.zk_http.specs.Standing.{LookWithin, StandAsTheyGrow};
+ghost use Rattle.zk_http.specs.Standing.{LookWithin, StandAsTheyGrow, UseWhatIsRead};
 
 /// What heads and chunk lines are, by the grammar that `httparse` states (RFC 9112, sections 2 to 5 and
 /// 7.1). There is nothing to run.
@@ -40,4 +40,7 @@ pub fn readers_stand()
 
     // A reader uses and looks at places that are there, and was told to have ended what has.
     ensures within { LookWithin }
+
+    // A side without a further unit, that waits for the other or was looked through, has used all that is read.
+    ensures uses { UseWhatIsRead }
 {}

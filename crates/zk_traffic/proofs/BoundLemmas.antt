@@ -1,7 +1,9 @@
 -- How much the streams of live connections hold.
-use Rattle.std.proofs.Common.{◌≡◌, ℕ, ◌+◌, ◌*◌, ◌≤◌, Bool, true, false, List, [], ◌∷◌, sum_by, Option, None, Some, sym, ap, subst, ◌∙◌, arith}
+use Rattle.std.proofs.Common.{◌≡◌, ℕ, ◌+◌, ◌*◌, ◌≤◌, Bool, true, false, List, [], ◌∷◌, sum_by, Option, None, Some, refl, sym, ap, subst, ◌∙◌, arith}
 use Rattle.std.proofs.lemmas.Grind.{common_steps}
 use Rattle.std.proofs.lemmas.List.Sums.{sum_by-cons}
+use Rattle.zk_base.specs.declared.network.Side.{Side}
+use Rattle.zk_base.specs.declared.network.Side.TheVariants.{Orig, Resp}
 use Rattle.zk_reasm.specs.declared.stream.Stream.{Stream}
 use Rattle.zk_reasm.specs.Histories.{front_of}
 use Rattle.zk_reasm.proofs.ContentLemmas.{kept_bound, kept_is as kept_exact}
@@ -11,9 +13,9 @@ use Rattle.zk_traffic.specs.declared.item.Item.{Item}
 use Rattle.zk_traffic.specs.declared.options.Options.{Options}
 use Rattle.zk_traffic.specs.declared.streams.Streams.{Streams}
 use Rattle.zk_traffic.specs.declared.traffic.Traffic.{Traffic}
-use Rattle.zk_traffic.specs.Conversation.{Conversation, Direction}
+use Rattle.zk_traffic.specs.Conversation.{Conversation, Direction, protocol_of, stream_of, streams_of}
 use Rattle.zk_traffic.specs.Instances.{Instance, instances}
-use Rattle.zk_traffic.specs.Kept.{most_kept, held_by, held_in, held_in_all, live_streams, one_if, streams_in}
+use Rattle.zk_traffic.specs.Kept.{bytes_held, held_by, held_in, held_in_all, live_streams, one_if, streams_in, unread_in}
 use Rattle.zk_traffic.specs.Segments.{segments}
 use Rattle.zk_traffic.specs.Standing.{StandsFor}
 use Rattle.zk_traffic.specs.StreamTable.{HasStreams}
@@ -23,26 +25,34 @@ use Rattle.zk_traffic.proofs.DueLemmas.{all_are, live_left}
 use Rattle.zk_traffic.proofs.HoldsLemmas.{entry_live}
 use Rattle.zk_traffic.proofs.InstanceLemmas.{IsInstance}
 use Rattle.zk_traffic.proofs.LeftLemmas.{Each, left_each}
+use Rattle.zk_traffic.proofs.StreamTableLemmas.{held_none}
+use Rattle.zk_units.proofs.ReaderLemmas.{none_unread}
 
-one_held : (limit : ℕ) (s : Option Stream) (d : Option Direction) → IsStream limit s d → held_by limit d ≤ (limit + 65537) * one_if d
-one_held limit None None is = omega arith
-one_held limit None (Some d) is = absurd is
-one_held limit (Some s) None is = omega arith
-one_held limit (Some s) (Some d) is =
+-- a side whose reader leaves so many bytes
+one_held : (limit unread : ℕ) (s : Option Stream) (d : Option Direction) → IsStream limit s d → unread ≤ 65536 → (d ≡ None → unread ≡ 0)
+    → held_by limit d + unread ≤ (limit + 65537) * one_if d
+one_held limit unread None None is few none = omega (arith, none refl)
+one_held limit unread None (Some d) is few none = absurd is
+one_held limit unread (Some s) None is few none = omega (arith, none refl)
+one_held limit unread (Some s) (Some d) is few none =
     let exact = kept_exact s d.base limit d.told (front_of d.base limit d.told) is in
     let bound = kept_bound s d.base limit d.told (front_of d.base limit d.told) is in
     omega (arith, exact, bound)
 
 held_within : (limit : ℕ) (o : Option Streams) (c : Conversation) → HasStreams limit o c → held_in limit c ≤ (limit + 65537) * streams_in c
 held_within limit None c none =
-    let orig_is : held_by limit c.orig ≡ 0 = ap (held_by limit) none.0 in
-    let resp_is : held_by limit c.resp ≡ 0 = ap (held_by limit) none.1 in
+    let nothing = held_none limit c none.0 none.1 in
     let fits : 0 ≤ (limit + 65537) * streams_in c = omega arith in
-    omega (arith, orig_is, resp_is, fits)
+    omega (arith, nothing, fits)
 held_within limit (Some streams) c are =
-    let first = one_held limit streams.orig c.orig are.0.orig_is in
-    let second = one_held limit streams.resp c.resp are.0.resp_is in
+    let first = one_held limit (unread_in limit c Orig) streams.orig c.orig are.0.orig_is (few Orig)
+    (λ none. none_unread (protocol_of c) Orig (streams_of limit c.orig c.resp) c.«units» (ap (λ d. (stream_of limit d).places) none)) in
+    let second = one_held limit (unread_in limit c Resp) streams.resp c.resp are.0.resp_is (few Resp)
+    (λ none. none_unread (protocol_of c) Resp (streams_of limit c.orig c.resp) c.«units» (ap (λ d. (stream_of limit d).places) none)) in
     omega (arith, first, second)
+  where
+    few : (side : Side) → unread_in limit c side ≤ 65536
+    few side = omega (arith, are.1.few side, are.1.left side)
 
 sum_within : (limit : ℕ) (l : List Instance) → Each (λ i. held_in limit i.conversation ≤ (limit + 65537) * streams_in i.conversation) l
     → held_in_all limit l ≤ (limit + 65537) * sum_by (λ i. streams_in i.conversation) l
@@ -56,8 +66,8 @@ sum_within limit (i ∷ rest) each =
     sums limit all one more all_n n more_n all_is n_is first second = grind (arith, common_steps, all_is, n_is, first, second)
 
 pub kept_is : (traffic : Traffic) (options : Options) (link : ℕ) (records : List Packet) (given : List Item) (ended : Bool) → StandsFor traffic options link records given ended
-    → traffic.connections.table.streams.kept ≡ most_kept options link records ended
-unfolding most_kept
+    → traffic.connections.table.streams.kept ≡ bytes_held options link records ended
+unfolding bytes_held
 kept_is traffic options link records given true stands = stands.table_is
 kept_is traffic options link records given false stands =
     stands.table_is.holds.kept_is ∙ ap (held_in_all options.buffer) (sym (live_left options.buffer (segments options link records) (now records) (instances options.buffer (segments options link records)) (all_are options.buffer (segments options link records))))

@@ -3,10 +3,16 @@ use Rattle.std.proofs.Common.{◌≡◌, ℕ, ◌*◌, ◌+◌, ◌^◌, pos, Li
 use Rattle.std.specs.List.{flat_map}
 use Rattle.std.specs.Prelude.{codes}
 use Rattle.zk_base.specs.declared.network.Addr.TheVariants.{V4}
-use Rattle.zk_base.specs.declared.network.Proto.TheVariants.{Tcp}
+use Rattle.zk_base.specs.declared.network.Proto.{Proto}
+use Rattle.zk_base.specs.declared.network.Proto.TheVariants.{Tcp, Udp}
 use Rattle.zk_base.specs.declared.network.Side.{Side}
 use Rattle.zk_base.specs.declared.network.Side.TheVariants.{Orig, Resp}
 use Rattle.zk_base.specs.declared.time.Moment.{Moment}
+use Rattle.zk_dns.specs.Data.{alone_at, data_at, data_of, soa_at, strings_of}
+use Rattle.zk_dns.specs.Name.{ended, name_at, name_of, rest_at, run_at, run_of, run_step}
+use Rattle.zk_dns.specs.Record.{record_of}
+use Rattle.zk_dns.specs.Sections.{question_at, question_behind, resource_at, resource_behind, sections_behind, sections_of, several}
+use Rattle.zk_dns.specs.Stream.{units_from, units_of}
 use Rattle.zk_reasm.specs.Between.{held_between}
 use Rattle.zk_reasm.specs.Direction.{above, byte_at, front, reach, run_end, steps as told_steps}
 use Rattle.zk_reasm.specs.Histories.{content, counted, gets_place, is_over, kept_of, put_of}
@@ -16,54 +22,62 @@ use Rattle.zk_traffic.specs.declared.item.Item.{Item}
 use Rattle.zk_traffic.specs.declared.item.What.{What}
 use Rattle.zk_traffic.specs.declared.item.What.TheVariants as what
 use Rattle.zk_traffic.specs.Conversation.{datagram_units, freed_with, with_segment}
-use Rattle.zk_traffic.specs.Instances.{begun, instances, latest, live_at}
+use Rattle.zk_traffic.specs.Instances.{Instance, begun, instances, latest, live_at}
 use Rattle.zk_traffic.specs.Items.{own_items, removed_at, segment_items}
+use Rattle.zk_traffic.specs.Kept.{held_in}
 use Rattle.zk_traffic.specs.Segments.{Segment}
 use Rattle.zk_traffic.specs.Steps.{Step, steps}
 use Rattle.zk_units.specs.Protocols.{protocol_at}
-use Rattle.zk_units.specs.Units.{next_unit, units_freed}
+use Rattle.zk_units.specs.Units.{bytes_unread, message_unit, next_unit, units_freed}
 
 -- a moment some milliseconds after the first
 abbrev at : ℕ → Moment
 at milliseconds = record { 0 = pos (1000 * milliseconds) }
 
--- a segment of the client 10.0.0.1:40001 to the server 10.0.0.80:22, of whose protocol nothing is known
-abbrev client : ℕ → ℕ → ℕ → ℕ → List ℕ → Segment
-client milliseconds flags seq ack payload = record {
+-- a segment of the client 10.0.0.1:40001 to a port of the server 10.0.0.80, of whose payload the capture has these bytes
+abbrev client_to : Proto → ℕ → ℕ → ℕ → ℕ → ℕ → ℕ → List ℕ → Segment
+client_to proto port milliseconds flags seq ack len payload = record {
   moment = at milliseconds;
   view = record {
     src = V4 0x0a000001;
     dst = V4 0x0a000050;
     sport = 40001;
-    dport = 22;
-    proto = Tcp;
+    dport = port;
+    proto = proto;
     flags = flags;
     seq = seq;
-    payload_len = length payload;
-    ip_len = 40 + length payload;
+    payload_len = len;
+    ip_len = 40 + len;
   };
   ack = ack;
   payload = payload;
 }
 
 -- and back
-abbrev server : ℕ → ℕ → ℕ → ℕ → List ℕ → Segment
-server milliseconds flags seq ack payload = record {
+abbrev server_from : Proto → ℕ → ℕ → ℕ → ℕ → ℕ → ℕ → List ℕ → Segment
+server_from proto port milliseconds flags seq ack len payload = record {
   moment = at milliseconds;
   view = record {
     src = V4 0x0a000050;
     dst = V4 0x0a000001;
-    sport = 22;
+    sport = port;
     dport = 40001;
-    proto = Tcp;
+    proto = proto;
     flags = flags;
     seq = seq;
-    payload_len = length payload;
-    ip_len = 40 + length payload;
+    payload_len = len;
+    ip_len = 40 + len;
   };
   ack = ack;
   payload = payload;
 }
+
+-- of TCP, to and from port 22, of whose protocol nothing is known
+abbrev client : ℕ → ℕ → ℕ → ℕ → List ℕ → Segment
+client milliseconds flags seq ack payload = client_to Tcp 22 milliseconds flags seq ack (length payload) payload
+
+abbrev server : ℕ → ℕ → ℕ → ℕ → List ℕ → Segment
+server milliseconds flags seq ack payload = server_from Tcp 22 milliseconds flags seq ack (length payload) payload
 
 record Shown : Type 0 where
   moment : Moment
@@ -117,3 +131,36 @@ gap-items : shown gap (at 40)
     ∷ record { moment = at 40; word = codes "Removed"; numbers = 1 ∷ [] } ∷ []
 unfolding gap segment_items own_items latest begun instances with_segment front run_end byte_at reach told_steps acked fin_place payload_end places_of byte_of put_of content kept_of gets_place counted is_over above held_between freed_with datagram_units units_freed next_unit protocol_at
 gap-items = refl
+
+-- the client resets, and the server's FIN comes behind that, at the place where its stopped stream stands: its side ends
+fin_behind_reset : List Segment
+fin_behind_reset = client 0 2 100 0 [] ∷ server 10 18 500 101 [] ∷ client 20 4 101 0 [] ∷ server 30 17 501 101 [] ∷ []
+
+fin_behind_reset-items : shown fin_behind_reset (at 30)
+    ≡ record { moment = at 0; word = codes "Opened"; numbers = 1 ∷ [] } ∷ record { moment = at 10; word = codes "Established"; numbers = 1 ∷ [] }
+    ∷ record { moment = at 20; word = codes "Reset"; numbers = 1 ∷ [] } ∷ record { moment = at 30; word = codes "Ended"; numbers = 1 ∷ 1 ∷ [] }
+    ∷ record { moment = at 30; word = codes "Removed"; numbers = 1 ∷ [] } ∷ []
+unfolding fin_behind_reset segment_items own_items latest begun instances with_segment front run_end byte_at reach told_steps acked fin_place payload_end places_of byte_of put_of content kept_of gets_place counted is_over above held_between freed_with datagram_units units_freed next_unit protocol_at
+fin_behind_reset-items = refl
+
+-- the least message of DNS: a header that counts nothing
+least : List ℕ
+least = 0 ∷ 1 ∷ 0 ∷ 0 ∷ 0 ∷ 0 ∷ 0 ∷ 0 ∷ 0 ∷ 0 ∷ 0 ∷ 0 ∷ []
+
+-- datagrams of DNS: a message; one of which not all was captured, which gives nothing; and a byte that is no message
+datagrams : List Segment
+datagrams = client_to Udp 53 0 0 0 0 12 least ∷ server_from Udp 53 10 0 0 0 20 least ∷ server_from Udp 53 20 0 0 0 1 (7 ∷ []) ∷ []
+
+datagrams-items : shown datagrams (at 20)
+    ≡ record { moment = at 0; word = codes "Opened"; numbers = 1 ∷ [] } ∷ record { moment = at 0; word = codes "Dns"; numbers = 1 ∷ 0 ∷ 12 ∷ [] }
+    ∷ record { moment = at 20; word = codes "DnsBad"; numbers = 1 ∷ 1 ∷ 1 ∷ 1 ∷ [] } ∷ record { moment = at 20; word = codes "Removed"; numbers = 1 ∷ [] } ∷ []
+unfolding datagrams least segment_items own_items latest begun instances with_segment freed_with datagram_units units_freed next_unit protocol_at message_unit record_of sections_of sections_behind several question_at question_behind resource_at resource_behind name_at rest_at name_of ended run_at run_of run_step data_at data_of alone_at soa_at strings_of units_of units_from
+datagrams-items = refl
+
+-- of a message of DNS over TCP the length, 12, and one byte have come: these three bytes are held
+part : List Segment
+part = client_to Tcp 53 0 2 100 0 0 [] ∷ server_from Tcp 53 10 18 500 101 0 [] ∷ client_to Tcp 53 20 16 101 501 3 (0 ∷ 12 ∷ 7 ∷ []) ∷ []
+
+part-held : map (λ (i : Instance). held_in (2 ^ 20) i.conversation) (instances (2 ^ 20) part) ≡ 3 ∷ []
+unfolding part latest begun instances with_segment front run_end byte_at reach told_steps acked fin_place payload_end places_of byte_of put_of content kept_of gets_place counted is_over above held_between freed_with datagram_units units_freed next_unit protocol_at bytes_unread units_of units_from
+part-held = refl

@@ -29,6 +29,7 @@ use Rattle.zk_traffic.proofs.HoldsLemmas.{apart_number, has_number, held_live}
 use Rattle.zk_traffic.proofs.InstanceLemmas.{any-place}
 use Rattle.zk_traffic.proofs.PacketLemmas.{IsMore, IsNew, begun-packet, latest-packet, latest-packet-other, new_or_more, precede-packet}
 use Rattle.zk_traffic.proofs.SegmentLemmas.{begun-append, latest-append}
+use Rattle.zk_traffic.proofs.StreamTableLemmas.{held_none}
 use Rattle.zk_traffic.proofs.SumLemmas.{IsStep, held_begun, held_continued, last_place-push, last_place-within}
 use Rattle.zk_traffic.proofs.ToldLemmas.{AreQuiet, begun-quiet, latest-others, latest-quiet, precede-quiet}
 
@@ -98,7 +99,7 @@ kept_now limit segments s = ⊎_elim
     let sum = ap (λ l. held_in_all limit (left (gone_by limit (segments ++ s ∷ []) s.moment) (instances_from limit (segments ++ s ∷ []) 1 l))) (begun_new limit segments s new.begins_is)
     ∙ held_begun limit segments (segments ++ s ∷ []) (gone_by limit segments s.moment) (gone_by limit (segments ++ s ∷ []) s.moment) (key_of s.view) (with_segment limit (joined_by (latest limit (key_of s.view) segments) s) s)
     (step_is limit segments s) new.nothing 1 (begun limit segments) in
-    let none : held_in limit (joined_by (latest limit (key_of s.view) segments) s) ≡ 0 = ap (held_in limit) new.joined in
+    let none : held_in limit (joined_by (latest limit (key_of s.view) segments) s) ≡ 0 = ap (held_in limit) new.joined ∙ held_none limit (unbegun s) refl refl in
     omega (arith, sum, none))
     (λ (more : IsMore limit segments s).
     let sum = ap (λ l. held_in_all limit (left (gone_by limit (segments ++ s ∷ []) s.moment) (instances_from limit (segments ++ s ∷ []) 1 l))) (begun_more limit segments s more.begins_is) in
@@ -127,7 +128,7 @@ streams_found table limit segments told s holds = ⊎_elim
 pub held_found : (table : Table) (limit : ℕ) (segments : List Segment) (told : List Told) (s : Segment) → Holds table limit segments (gone_by limit segments s.moment) told
     → held_in limit (joined_by (latest limit (key_of s.view) segments) s) ≤ table.streams.kept
 held_found table limit segments told s holds = ⊎_elim
-    (λ (new : IsNew limit segments s). let none : held_in limit (joined_by (latest limit (key_of s.view) segments) s) ≡ 0 = ap (held_in limit) new.joined in omega (arith, none))
+    (λ (new : IsNew limit segments s). let none : held_in limit (joined_by (latest limit (key_of s.view) segments) s) ≡ 0 = ap (held_in limit) new.joined ∙ held_none limit (unbegun s) refl refl in omega (arith, none))
     (λ (more : IsMore limit segments s).
     let live : HasLive limit segments (gone_by limit segments s.moment) (key_of s.view) (number_of limit (key_of s.view) segments) more.d = record { latest_is = more.latest_is; not_gone = more.not_gone; number_is = refl } in
     omega (arith, held_live table limit segments (gone_by limit segments s.moment) told (key_of s.view) (number_of limit (key_of s.view) segments) more.d holds live, ap (held_in limit) more.joined))

@@ -1,20 +1,27 @@
--- How many bytes the streams of live connections hold, with those that wait to be read.
+-- How many bytes are held: those above the front of a live stream, and those below it that its reader leaves.
 use Rattle.std.specs.Prelude.{ℕ, ◌+◌, Bool, if◌then◌else◌, List, [], sum_by, Option, Some, None}
+use Rattle.zk_base.specs.declared.network.Side.{Side}
+use Rattle.zk_base.specs.declared.network.Side.TheVariants.{Orig, Resp}
 use Rattle.zk_pcap.specs.declared.records.Packet.{Packet}
 use Rattle.zk_pcap.specs.NetworkTime.{now}
 use Rattle.zk_reasm.specs.Histories.{front_of, kept_of}
 use Rattle.zk_traffic.specs.declared.options.Options.{Options}
-use Rattle.zk_traffic.specs.Conversation.{Conversation, Direction}
+use Rattle.zk_traffic.specs.Conversation.{Conversation, Direction, protocol_of, streams_of}
 use Rattle.zk_traffic.specs.Instances.{Instance, live_at}
 use Rattle.zk_traffic.specs.Segments.{segments}
+use Rattle.zk_units.specs.Units.{bytes_unread}
 
--- the bytes that a stream holds of which all below the front was taken, and as many as may wait to be read
+-- the bytes that a stream holds of which all below the front was taken
 abbrev pub held_by : ℕ → Option Direction → ℕ
 held_by limit None = 0
-held_by limit (Some d) = kept_of d.base limit d.told (front_of d.base limit d.told) + 65536
+held_by limit (Some d) = kept_of d.base limit d.told (front_of d.base limit d.told)
+
+-- the bytes of a side below its front that are not read yet: of a message that isn't whole, or that wait for the other side
+abbrev pub unread_in : ℕ → Conversation → Side → ℕ
+unread_in limit c side = bytes_unread (protocol_of c) side (streams_of limit c.orig c.resp) c.«units»
 
 abbrev pub held_in : ℕ → Conversation → ℕ
-held_in limit c = held_by limit c.orig + held_by limit c.resp
+held_in limit c = held_by limit c.orig + held_by limit c.resp + (unread_in limit c Orig + unread_in limit c Resp)
 
 abbrev pub one_if : Option Direction → ℕ
 one_if None = 0
@@ -31,9 +38,9 @@ abbrev pub live_behind : Options → ℕ → List Packet → Bool → List Insta
 live_behind options link records ended =
     if ended then [] else live_at options.buffer (segments options link records) (now records)
 
--- the bytes that live streams hold where as many as may wait to be read
-unfoldable pub most_kept : Options → ℕ → List Packet → Bool → ℕ
-most_kept options link records ended = held_in_all options.buffer (live_behind options link records ended)
+-- the bytes that live streams hold, each connection's by its own segments
+unfoldable pub bytes_held : Options → ℕ → List Packet → Bool → ℕ
+bytes_held options link records ended = held_in_all options.buffer (live_behind options link records ended)
 
 -- the number of live streams
 unfoldable pub live_streams : Options → ℕ → List Packet → Bool → ℕ

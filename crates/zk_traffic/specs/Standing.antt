@@ -22,10 +22,6 @@ HasFailed traffic = traffic.has_failed ≡ true
 abbrev pub waiting : Traffic → ℕ
 waiting traffic = length traffic.connections.items.items
 
--- how many bytes fewer wait to be read than may
-abbrev pub spare_bytes : Traffic → ℕ
-spare_bytes traffic = traffic.connections.table.streams.spare
-
 -- the table as it is behind some segments and at a moment; behind the end it has nothing, and nothing more is known of it
 abbrev pub IsTable : Table → ℕ → List Segment → Moment → Bool → Type 0
 IsTable table limit segments t false = IsCurrent table limit segments t

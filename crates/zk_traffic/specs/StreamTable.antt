@@ -1,7 +1,6 @@
 -- What the table of streams has of a connection, and what a segment does there.
-use Rattle.std.specs.Prelude.{◌≡◌, ℕ, ◌+◌, ◌≤◌, ◌++◌, Option, Some, None}
-use Rattle.std.specs.BTreeMap as tree
-use Rattle.std.specs.Ordering.{nat_cmp}
+use Rattle.std.specs.Prelude.{◌≡◌, ℕ, ◌+◌, ◌≤◌, ◌++◌, nat_eq, Option, Some, None}
+use Rattle.std.specs.HashMap as hashed
 use Rattle.zk_base.specs.declared.network.Side.{Side}
 use Rattle.zk_base.specs.declared.numbers.ConnNo.{ConnNo}
 use Rattle.zk_traffic.specs.declared.news.News.{News}
@@ -10,7 +9,7 @@ use Rattle.zk_traffic.specs.declared.streams.Moves.{Moves}
 use Rattle.zk_traffic.specs.declared.streams.Streams.{Streams}
 use Rattle.zk_traffic.specs.Conversation.{Conversation, freed_with, gives_up, other, protocol_of, sender_in, streams_of, with_segment}
 use Rattle.zk_traffic.specs.Items.{fresh_with}
-use Rattle.zk_traffic.specs.Kept.{held_in}
+use Rattle.zk_traffic.specs.Kept.{held_in, unread_in}
 use Rattle.zk_traffic.specs.Moves.{IsMove, segment_gaps}
 use Rattle.zk_traffic.specs.News.{runs_of}
 use Rattle.zk_traffic.specs.Segments.{Segment}
@@ -20,12 +19,13 @@ use Rattle.zk_units.specs.Standing as readers
 use Rattle.zk_units.specs.Units.{no_units}
 
 unfoldable pub entry_at : StreamTable → ℕ → Option Streams
-entry_at table number = tree.get nat_cmp table.streams number
+entry_at table number = hashed.get nat_eq table.streams number
 
--- all units of the streams were read, and few bytes wait
+-- all units of the streams were read, and the bytes that are kept are those that are not read, few of each side
 pub record HasRead (limit : ℕ) (reads : Readers) (c : Conversation) : Type 0 where
   pub stands : readers.StandsFor reads (protocol_of c) (streams_of limit c.orig c.resp) c.«units»
   pub few : (side : Side) → readers.held_in side reads ≤ 65536
+  pub left : (side : Side) → readers.held_in side reads ≡ unread_in limit c side
 
 -- the streams of a connection, where it has an entry
 abbrev pub HasStreams : ℕ → Option Streams → Conversation → Type 0

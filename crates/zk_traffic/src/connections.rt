@@ -43,18 +43,11 @@ impl Connections {
         }
     }
 
-    /// How many bytes all streams hold where as many as may wait to be read.
+    /// How many bytes all streams hold, with those that wait to be read.
     pub fn kept(&self) -> u64
         ensures { result ≡ self.now.table.streams.kept }
     {
         self.table.kept()
-    }
-
-    /// How many bytes fewer of all streams wait to be read than may.
-    pub fn spare(&self) -> u64
-        ensures { result ≡ self.now.table.streams.spare }
-    {
-        self.table.spare()
     }
 
     /// What the last packet brought.

@@ -10,7 +10,7 @@ use crate::news::News;
 use crate::segment::Segment;
 use crate::streams::{Moved, Moves, Stops, Streams};
 use std::alloc::Global;
-use std::collections::BTreeMap;
+use std::collections::HashMap;
 use zk_base::{ConnNo, Mem, Side};
 use zk_units::Protocol;
 
@@ -20,11 +20,9 @@ pub struct StreamTable {
     alloc: Global,
     limit: u64,
     /// The streams of the connections that have one, by the number of the connection.
-    streams: BTreeMap<u64, Streams>,
-    /// How many bytes all streams hold where as many as may wait to be read.
+    streams: HashMap<u64, Streams>,
+    /// How many bytes all streams hold, with those that wait to be read.
     kept: u64,
-    /// How many bytes fewer wait to be read than may.
-    spare: u64,
 }
 
 /// What a segment does to no streams.
@@ -51,24 +49,16 @@ impl StreamTable {
         StreamTable {
             alloc,
             limit,
-            streams: BTreeMap::new(alloc),
+            streams: HashMap::new(alloc),
             kept: 0,
-            spare: 0,
         }
     }
 
-    /// How many bytes all streams hold where as many as may wait to be read.
+    /// How many bytes all streams hold, with those that wait to be read.
     pub fn kept(&self) -> u64
         ensures { result ≡ self.now.kept }
     {
         self.kept
-    }
-
-    /// How many bytes fewer of all streams wait to be read than may.
-    pub fn spare(&self) -> u64
-        ensures { result ≡ self.now.spare }
-    {
-        self.spare
     }
 
     /// Tells the streams of a connection of a segment of this side.
@@ -105,7 +95,6 @@ impl StreamTable {
     {
         if let Some(streams) = self.streams.remove(&conn.0) {
             self.kept = self.kept.saturating_sub(streams.kept().unwrap_or(0));
-            self.spare = self.spare.saturating_sub(streams.spare());
         }
     }
 
@@ -145,13 +134,11 @@ impl StreamTable {
             return Ok(NO_MOVES);
         };
         let before = streams.kept().ok_or(Mem)?;
-        let spare = self.spare.saturating_sub(streams.spare());
         let moves = streams.take(self.alloc, self.limit, conn, side, stops, segment, news)?;
         streams.read(side, news)?;
         let after = streams.kept().ok_or(Mem)?;
         let others = self.kept.saturating_sub(before);
         self.kept = others.checked_add(after).ok_or(Mem)?;
-        self.spare = spare.checked_add(streams.spare()).ok_or(Mem)?;
         Ok(moves)
     }
 }

@@ -1,5 +1,6 @@
 ghost use Rattle.std.specs.Prelude.{◌≡◌, ℕ, ◌+◌, ◌≤◌, ◌<◌, ◌^◌, Bool, true, not, ◌&&◌, if◌then◌else◌, List, [], ◌++◌, Option, None, Some, IfOk, IfSome, OnOk, MatchOption};
 ghost use Rattle.zk_base.specs.declared.network.Side.{Side as SideData};
+ghost use Rattle.zk_base.specs.declared.network.Side.TheVariants.{Orig, Resp};
 ghost use Rattle.zk_base.specs.declared.time.Moment.{Moment};
 ghost use Rattle.zk_conn.specs.Segment.{has_ack, has_rst, has_syn};
 ghost use Rattle.zk_http.specs.Places.{Both, Stream as Placed, of_side};
@@ -61,9 +62,6 @@ pub struct Stops {
     pub was_reset: bool,
 }
 
-/// How many bytes of a stream may wait to be read.
-const MOST_UNREAD: u64 = 65536;
-
 /// A stream that has not moved.
 const UNMOVED: Moved = Moved {
     front: None,
@@ -84,20 +82,16 @@ impl Streams {
         }
     }
 
-    /// How many bytes the streams hold where as many as may wait to be read: nothing where that passes
-    /// the greatest number.
+    /// How many bytes the streams hold, with those that wait to be read: nothing where that passes the
+    /// greatest number.
     pub fn kept(&self) -> Option<u64>
         ensures { (limit : ℕ) (orig resp : Option Direction) → AreStreams limit self.now orig resp
-            → MatchOption result (2 ^ 64 ≤ held_by limit orig + held_by limit resp) (λ n. n ≡ held_by limit orig + held_by limit resp) }
+            → MatchOption result (2 ^ 64 ≤ held_by limit orig + held_by limit resp + (held_in Orig self.now.readers + held_in Resp self.now.readers))
+            (λ n. n ≡ held_by limit orig + held_by limit resp + (held_in Orig self.now.readers + held_in Resp self.now.readers)) }
     {
-        let orig = kept(&self.orig)?;
-        orig.checked_add(kept(&self.resp)?)
-    }
-
-    /// How many bytes fewer wait to be read than may.
-    pub fn spare(&self) -> u64 {
-        let orig = spare(&self.orig, self.readers.held(Side::Orig));
-        orig.saturating_add(spare(&self.resp, self.readers.held(Side::Resp)))
+        let streams = kept(&self.orig).checked_add(kept(&self.resp))?;
+        let orig = self.readers.held(Side::Orig);
+        streams.checked_add(orig.checked_add(self.readers.held(Side::Resp))?)
     }
 
     /// Adds the units that the streams free: those of this side first.
@@ -183,19 +177,11 @@ impl Streams {
 }
 
 /// How many bytes a stream holds.
-fn kept(stream: &Option<Stream>) -> Option<u64>
-    ensures { (limit : ℕ) (d : Option Direction) → IsStream limit stream.now d → MatchOption result (2 ^ 64 ≤ held_by limit d) (λ n. n ≡ held_by limit d) }
+fn kept(stream: &Option<Stream>) -> u64
+    ensures { (limit : ℕ) (d : Option Direction) → IsStream limit stream.now d → result ≡ held_by limit d }
 {
     match stream {
-        Some(stream) => stream.kept().checked_add(MOST_UNREAD),
-        None => Some(0),
-    }
-}
-
-/// How many bytes fewer of a stream wait to be read than may.
-fn spare(stream: &Option<Stream>, unread: u64) -> u64 {
-    match stream {
-        Some(_) => MOST_UNREAD.saturating_sub(unread),
+        Some(stream) => stream.kept(),
         None => 0,
     }
 }

@@ -82,18 +82,11 @@ impl Table {
         }
     }
 
-    /// How many bytes all streams hold where as many as may wait to be read.
+    /// How many bytes all streams hold, with those that wait to be read.
     pub fn kept(&self) -> u64
         ensures { result ≡ self.now.streams.kept }
     {
         self.streams.kept()
-    }
-
-    /// How many bytes fewer of all streams wait to be read than may.
-    pub fn spare(&self) -> u64
-        ensures { result ≡ self.now.streams.spare }
-    {
-        self.streams.spare()
     }
 
     /// Removes the first connection that is due by a moment.

@@ -11,7 +11,7 @@ ghost use Rattle.zk_conn.specs.declared.key.Key.{Key};
 ghost use Rattle.zk_traffic.specs.Conversation.{Conversation};
 ghost use Rattle.zk_traffic.specs.Instances.{is_over_by, latest as latest_of, segments_of};
 ghost use Rattle.zk_traffic.specs.Items.{fresh_at, items_of, own_items, segment_items};
-ghost use Rattle.zk_traffic.specs.Kept.{live_streams, most_kept};
+ghost use Rattle.zk_traffic.specs.Kept.{bytes_held, live_streams};
 ghost use Rattle.zk_traffic.specs.Own.{with_number};
 ghost use Rattle.zk_traffic.specs.Segments.{Segment as SegmentData};
 ghost use Rattle.zk_traffic.specs.Steps.{Step};
@@ -85,7 +85,7 @@ fn latest(a: Moment, b: Moment) -> Moment
 }
 
 impl Traffic {
-    ghost use Rattle.zk_traffic.specs.Standing.{HasFailed, StandsFor, spare_bytes, waiting};
+    ghost use Rattle.zk_traffic.specs.Standing.{HasFailed, StandsFor, waiting};
     ghost use Rattle.zk_traffic.specs.Taking.{HasTaken, IsReady};
 
     /// A capture of this link type, before its first packet.
@@ -154,18 +154,15 @@ impl Traffic {
         ended
     }
 
-    /// How many bytes are held: those that the streams of live connections hold, and those that wait
-    /// to be read, of which a stream has at most 65,536. That is the most that there may be, without
-    /// what there is less.
+    /// How many bytes are held: those that came ahead of a hole in a live stream, and those below its
+    /// front that are not read yet, as a message that isn't whole, of which a stream has at most 65,536.
     pub fn kept(&self) -> u64
         ensures exact { (options : OptionsData) (link : ℕ) (records : List Packet) (given : List ItemData) (ended : Bool) → StandsFor self.now options link records given ended
-            → result ≡ most_kept options link records ended - spare_bytes self.now }
+            → result ≡ bytes_held options link records ended }
         ensures bound { (options : OptionsData) (link : ℕ) (records : List Packet) (given : List ItemData) (ended : Bool) → StandsFor self.now options link records given ended
             → result ≤ (options.buffer + 65537) * live_streams options link records ended }
     {
-        self.connections
-            .kept()
-            .saturating_sub(self.connections.spare())
+        self.connections.kept()
     }
 
     /// The k-th run of bytes by which the last packet moved a front: those of its sender's stream

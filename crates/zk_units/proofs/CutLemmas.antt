@@ -1,10 +1,12 @@
 -- Bytes that are cut by gaps, as they grow and are passed.
-use Rattle.std.proofs.Common.{◌≡◌, ℕ, zero, suc, ◌+◌, ◌-◌, ◌<◌, ◌≤◌, List, [], ◌∷◌, ◌++◌, length, take, drop, Some, None, refl, sym, ap, ◌∙◌, arith, append_assoc}
-use Rattle.std.proofs.lemmas.List.{append-nil, drop-append-le, drop-drop, drop-map, drop-replicate, drop-take, length-append, length-drop, length-map, length-replicate, length-take-le, map-append, take-append-le, take_all}
-use Rattle.std.proofs.lemmas.List.Sums.{sum_by-cons}
+use Rattle.std.proofs.Common.{◌≡◌, ℕ, zero, suc, ◌+◌, ◌-◌, ◌<◌, ◌≤◌, cond, List, [], ◌∷◌, ◌++◌, length, take, drop, Some, None, refl, sym, ap, ◌∙◌, arith, append_assoc}
+use Rattle.std.specs.Prelude.{is_some}
+use Rattle.std.proofs.lemmas.List.{append-nil, drop-append-le, drop-drop, drop-map, drop-replicate, drop-take, length-append, length-drop, length-map, length-replicate, length-take-le, map-append, take-append-drop, take-append-le, take_all}
+use Rattle.std.proofs.lemmas.List.Sums.{sum_by-append, sum_by-cons}
 use Rattle.zk_base.specs.Places.{Place, bytes_before_gap}
 use Rattle.zk_units.specs.declared.unread.Cut.{Cut}
 use Rattle.zk_units.specs.Cuts.{byte_places, gap_places, gaps_in, places_cut, runs_in}
+use Rattle.zk_units.specs.Units.{bytes_in}
 
 -- ---- bytes ahead of a gap
 
@@ -134,3 +136,33 @@ pub run-within : (places : List Place) → length (bytes_before_gap places) ≤ 
 run-within [] = omega arith
 run-within (None ∷ places) = omega arith
 run-within (Some byte ∷ places) = omega (arith, run-within places)
+
+-- ---- how many bytes there are
+
+bytes-append : (xs ys : List Place) → bytes_in (xs ++ ys) ≡ bytes_in xs + bytes_in ys
+bytes-append xs ys = sum_by-append (λ place. cond (is_some place) 1 0) xs ys
+
+bytes-places : (bytes : List ℕ) → bytes_in (byte_places bytes) ≡ length bytes
+bytes-places [] = refl
+bytes-places (byte ∷ bytes) = omega (arith, bytes-append (Some byte ∷ []) (byte_places bytes), bytes-places bytes)
+
+bytes-gap : (n : ℕ) → bytes_in (gap_places n) ≡ 0
+bytes-gap zero = refl
+bytes-gap (suc n) = bytes-append (None ∷ []) (gap_places n) ∙ (let same : bytes_in (gap_places n) ≡ 0 = bytes-gap n in omega (arith, same))
+
+-- cuts take no bytes away
+pub bytes-cut : (bytes : List ℕ) (cuts : List Cut) → bytes_in (places_cut bytes cuts) ≡ length bytes
+bytes-cut bytes [] = bytes-places bytes
+bytes-cut bytes (cut ∷ cuts) =
+    let front = take cut.run bytes in
+    let rest = drop cut.run bytes in
+    omega (
+      arith,
+      bytes-append (byte_places front) (gap_places cut.gap ++ places_cut rest cuts),
+      bytes-append (gap_places cut.gap) (places_cut rest cuts),
+      bytes-places front,
+      bytes-gap cut.gap,
+      bytes-cut rest cuts,
+      ap length (take-append-drop cut.run bytes),
+      length-append front rest,
+    )

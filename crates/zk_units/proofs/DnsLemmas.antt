@@ -1,6 +1,7 @@
 -- A side of DNS over TCP, as it is read on.
 use Rattle.std.proofs.Common.{◌≡◌, ℕ, zero, suc, ◌+◌, ◌-◌, ◌<◌, ◌≤◌, Bool, true, false, cond, ◌&&◌, leb, List, [], ◌∷◌, ◌++◌, length, take, drop, Option, Some, None, IfOk, Result, Ok, Err, refl, sym, ap, subst, ◌∙◌, arith, ⊎_elim, append_assoc}
 use Rattle.std.specs.Prelude.{replicate, slice_get, slice_index}
+use Rattle.std.specs.List.{last_or}
 use Rattle.std.specs.Option.{option_map, option_to_list}
 use Rattle.std.proofs.lemmas.Bool.{cases_lt, le-leb, true≢false}
 use borrow.Author.Tests.{leb-false, leb-true}
@@ -20,7 +21,7 @@ use Rattle.zk_units.specs.declared.stream_unit.StreamUnit.{StreamUnit}
 use Rattle.zk_units.specs.declared.unread.Unread.{Unread}
 use Rattle.zk_units.specs.Cuts.{byte_places, gap_places}
 use Rattle.zk_units.specs.Standing.{DnsStands, DnsTurn, GoesOn, IsOver, SideStands, SideTurn, Stands, add_some, behind}
-use Rattle.zk_units.specs.Units.{message_unit, tcp_unit}
+use Rattle.zk_units.specs.Units.{behind_last, message_unit, tcp_unit}
 use Rattle.zk_units.specs.Unread.{places_of, run_of}
 
 -- the run, and what stands behind it
@@ -28,6 +29,10 @@ split_run : (places : List Place) → byte_places (bytes_before_gap places) ++ d
 split_run [] = refl
 split_run (None ∷ places) = refl
 split_run (Some byte ∷ places) = ap (λ l. Some byte ∷ l) (split_run places)
+
+last_of : {A : Type 0} (before : Option A) (xs : List A) (x : A) → last_or before (xs ++ x ∷ []) ≡ Some x
+last_of before [] x = refl
+last_of before (first ∷ xs) x = last_of (Some first) xs x
 
 at_end : {A : Type 0} (xs ys : List A) (y : A) → slice_get (xs ++ y ∷ ys) (length xs) ≡ Some y
 at_end [] ys y = refl
@@ -51,12 +56,14 @@ goes_further u u' places more given on grown = record {
   within = omega (arith, on.within, length-append places more);
   places_are = grown ∙ ap (λ l. l ++ more) on.places_are ∙ sym (drop-append-le on.from places more on.within);
   units_are = λ rest. ap dns.units (append_assoc places more rest) ∙ on.units_are (more ++ rest) ∙ ap (λ l. given ++ dns.units_from on.from (drop on.from l)) (sym (append_assoc places more rest));
+  behind_is = on.behind_is;
 }
 
 pub stays_over : (u : Unread) (places more : List Place) (given : List dns.TcpUnit) → IsOver u places given → IsOver u (places ++ more) given
 stays_over u places more given over = record {
   none = over.none;
   units_are = λ rest. ap dns.units (append_assoc places more rest) ∙ over.units_are (more ++ rest);
+  behind_is = over.behind_is;
 }
 
 pub side_grows : (old new : DnsSide) (stream : Stream) (more : List Place) (count : ℕ) → SideStands old stream count → old.is_over ≡ false → new.is_over ≡ false
@@ -109,9 +116,11 @@ message_taken old new stream count used from to stands goes still step low passe
       within = omega (arith, on.within, low, run_low, ap length on.places_are, length-drop on.from stream.places);
       places_are = passed ∙ ap (drop used) on.places_are ∙ drop-drop used on.from stream.places;
       units_are = λ more. all more ∙ sym (append_assoc stands.given (message ∷ []) (behind_all more)) ∙ ap (λ l. (stands.given ++ message ∷ []) ++ l) (rest_is more);
+      behind_is = λ all. ap (λ o. behind_last o all) (last_of None stands.given message);
     });
   };
   few = λ none. absurd (some_none none);
+  left = λ none. absurd (some_none none);
 }
   where
     u : Unread
@@ -151,6 +160,7 @@ none_yet side stream count stands goes step whole few = record {
   next_is = next-none (dns.units stream.places) stands.given count (ap dns.units (sym (append-nil stream.places)) ∙ all) stands.count_is;
   stands = subst (SideStands side stream) (let e : count ≡ count + 0 = omega arith in e) stands;
   few = λ _. few;
+  left = λ _. on.places_are ∙ sym (on.behind_is stream.places) ∙ sym (ap (λ l. behind_last (last_or None l) stream.places) (ap dns.units (sym (append-nil stream.places)) ∙ all));
 }
   where
     u : Unread
@@ -178,9 +188,10 @@ gap_found old new stream count gap stands goes over none step some gap_is = reco
   stands = record {
     given = stands.given ++ fault ∷ [];
     count_is = omega (arith, length-append stands.given (fault ∷ []), stands.count_is);
-    stands = subst (λ b. Stands b new.«unread» stream.places (stands.given ++ fault ∷ [])) (sym over) (record { none = none; units_are = all });
+    stands = subst (λ b. Stands b new.«unread» stream.places (stands.given ++ fault ∷ [])) (sym over) (record { none = none; units_are = all; behind_is = λ all. ap (λ o. behind_last o all) (last_of None stands.given fault) });
   };
   few = λ e. absurd (some_none e);
+  left = λ e. absurd (some_none e);
 }
   where
     u : Unread
@@ -225,6 +236,7 @@ over_turn side stream count stands is within =
       next_is = next-none (dns.units stream.places) stands.given count (ap dns.units (sym (append-nil stream.places)) ∙ over.units_are []) stands.count_is;
       stands = subst (SideStands side stream) (let e : count ≡ count + 0 = omega arith in e) stands;
       few = λ _. omega (arith, within, ap length over.none);
+      left = λ _. over.none ∙ sym (over.behind_is stream.places) ∙ sym (ap (λ l. behind_last (last_or None l) stream.places) (ap dns.units (sym (append-nil stream.places)) ∙ over.units_are []));
     }
 
 -- ---- both sides
@@ -239,6 +251,7 @@ turn_orig old new found streams units same other turn = record {
   next_is = turn.next_is;
   stands = by_found found turn.stands;
   few = turn.few;
+  left = turn.left;
   other = same;
 }
   where
@@ -255,6 +268,7 @@ turn_resp old new found streams units same other turn = record {
   next_is = turn.next_is;
   stands = by_found found turn.stands;
   few = turn.few;
+  left = turn.left;
   other = same;
 }
   where

@@ -43,7 +43,7 @@ few_held : (at : ℕ) (places : List Place) → unit_at at (held places) ≡ Non
 few_held at places none = ⊎_elim (λ many. absurd (too_many many)) (λ few. ltb-false 65536 (length places) few) (cases_Bool (ltb 65536 (length places)))
   where
     too_many : ltb 65536 (length places) ≡ true → ⊥
-    too_many many = none_some _ (sym (ap (λ b. unit_at at (cond b (Refuses 65537 Unpaired) Waits)) many) ∙ none)
+    too_many many = none_some _ (sym (ap (λ b. unit_at at (cond b (Refuses 65537 Unpaired) (Waits 0))) many) ∙ none)
 
 next_held : (side : Side) (streams : Both Stream) (units : Both (List HttpUnit)) (case : Case) → case ≡ Held → next_in (of_side side streams) side case (of_side side units) ≡ None
     → place (of_side side units) ≤ length (of_side side streams).places → length (drop (place (of_side side units)) (of_side side streams).places) ≤ 65536

@@ -1,5 +1,5 @@
 -- A side of HTTP, as it is read on.
-use Rattle.std.proofs.Common.{◌≡◌, ℕ, ◌+◌, ◌-◌, ◌<◌, ◌≤◌, true, List, length, take, drop, Option, Some, None, OnErr, Result, Ok, Err, refl, sym, ap, ◌∙◌, arith}
+use Rattle.std.proofs.Common.{◌≡◌, ℕ, ◌+◌, ◌-◌, ◌<◌, ◌≤◌, true, List, length, take, drop, Option, Some, None, OnErr, Result, Ok, Err, inl, inr, refl, sym, ap, subst, ◌∙◌, arith}
 use Rattle.std.specs.Prelude.{◌↔◌, replicate}
 use Rattle.std.specs.Option.{IfSome, MatchOption}
 use Rattle.std.proofs.lemmas.List.{drop-drop, length-drop}
@@ -11,9 +11,10 @@ use Rattle.zk_http.specs.declared.units.Step.{Step}
 use Rattle.zk_http.specs.declared.units.«Unit».{«Unit» as HttpUnit}
 use Rattle.zk_http.specs.Cases.{Held, case_of}
 use Rattle.zk_http.specs.Places.{Both, Stream, of_side, other}
-use Rattle.zk_http.specs.Standing.{HasGap, IsAll, IsLent, IsSame, StandsFor, Takes, is_told, seen_of, used_of}
+use Rattle.zk_http.specs.Standing.{HasGap, HasRead, IsAll, IsLent, IsSame, StandsFor, Takes, is_told, seen_of, used_of}
 use Rattle.zk_http.specs.Units.{add, next}
 use Rattle.zk_http.proofs.StandingLaws.{look_within}
+use Rattle.zk_http.proofs.UnreadLaws.{use_what_is_read}
 use Rattle.zk_units.specs.declared.http.Reading.{Reading}
 use Rattle.zk_units.specs.declared.http.Reading.TheVariants.{Found, Used, Waits}
 use Rattle.zk_units.specs.declared.unread.Unread.{Unread}
@@ -114,6 +115,7 @@ pub told_none : (side : Side) (old mid : Http) (u u' : Unread) → IsTold side o
 told_none side old mid u u' told has = record {
   none = λ streams units are is. let both = told.stands streams units are is in has.none streams units both.0 both.1;
   few = λ streams units are is. let both = told.stands streams units are is in has.few streams units both.0 both.1;
+  left = λ streams units are is. let both = told.stands streams units are is in has.left streams units both.0 both.1;
 }
 
 -- one turn behind another that found nothing
@@ -137,6 +139,7 @@ pub turns_none : (side : Side) (a b : Http) (u v w : Unread) → ReadsOn side a 
 turns_none side a b u v w first has = record {
   none = λ streams units are is. has.none streams units (first.stands streams units are is) (first.«unread» streams units are is);
   few = λ streams units are is. has.few streams units (first.stands streams units are is) (first.«unread» streams units are is);
+  left = λ streams units are is. has.left streams units (first.stands streams units are is) (first.«unread» streams units are is);
 }
 
 -- nothing was read yet
@@ -194,18 +197,19 @@ gap_turn side old new u u' step places after fits some gap all found stands take
 -- ---- where nothing was found
 
 -- the run is all that is there, and tells nothing
-pub bytes_none : (side : Side) (old mid : Http) (u u' : Unread) (bytes : List ℕ) (used : ℕ) → bytes ≡ run_of u → IsTold side old mid u
+pub bytes_none : (side : Side) (old mid new : Http) (u u' : Unread) (bytes : List ℕ) (used : ℕ) → bytes ≡ run_of u → IsTold side old mid u
     → ((streams : Both Stream) (units : Both (List HttpUnit)) → StandsFor mid streams units → IsLent mid side (of_side side streams) bytes
     → IsAll mid side (of_side side streams) bytes → next side streams units ≡ None)
     → used ≤ length bytes → places_of u' ≡ drop used (places_of u) → length (run_of u') ≡ length (places_of u') → length bytes - used ≤ 65536
-    → length (bytes_of u'.bytes) ≤ length (places_of u') → HasNone side old u u'
-bytes_none side old mid u u' bytes used run told found low places whole few held = record {
-  none = λ streams units are is.
+    → length (bytes_of u'.bytes) ≤ length (places_of u') → ReadsOn side mid new u u' None → HasRead side new (length bytes - used) → HasNone side old u u'
+bytes_none side old mid new u u' bytes used run told found low places whole few held reads read = record {
+  none = empty;
+  left = λ streams units are is.
       let both = told.stands streams units are is in
-      found streams units both.0 (is_lent side mid u bytes streams units run both.0 both.1) (record {
-        front = omega (arith, all, ap length run, ap length both.1.places_are, length-drop (used_of side mid) (of_side side streams).places, used_within mid streams units side both.0);
-        told = λ ended. told.told (is.ended_is ∙ ended) all;
-      });
+      let left = reads.«unread» streams units both.0 both.1 in
+      let count : length bytes - used ≡ length (drop (used_of side new) (of_side side streams).places) =
+      omega (arith, ap length left.places_are, all, ap length run, ap length places, length-drop used (places_of u)) in
+      left.places_are ∙ use_what_is_read new streams units side (reads.stands streams units both.0 both.1) (empty streams units are is) (inr (subst (HasRead side new) count read));
   few = λ streams units are is. omega (arith, held, ap length places, length-drop used (places_of u), all, ap length run, few);
 }
   where
@@ -223,6 +227,14 @@ bytes_none side old mid u u' bytes used run told found low places whole few held
       length-drop used (run_of u),
     )
 
+    empty : (streams : Both Stream) (units : Both (List HttpUnit)) → StandsFor old streams units → IsUnread side old u (of_side side streams) → next side streams units ≡ None
+    empty streams units are is =
+        let both = told.stands streams units are is in
+        found streams units both.0 (is_lent side mid u bytes streams units run both.0 both.1) (record {
+          front = omega (arith, all, ap length run, ap length both.1.places_are, length-drop (used_of side mid) (of_side side streams).places, used_within mid streams units side both.0);
+          told = λ ended. told.told (is.ended_is ∙ ended) all;
+        })
+
 -- nothing was used of a gap: the side waits for the other
 pub gap_none : (side : Side) (old : Http) (u u' : Unread) (used places after : ℕ) → used ≡ 0 → places_of u' ≡ drop used (places_of u)
     → take places (drop (length (run_of u)) (places_of u)) ≡ replicate places None → length (places_of u) ≡ length (run_of u) + places + after
@@ -235,6 +247,9 @@ gap_none side old u u' used places after is_none passed gap all found held = rec
       let f = found streams units are (has_gap side old u streams units places after are is gap all) in
       let few = few_waiting side old u streams units are is (f.0.0 is_none) (f.1 is_none) in
       omega (arith, held, few, ap length passed, length-drop used (places_of u));
+  left = λ streams units are is.
+      let f = found streams units are (has_gap side old u streams units places after are is gap all) in
+      passed ∙ ap (λ n. drop n (places_of u)) is_none ∙ is.places_are ∙ use_what_is_read old streams units side are (f.1 is_none) (inl (f.0.0 is_none));
 }
 
 pub fits_told : (side : Side) (old mid : Http) (u : Unread) → Fits side old u → IsTold side old mid u → Fits side mid u

@@ -12,7 +12,7 @@ use Rattle.zk_http.specs.declared.units.«Unit».{«Unit» as HttpUnit}
 use Rattle.zk_http.specs.Growth.{Grows}
 use Rattle.zk_http.specs.Places.{Both, Stream, of_side, other}
 use Rattle.zk_http.specs.Standing.{StandsFor, is_told, used_of}
-use Rattle.zk_http.specs.Units.{next}
+use Rattle.zk_http.specs.Units.{next, unread as not_read}
 use Rattle.zk_http.proofs.StandingLaws.{look_within, stand_as_they_grow}
 use Rattle.zk_units.specs.declared.http_reader.HttpReader.{HttpReader}
 use Rattle.zk_units.specs.declared.unread.Unread.{Unread}
@@ -52,6 +52,14 @@ few_left side old u u' (Some one) streams units none stands is e = absurd (some_
     some_none : {A : Type 0} {x : A} → Some x ≡ None → ⊥
     some_none e = cc
 
+left_over : (side : Side) (old : Http) (u u' : Unread) (found : Option HttpUnit) (streams : Both Stream) (units : Both (List HttpUnit))
+    → IfNone found (HasNone side old u u') → StandsFor old streams units → IsUnread side old u (of_side side streams) → found ≡ None → places_of u' ≡ not_read side streams units
+left_over side old u u' None streams units none stands is e = none.left streams units stands is
+left_over side old u u' (Some one) streams units none stands is e = absurd (some_none e)
+  where
+    some_none : {A : Type 0} {x : A} → Some x ≡ None → ⊥
+    some_none e = cc
+
 pub next_orig : (a b : HttpReader) (found : Option HttpUnit) → b.resp ≡ a.resp → ReadsOn Orig a.http b.http a.orig b.orig found → IfNone found (HasNone Orig a.http a.orig b.orig)
     → (streams : Both Stream) (units : Both (List HttpUnit)) → HttpStands a streams units → NextIs Orig a b found streams units
 next_orig a b found same reads none streams units is = record {
@@ -62,6 +70,7 @@ next_orig a b found same reads none streams units is = record {
     resp = subst (λ u. IsUnread Resp b.http u streams.resp) (sym same) (unread_kept Orig a.http b.http a.resp streams.resp reads.other is.resp);
   };
   few = few_left Orig a.http a.orig b.orig found streams units none is.stands is.orig;
+  left = left_over Orig a.http a.orig b.orig found streams units none is.stands is.orig;
   other = same;
 }
 
@@ -75,6 +84,7 @@ next_resp a b found same reads none streams units is = record {
     orig = subst (λ u. IsUnread Orig b.http u streams.orig) (sym same) (unread_kept Resp a.http b.http a.orig streams.orig reads.other is.orig);
   };
   few = few_left Resp a.http a.resp b.resp found streams units none is.stands is.resp;
+  left = left_over Resp a.http a.resp b.resp found streams units none is.stands is.resp;
   other = same;
 }
 

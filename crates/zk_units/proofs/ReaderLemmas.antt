@@ -1,5 +1,5 @@
 -- The readers of both protocols.
-use Rattle.std.proofs.Common.{◌≡◌, ℕ, zero, suc, ◌≤◌, true, List, [], ◌∷◌, ◌++◌, length, Option, Some, None, refl, sym, ap, subst, ◌∙◌, arith, append_assoc}
+use Rattle.std.proofs.Common.{◌≡◌, ℕ, zero, suc, ◌+◌, ◌≤◌, true, List, [], ◌∷◌, ◌++◌, length, drop, Option, Some, None, refl, sym, ap, subst, ◌∙◌, arith, append_assoc}
 use Rattle.std.specs.List.{filter_map}
 use Rattle.std.specs.Option.{option_map, option_or, option_to_list}
 use Rattle.std.proofs.lemmas.List.{append-nil}
@@ -20,14 +20,22 @@ use Rattle.zk_units.specs.declared.readers.Reader.TheVariants as reads
 use Rattle.zk_units.specs.declared.unread.Unread.{Unread}
 use Rattle.zk_base.specs.ByteQueue.{bytes_of}
 use Rattle.zk_dns.specs.Stream.{units_from, units_of}
-use Rattle.zk_http.specs.Reads.{shortest}
-use Rattle.zk_http.specs.Units.{next}
+use Rattle.zk_http.specs.Cases.{case_of}
+use Rattle.zk_http.specs.Reads.{shortest, used_in}
+use Rattle.zk_http.specs.Units.{next, unread as not_read}
 use Rattle.zk_units.specs.declared.readers.Readers.{Readers}
 use Rattle.zk_units.specs.declared.stream_unit.Freed.{Freed}
 use Rattle.zk_units.specs.declared.stream_unit.StreamUnit.{StreamUnit}
 use Rattle.zk_units.specs.declared.stream_unit.StreamUnit.TheVariants as says
 use Rattle.zk_units.specs.Standing.{BothTurn, DnsStands, DnsTurn, Gets, HttpStands, NextIs, StandsBy, StandsFor, Turn, add_some, behind, dns_side, ended_by, held_by, held_in, no_streams, unread_of, with_stream}
-use Rattle.zk_units.specs.Units.{add, add_all, freed, http_in, http_units, all_freed, many, next_of_both, next_unit, no_units, units_freed}
+use Rattle.zk_units.specs.Unread.{cuts_of, places_of}
+use Rattle.zk_units.proofs.CutLemmas.{bytes-cut}
+use Rattle.zk_units.specs.Units.{add, add_all, bytes_in, bytes_unread, dns_unread, freed, http_in, http_units, all_freed, many, next_of_both, next_unit, no_units, units_freed}
+
+-- how many bytes are kept of a side
+bytes_counted : (u : Unread) → bytes_in (places_of u) ≡ length (bytes_of u.bytes)
+unfolding places_of
+bytes_counted u = bytes-cut (bytes_of u.bytes) (cuts_of u)
 
 -- what stands behind a reader of HTTP or of DNS
 pub http_stands : (P : Option Protocol → Type 0) (reader : HttpReader) (protocol : Option Protocol) (streams : Both Stream) (units : Both (List StreamUnit))
@@ -155,7 +163,7 @@ none_said (Some one) none = absurd (some_none none)
 pub turn_http : (side : Side) (old new : Readers) (a b : HttpReader) (found : Option HttpUnit) → old.reader ≡ reads.Http a → new.reader ≡ reads.Http b
     → ((streams : Both Stream) (units : Both (List HttpUnit)) → HttpStands a streams units → NextIs side a b found streams units)
     → (protocol : Option Protocol) (streams : Both Stream) (units : Both (List StreamUnit)) → StandsFor old protocol streams units → Turn side old new (said found) protocol streams units
-unfolding StandsFor held_in next_unit
+unfolding StandsFor held_in next_unit bytes_unread
 turn_http side old new a b found old_is new_is next protocol streams units stands =
     http_stands (λ p. Turn side old new (said found) p streams units) a protocol streams units (subst (λ r. StandsBy r protocol streams units) old_is stands)
     (λ is.
@@ -165,6 +173,7 @@ turn_http side old new a b found old_is new_is next protocol streams units stand
       stands = subst (λ r. StandsBy r (Some speaks.Http) streams (add_some side (said found) units)) (sym new_is)
           (subst (HttpStands b streams) (sym (http_added side found units)) turn.stands);
       few = λ none. omega (arith, ap (held_by side) new_is, held_http side b, turn.few (none_said found none));
+      left = λ none. ap (held_by side) new_is ∙ held_http side b ∙ sym (bytes_counted (unread_of side b)) ∙ ap bytes_in (turn.left (none_said found none));
       other = ap (held_by (other side)) new_is ∙ held_same side a b turn.other ∙ sym (ap (held_by (other side)) old_is);
     })
   where
@@ -185,7 +194,7 @@ turn_http_is side old new a b found told old_is new_is is next protocol streams 
 pub turn_dns : (side : Side) (old new : Readers) (a b : DnsReader) (found : Option StreamUnit) → old.reader ≡ reads.Dns a → new.reader ≡ reads.Dns b
     → ((streams : Both Stream) (units : Both (List StreamUnit)) → DnsStands a streams units → DnsTurn side a b found streams units)
     → (protocol : Option Protocol) (streams : Both Stream) (units : Both (List StreamUnit)) → StandsFor old protocol streams units → Turn side old new found protocol streams units
-unfolding StandsFor held_in next_unit
+unfolding StandsFor held_in next_unit bytes_unread
 turn_dns side old new a b found old_is new_is next protocol streams units stands =
     dns_stands (λ p. Turn side old new found p streams units) a protocol streams units (subst (λ r. StandsBy r protocol streams units) old_is stands)
     (λ is.
@@ -194,6 +203,7 @@ turn_dns side old new a b found old_is new_is next protocol streams units stands
       next_is = turn.next_is;
       stands = subst (λ r. StandsBy r (Some speaks.Dns) streams (add_some side found units)) (sym new_is) turn.stands;
       few = λ none. omega (arith, ap (held_by side) new_is, held_dns side b, turn.few none);
+      left = λ none. ap (held_by side) new_is ∙ held_dns side b ∙ sym (bytes_counted (dns_side side b).«unread») ∙ ap bytes_in (turn.left none);
       other = ap (held_by (other side)) new_is ∙ held_same side a b turn.other ∙ sym (ap (held_by (other side)) old_is);
     })
   where
@@ -207,13 +217,14 @@ turn_dns side old new a b found old_is new_is next protocol streams units stands
 
 pub turn_silent : (side : Side) (old new : Readers) → old.reader ≡ reads.Silent → new.reader ≡ reads.Silent
     → (protocol : Option Protocol) (streams : Both Stream) (units : Both (List StreamUnit)) → StandsFor old protocol streams units → Turn side old new None protocol streams units
-unfolding StandsFor held_in next_unit
+unfolding StandsFor held_in next_unit bytes_unread
 turn_silent side old new old_is new_is protocol streams units stands =
     silent_stands (λ p. Turn side old new None p streams units) protocol streams units (subst (λ r. StandsBy r protocol streams units) old_is stands)
     (record {
       next_is = refl;
       stands = subst (λ r. StandsBy r None streams units) (sym new_is) tt;
       few = λ none. omega (arith, ap (held_by side) new_is);
+      left = λ none. ap (held_by side) new_is;
       other = ap (held_by (other side)) new_is ∙ sym (ap (held_by (other side)) old_is);
     })
 
@@ -229,6 +240,7 @@ both_first side old new found protocol streams units turn = record {
   next_is = ap (λ o. option_or (option_map (freed side) o) (option_map (freed (other side)) (next_unit protocol (other side) streams units))) turn.next_is;
   stands = turn.stands;
   few = λ none. absurd (some_none none);
+  left = λ none. absurd (some_none none);
 }
   where
     some_none : {A : Type 0} {x : A} → Some x ≡ None → ⊥
@@ -241,6 +253,7 @@ both_second side old mid new found protocol streams units first second = record 
       ∙ ap (option_map (freed (other side))) second.next_is;
   stands = by_found found second.stands;
   few = λ none. each side (first.few refl) (second.few (not_found found none)) second.other;
+  left = λ none. each_left side (first.left refl) (second.left (not_found found none)) second.other;
 }
   where
     some_none : {A : Type 0} {x : A} → Some x ≡ None → ⊥
@@ -259,6 +272,13 @@ both_second side old mid new found protocol streams units first second = record 
     each Orig low high same Resp = high
     each Resp low high same Orig = high
     each Resp low high same Resp = omega (arith, low, same)
+
+    each_left : (s : Side) → held_in s mid ≡ bytes_unread protocol s streams units → held_in (other s) new ≡ bytes_unread protocol (other s) streams units
+        → held_in (other (other s)) new ≡ held_in (other (other s)) mid → (of : Side) → held_in of new ≡ bytes_unread protocol of streams units
+    each_left Orig first second same Orig = same ∙ first
+    each_left Orig first second same Resp = second
+    each_left Resp first second same Orig = second
+    each_left Resp first second same Resp = same ∙ first
 
 -- ---- all units
 
@@ -309,6 +329,22 @@ none_next (Some speaks.Http) Resp = refl
 none_next (Some speaks.Dns) Orig = refl
 none_next (Some speaks.Dns) Resp = refl
 
+drop-none : (n : ℕ) → drop n (let places : List Place = [] in places) ≡ []
+drop-none zero = refl
+drop-none (suc n) = refl
+
+-- of a stream of which nothing has come nothing is unread
+pub none_unread : (protocol : Option Protocol) (side : Side) (streams : Both Stream) (units : Both (List StreamUnit)) → (of_side side streams).places ≡ []
+    → bytes_unread protocol side streams units ≡ 0
+unfolding bytes_unread not_read units_from units_of
+none_unread None side streams units none = refl
+none_unread (Some speaks.Http) side streams units none =
+    let stream = of_side side streams in
+    let us = of_side side (http_units units) in
+    let from = http.place us + used_in (http.decide side (case_of side (http_units units)) (http.header_length stream us) stream.ended (drop (http.place us) stream.places)) in
+    ap (λ places. bytes_in (drop from places)) none ∙ ap bytes_in (drop-none from)
+none_unread (Some speaks.Dns) side streams units none = ap (λ places. bytes_in (dns_unread places)) none
+
 -- streams of which nothing has come free no unit
 pub none_freed : (protocol : Option Protocol) (side : Side) → all_freed protocol side no_streams no_units ≡ []
 none_freed protocol side =
@@ -319,9 +355,11 @@ none_freed protocol side =
 pub reads_all : (first side : Side) (initial now next : Readers) (before after : List Freed) (n left : ℕ) (protocol : Option Protocol) (streams : Both Stream) (given : Both (List StreamUnit))
     → (reading : IsReading first side initial now before after n left protocol streams given) → BothTurn side next None protocol streams reading.units
     → (after ≡ before ++ units_freed n protocol first streams given) × StandsFor next protocol streams (add_all (units_freed n protocol first streams given) given) × ((s : Side) → held_in s next ≤ 65536)
+    × ((s : Side) → held_in s next ≡ bytes_unread protocol s streams (add_all (units_freed n protocol first streams given) given))
 reads_all first side initial now next before after n left protocol streams given reading turn =
     let none = freed-none left protocol side streams reading.units turn.next_is in (
       sym (reading.found ∙ ap (λ l. after ++ l) none ∙ append-nil after),
       subst (StandsFor next protocol streams) (sym (ap (λ l. add_all l reading.units) none) ∙ reading.behind) turn.stands,
       turn.few refl,
+      λ s. turn.left refl s ∙ ap (bytes_unread protocol s streams) (sym (ap (λ l. add_all l reading.units) none) ∙ reading.behind),
     )

@@ -7,7 +7,7 @@ use Rattle.zk_http.specs.declared.http.Http.{Http}
 use Rattle.zk_http.specs.declared.units.«Unit».{«Unit» as HttpUnit}
 use Rattle.zk_http.specs.Places.{Both, Stream, of_side, other}
 use Rattle.zk_http.specs.Standing.{StandsFor, used_of, seen_of, is_told}
-use Rattle.zk_http.specs.Units.{add, next}
+use Rattle.zk_http.specs.Units.{add, next, unread as not_read}
 use Rattle.zk_units.specs.declared.http.Reading.{Reading}
 use Rattle.zk_units.specs.declared.http.Reading.TheVariants.{Found, Waits, Used}
 use Rattle.zk_units.specs.declared.unread.Unread.{Unread}
@@ -57,12 +57,14 @@ pub record ReadsOn (side : Side) (old new : Http) (before after : Unread) (found
   pub next_is : IfSome found (λ (one : HttpUnit). (streams : Both Stream) (units : Both (List HttpUnit)) → StandsFor old streams units
       → IsUnread side old before (of_side side streams) → next side streams units ≡ Some one)
 
--- a side has no further unit, and few bytes are left
+-- a side has no further unit, few bytes are left, and the places that are left are those that are not read
 pub record HasNone (side : Side) (old : Http) (before after : Unread) : Type 0 where
   pub none : (streams : Both Stream) (units : Both (List HttpUnit)) → StandsFor old streams units → IsUnread side old before (of_side side streams)
       → next side streams units ≡ None
   pub few : (streams : Both Stream) (units : Both (List HttpUnit)) → StandsFor old streams units → IsUnread side old before (of_side side streams)
       → length (bytes_of after.bytes) ≤ 65536
+  pub left : (streams : Both Stream) (units : Both (List HttpUnit)) → StandsFor old streams units → IsUnread side old before (of_side side streams)
+      → places_of after ≡ not_read side streams units
 
 -- what was found
 abbrev pub unit_of : Reading → Option HttpUnit

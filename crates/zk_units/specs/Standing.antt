@@ -1,5 +1,6 @@
 -- What the readers of a connection stand for.
 use Rattle.std.specs.Prelude.{◌≡◌, ℕ, ◌+◌, ◌≤◌, Bool, true, false, ◌||◌, List, [], ◌++◌, length, drop, slice_get, Option, Some, None}
+use Rattle.std.specs.List.{last_or}
 use Rattle.std.specs.Option.{option_map, option_to_list}
 use Rattle.zk_base.specs.ByteQueue.{bytes_of}
 use Rattle.zk_base.specs.Places.{Place}
@@ -8,7 +9,7 @@ use Rattle.zk_base.specs.declared.network.Side.TheVariants.{Orig, Resp}
 use Rattle.zk_dns.specs.Stream as dns
 use Rattle.zk_http.specs.declared.units.«Unit».{«Unit» as HttpUnit}
 use Rattle.zk_http.specs.Places.{Both, Stream, of_side, other}
-use Rattle.zk_http.specs.Units.{add, next}
+use Rattle.zk_http.specs.Units.{add, next, unread as not_read}
 use Rattle.zk_http.specs.Standing as http
 use Rattle.zk_units.specs.declared.dns.DnsReader.{DnsReader}
 use Rattle.zk_units.specs.declared.dns.DnsSide.{DnsSide}
@@ -22,7 +23,7 @@ use Rattle.zk_units.specs.declared.stream_unit.StreamUnit.{StreamUnit}
 use Rattle.zk_units.specs.declared.unread.Unread.{Unread}
 use Rattle.zk_units.specs.HttpTurns.{IsUnread}
 use Rattle.zk_units.specs.declared.stream_unit.Freed.{Freed}
-use Rattle.zk_units.specs.Units.{add_all, add_to, all_freed, http_units, next_by, next_of_both, next_unit, tcp_unit}
+use Rattle.zk_units.specs.Units.{add_all, add_to, all_freed, behind_last, bytes_unread, dns_unread, http_units, next_by, next_of_both, next_unit, tcp_unit}
 use Rattle.zk_units.specs.Unread.{places_of}
 
 -- ---- HTTP
@@ -41,6 +42,7 @@ pub record NextIs (side : Side) (old new : HttpReader) (found : Option HttpUnit)
   pub next_is : next side streams units ≡ found
   pub stands : HttpStands new streams (add side found units)
   pub few : found ≡ None → length (bytes_of (unread_of side new).bytes) ≤ 65536
+  pub left : found ≡ None → places_of (unread_of side new) ≡ not_read side streams units
   pub other : unread_of (other side) new ≡ unread_of (other side) old
 
 -- ---- DNS over TCP
@@ -51,11 +53,13 @@ pub record GoesOn (unread : Unread) (places : List Place) (given : List dns.TcpU
   pub within : from ≤ length places
   pub places_are : places_of unread ≡ drop from places
   pub units_are : (more : List Place) → dns.units (places ++ more) ≡ given ++ dns.units_from from (drop from (places ++ more))
+  pub behind_is : (all : List Place) → behind_last (last_or None given) all ≡ drop from all
 
 -- a side gives nothing more, whatever comes
 pub record IsOver (unread : Unread) (places : List Place) (given : List dns.TcpUnit) : Type 0 where
   pub none : places_of unread ≡ []
   pub units_are : (more : List Place) → dns.units (places ++ more) ≡ given
+  pub behind_is : (all : List Place) → behind_last (last_or None given) all ≡ []
 
 abbrev pub Stands : Bool → Unread → List Place → List dns.TcpUnit → Type 0
 Stands false unread places given = GoesOn unread places given
@@ -75,6 +79,7 @@ pub record SideTurn (new : DnsSide) (found : Option StreamUnit) (stream : Stream
   pub next_is : option_map tcp_unit (slice_get (dns.units stream.places) count) ≡ found
   pub stands : SideStands new stream (count + length (option_to_list found))
   pub few : found ≡ None → length (bytes_of new.«unread».bytes) ≤ 65536
+  pub left : found ≡ None → places_of new.«unread» ≡ dns_unread stream.places
 
 abbrev pub dns_side : Side → DnsReader → DnsSide
 dns_side Orig reader = reader.orig
@@ -88,6 +93,7 @@ pub record DnsTurn (side : Side) (old new : DnsReader) (found : Option StreamUni
   pub next_is : next_by (Some speaks.Dns) side streams units ≡ found
   pub stands : DnsStands new streams (add_some side found units)
   pub few : found ≡ None → length (bytes_of (dns_side side new).«unread».bytes) ≤ 65536
+  pub left : found ≡ None → places_of (dns_side side new).«unread» ≡ dns_unread (of_side side streams).places
   pub other : dns_side (other side) new ≡ dns_side (other side) old
 
 -- ---- both
@@ -143,6 +149,7 @@ pub record Turn (side : Side) (old new : Readers) (found : Option StreamUnit) (p
   pub next_is : next_unit protocol side streams units ≡ found
   pub stands : StandsFor new protocol streams (add_some side found units)
   pub few : found ≡ None → held_in side new ≤ 65536
+  pub left : found ≡ None → held_in side new ≡ bytes_unread protocol side streams units
   pub other : held_in (other side) new ≡ held_in (other side) old
 
 -- the next unit of both, this side's before the other's
@@ -150,12 +157,14 @@ pub record BothTurn (side : Side) (new : Readers) (found : Option Freed) (protoc
   pub next_is : next_of_both protocol side streams units ≡ found
   pub stands : StandsFor new protocol streams (add_all (option_to_list found) units)
   pub few : found ≡ None → (side : Side) → held_in side new ≤ 65536
+  pub left : found ≡ None → (side : Side) → held_in side new ≡ bytes_unread protocol side streams units
 
--- all units were read
+-- all units were read, and what is kept of a side are the bytes that are not read
 pub record Reads (first : Side) (old new : Readers) (before after : List Freed) (protocol : Option Protocol) (streams : Both Stream) (units : Both (List StreamUnit)) : Type 0 where
   pub given : after ≡ before ++ all_freed protocol first streams units
   pub stands : StandsFor new protocol streams (add_all (all_freed protocol first streams units) units)
   pub few : (side : Side) → held_in side new ≤ 65536
+  pub left : (side : Side) → held_in side new ≡ bytes_unread protocol side streams (add_all (all_freed protocol first streams units) units)
 
 -- The readers were given these places of a side, which had not ended where there are any.
 pub record Gets (side : Side) (places : List Place) (old new : Readers) : Type 0 where

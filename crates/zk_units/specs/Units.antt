@@ -1,7 +1,8 @@
 -- The units that the two streams of a connection free, in their order.
-use Rattle.std.specs.Prelude.{ℕ, zero, suc, List, [], ◌∷◌, ◌++◌, length, fold, slice_get, Option, Some, None, Result, Ok, Err}
-use Rattle.std.specs.List.{filter_map}
+use Rattle.std.specs.Prelude.{ℕ, zero, suc, List, [], ◌∷◌, ◌++◌, length, drop, fold, count_by, is_some, slice_get, Option, Some, None, Result, Ok, Err}
+use Rattle.std.specs.List.{filter_map, last_or}
 use Rattle.std.specs.Option.{option_map, option_or}
+use Rattle.zk_base.specs.Places.{Place}
 use Rattle.zk_base.specs.declared.network.Side.{Side}
 use Rattle.zk_base.specs.declared.network.Side.TheVariants.{Orig, Resp}
 use Rattle.zk_dns.specs.declared.fault.DnsFault.{DnsFault}
@@ -104,3 +105,29 @@ many = 18446744073709551616
 -- the units that streams free behind those that they freed before, where this side is asked first
 abbrev pub all_freed : Option Protocol → Side → Both Stream → Both (List StreamUnit) → List Freed
 all_freed protocol side streams units = units_freed many protocol side streams units
+
+-- ---- what is not read yet, where no further unit is freed
+
+-- the places of DNS over TCP behind a unit: none behind a gap, where the side is over
+abbrev pub behind_last : Option dns.TcpUnit → List Place → List Place
+behind_last None places = places
+behind_last (Some (dns.Message end bytes)) places = drop end places
+behind_last (Some (dns.Gap place)) places = []
+
+-- the places behind the last whole message
+abbrev pub dns_unread : List Place → List Place
+dns_unread places = behind_last (last_or None (dns.units places)) places
+
+-- the places of a side that are not read yet; a stream that nothing reads is taken unread
+abbrev pub places_unread : Option Protocol → Side → Both Stream → Both (List StreamUnit) → List Place
+places_unread None side streams units = []
+places_unread (Some speaks.Http) side streams units = http.unread side streams (http_units units)
+places_unread (Some speaks.Dns) side streams units = dns_unread (of_side side streams).places
+
+-- how many of some places are bytes
+abbrev pub bytes_in : List Place → ℕ
+bytes_in places = count_by is_some places
+
+-- how many bytes of a side are not read yet
+unfoldable pub bytes_unread : Option Protocol → Side → Both Stream → Both (List StreamUnit) → ℕ
+bytes_unread protocol side streams units = bytes_in (places_unread protocol side streams units)

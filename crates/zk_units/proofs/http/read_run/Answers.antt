@@ -56,10 +56,14 @@ pub returns-in-None-clause-none : goal.returns-in-None-clause-none
 returns-in-None-clause-none c =
     let step = c.in_ok-step.step in
     let unused = subst (λ o. IfNone o ((length c.run.result.now - step.used ≤ 65536) × HasRead c.args.side c.read_bytes.new.http (length c.run.result.now - step.used))) c.in-None.is c.in_ok-step.ensures.unused in
-    bytes_none c.args.side c.args.http.now c.tell_end.new.http c.args.«unread».now c.pass.new.self c.run.result.now step.used c.run.ensures.bytes c.tell_end.ensures
+    bytes_none c.args.side c.args.http.now c.tell_end.new.http c.read_bytes.new.http c.args.«unread».now c.pass.new.self c.run.result.now step.used c.run.ensures.bytes c.tell_end.ensures
     (λ streams units stands lent. subst (λ o. MatchOption o (IsAll c.tell_end.new.http c.args.side (of_side c.args.side streams) c.run.result.now → next c.args.side streams units ≡ None)
     (λ one. next c.args.side streams units ≡ Some one)) c.in-None.is (c.in_ok-step.ensures.found streams units stands lent))
     c.in_ok-step.ensures.used.within c.pass.ensures.places (c.gap.ensures.end c.if-gap-eq0.true) unused.0 (bytes_within c.pass.new.self)
+    (subst (λ o. ReadsOn c.args.side c.tell_end.new.http c.read_bytes.new.http c.args.«unread».now c.pass.new.self o) c.in-None.is
+    (bytes_turn c.args.side c.tell_end.new.http c.read_bytes.new.http c.args.«unread».now c.pass.new.self c.run.result.now step c.run.ensures.bytes
+    (fits_told c.args.side c.args.http.now c.tell_end.new.http c.args.«unread».now c.requires c.tell_end.ensures)
+    c.in_ok-step.ensures.found c.in_ok-step.ensures.stands c.in_ok-step.ensures.used c.pass.ensures.places c.pass.ensures.front c.pass.ensures.ended)) unused.1
 
 pub returns-in-None-2-clause-reads : goal.returns-in-None-2-clause-reads
 returns-in-None-2-clause-reads c =

@@ -3,10 +3,8 @@ use Rattle.zk_traffic.proofs.BoundLemmas.{kept_within, kept_is}
 use Rattle.zk_traffic.proofs.traffic.Traffic.kept.Goals as goal
 
 pub returns-clause-exact : goal.returns-clause-exact
-returns-clause-exact c = λ options link records given ended stands.
-    let kept = c.kept.ensures ∙ kept_is c.args.self.now options link records given ended stands in
-    omega (arith, kept, c.spare.ensures, c.saturating_sub.ensures)
+returns-clause-exact c = λ options link records given ended stands. c.kept.ensures ∙ kept_is c.args.self.now options link records given ended stands
 
 pub returns-clause-bound : goal.returns-clause-bound
 returns-clause-bound c = λ options link records given ended stands.
-    omega (arith, c.kept.ensures, kept_within c.args.self.now options link records given ended stands, c.spare.ensures, c.saturating_sub.ensures)
+    omega (arith, c.kept.ensures, kept_within c.args.self.now options link records given ended stands)

@@ -1,4 +1,3 @@
-use Rattle.std.proofs.Common.{◌≡◌, length}
 use Rattle.zk_units.proofs.HttpReaderLemmas.{each_side}
 use Rattle.zk_units.proofs.dns.DnsReader.new.Goals as goal
 

@@ -1,7 +1,5 @@
-use Rattle.std.proofs.Common.{◌≡◌, length}
-use Rattle.zk_base.specs.ByteQueue.{bytes_of}
 use Rattle.zk_base.specs.declared.network.Side.TheVariants.{Orig, Resp}
-use Rattle.zk_units.specs.Standing.{no_streams, unread_of}
+use Rattle.zk_units.specs.Standing.{no_streams}
 use Rattle.zk_units.proofs.HttpReaderLemmas.{each_side, unread_new}
 use Rattle.zk_units.proofs.http_reader.HttpReader.new.Goals as goal
 

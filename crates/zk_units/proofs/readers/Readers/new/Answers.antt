@@ -1,4 +1,4 @@
-use Rattle.std.proofs.Common.{◌≡◌, ap, ◌∙◌}
+use Rattle.std.proofs.Common.{ap, ◌∙◌}
 use Rattle.zk_units.specs.Standing.{held_by, held_in}
 use Rattle.zk_units.proofs.ReaderLemmas.{dns_held, http_held}
 use Rattle.zk_units.proofs.readers.Readers.new.Goals as goal

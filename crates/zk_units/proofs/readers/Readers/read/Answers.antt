@@ -9,7 +9,7 @@ returns-in-None c = λ protocol streams given stands.
     let reading = c.loop.invariant protocol streams given stands in
     let turn = subst (λ o. BothTurn c.loop.side c.next_of_both.new.self o protocol streams reading.«units») c.in-None.is (c.in_ok-freed.ensures protocol streams reading.«units» reading.stands) in
     let all = reads_all c.args.first c.loop.side c.args.self.now c.loop.self c.next_of_both.new.self c.args.«units».now.items c.loop.«units».items many (many - c.loop.counter) protocol streams given reading turn in
-    record { given = all.0; stands = all.1; few = all.2 }
+    record { given = all.0; stands = all.1; few = all.2; left = all.3 }
 
 pub loop-preserved : goal.loop-preserved
 loop-preserved c = λ protocol streams given stands.

@@ -1,4 +1,5 @@
 pub mod Views
 pub mod Rows
 pub mod Verbs
+pub mod Gather
 pub mod Literals

@@ -2,6 +2,7 @@
 #![tactic(auto)]
 
 mod defaults;
+mod gather;
 mod literals;
 mod operands;
 mod operators;
@@ -12,6 +13,7 @@ mod table;
 mod texts;
 
 pub use defaults::default_typed;
+pub use gather::{also, both};
 pub use literals::{constant, interval_of, literal_typed};
 pub use operands::{Typed, Wanted, beside, fit, fits, simple_type, to_int};
 pub use operators::{arithmetic, choice, inverted, negative, related, truths, turned};

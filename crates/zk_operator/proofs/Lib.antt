@@ -4,3 +4,6 @@ pub mod Keys
 pub mod BothLaws
 pub mod Containers
 pub mod Comparisons
+pub mod Sizes
+pub mod OperandLists
+pub mod Vectors

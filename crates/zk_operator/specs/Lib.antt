@@ -3,3 +3,4 @@ pub mod Rows
 pub mod Verbs
 pub mod Gather
 pub mod Literals
+pub mod Gathering

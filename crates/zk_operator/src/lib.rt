@@ -3,7 +3,9 @@
 
 mod defaults;
 mod gather;
+mod gathering;
 mod literals;
+mod membership;
 mod operands;
 mod operators;
 mod relations;
@@ -14,7 +16,9 @@ mod texts;
 
 pub use defaults::default_typed;
 pub use gather::{also, both};
+pub use gathering::with_part;
 pub use literals::{constant, interval_of, literal_typed};
+pub use membership::{is_left_of_in, operands_of, size_typed, vector_alone};
 pub use operands::{Typed, Wanted, beside, fit, fits, simple_type, to_int};
 pub use operators::{arithmetic, choice, inverted, negative, related, truths, turned};
 pub use relations::{binary_of, is_ordered, relates, relation_of};

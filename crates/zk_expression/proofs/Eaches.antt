@@ -1,5 +1,5 @@
 -- The parts of a list that are checked one after another.
-use Rattle.std.proofs.Common.{◌≡◌, ℕ, ◌+◌, ◌<◌, Option, Some, None, Result, Ok, Err, List, [], ◌∷◌, ◌++◌, length, take, get_or, refl, ap, sym, ◌∙◌, append_assoc, append-nil}
+use Rattle.std.proofs.Common.{◌≡◌, ℕ, ◌+◌, ◌<◌, Result, Ok, Err, List, [], ◌∷◌, ◌++◌, length, take, get_or, refl, ap, sym, ◌∙◌, append_assoc, append-nil}
 use Rattle.std.proofs.lemmas.List.{take_more}
 use Rattle.std.specs.declared.alloc.Global.{Global}
 use Rattle.std.specs.declared.vec.Vec.{Vec}
@@ -8,7 +8,7 @@ use Rattle.zk_typed.specs.declared.refusal.Refusal.TheVariants.{Broken, NoMemory
 use Rattle.zk_typed.specs.Checked.{Checked, ◌>>=◌, both, each}
 use Rattle.zk_typed.specs.Tells.{Tells}
 use Rattle.zk_operator.specs.declared.operands.Typed.{Typed as RustTyped}
-use Rattle.zk_operator.specs.Gathering.{next_of, IsNext}
+use Rattle.zk_operator.specs.Gathering.{IsNext}
 use Rattle.zk_operator.specs.Views.{typed_of, typed_all, all_typed}
 use Rattle.zk_typed.specs.Typing.{Typed}
 
@@ -16,7 +16,7 @@ use Rattle.zk_typed.specs.Typing.{Typed}
 abbrev pub with_last : {B : Type 0} → Checked (List B) → Checked B → Checked (List B)
 with_last all part = both all part >>= (λ parts. Ok (parts.0 ++ parts.1 ∷ []))
 
-abbrev with_first : {B : Type 0} → Checked B → Checked (List B) → Checked (List B)
+abbrev pub with_first : {B : Type 0} → Checked B → Checked (List B) → Checked (List B)
 with_first part all = both part all >>= (λ parts. Ok (parts.0 ∷ parts.1))
 
 first_and_last : {B : Type 0} (a : Checked B) (b : Checked (List B)) (c : Checked B) → with_first a (with_last b c) ≡ with_last (with_first a b) c
@@ -67,3 +67,25 @@ each_turn f xs i one all part next within is h k e =
     let last : each f (take (i + 1) xs) ≡ with_last (each f (take i xs)) (f one) =
     ap (each f) (take_more xs i one within ∙ ap (λ x. take i xs ++ x ∷ []) (sym is)) ∙ each_last f (take i xs) one in
     rw last (next_tells all part next (each f (take i xs)) (f one) h k e)
+
+-- parts, and others behind them
+abbrev pub with_rest : {B : Type 0} → Checked (List B) → Checked (List B) → Checked (List B)
+with_rest all more = both all more >>= (λ parts. Ok (parts.0 ++ parts.1))
+
+pub rest_turn : {B : Type 0} (a : Checked (List B)) (b : Checked B) (c : Checked (List B)) → with_rest (with_last a b) c ≡ with_rest a (with_first b c)
+rest_turn (Ok a) (Ok b) (Ok c) = ap Ok (append_assoc a (b ∷ []) c)
+rest_turn (Ok a) (Ok b) (Err s) = refl
+rest_turn (Ok a) (Err r) (Ok c) = refl
+rest_turn (Ok a) (Err r) (Err s) = refl
+rest_turn (Err q) (Ok b) (Ok c) = ap Err (append-nil (q ++ []))
+rest_turn (Err q) (Ok b) (Err s) = ap (λ front. Err (front ++ s)) (append-nil q)
+rest_turn (Err q) (Err r) (Ok c) = ap Err (append_assoc q r [])
+rest_turn (Err q) (Err r) (Err s) = ap Err (append_assoc q r s)
+
+pub rest_of_none : {B : Type 0} (all : Checked (List B)) → with_rest (Ok []) all ≡ all
+rest_of_none (Ok all) = refl
+rest_of_none (Err rules) = refl
+
+pub no_rest : {B : Type 0} (all : Checked (List B)) → with_rest all (Ok []) ≡ all
+no_rest (Ok all) = ap Ok (append-nil all)
+no_rest (Err rules) = ap Err (append-nil rules)

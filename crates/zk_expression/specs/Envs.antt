@@ -2,18 +2,15 @@
 use Rattle.std.specs.Prelude.{List, ℕ, map, slice_get, Option, Some, None, Ok}
 use Rattle.std.specs.Borrow.{Bor}
 use Rattle.std.specs.Option.{option_map}
-use Rattle.std.specs.declared.alloc.Global.{Global}
-use Rattle.std.specs.declared.vec.Vec.{Vec}
 use Rattle.zk_names.specs.Lent.{home_of}
 use Rattle.zk_names.specs.Scripted.{scripts_in}
-use Rattle.zk_operator.specs.declared.operands.Typed.{Typed as RustTyped}
 use Rattle.zk_operator.specs.Views.{typed_of, typed_all}
 use Rattle.zk_typed.specs.declared.script.types.ValueType as declared
 use Rattle.zk_typed.specs.Checked.{Checked, elsewhere}
 use Rattle.zk_typed.specs.Expressions.{Side}
 use Rattle.zk_typed.specs.Making.{Called, Gives, Performs}
 use Rattle.zk_typed.specs.Types.{ValueType}
-use Rattle.zk_typed.specs.Typing.{LocalName, Env, Typed}
+use Rattle.zk_typed.specs.Typing.{LocalName, Env}
 use Rattle.zk_typed.specs.View.{type_of, all_of}
 use Rattle.zk_expression.specs.declared.called.Called.{Called as RustCalled}
 use Rattle.zk_expression.specs.declared.called.Called.TheVariants as called

@@ -1,6 +1,7 @@
 //! The typing of expressions.
 #![tactic(auto)]
 
+mod arguments;
 mod called;
 mod chains;
 mod choices;

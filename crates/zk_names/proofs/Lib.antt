@@ -4,3 +4,8 @@ pub mod StmtLaws
 pub mod IndexLaws
 pub mod NameLaws
 pub mod StepLaws
+pub mod CountLaws
+pub mod GatherLaws
+pub mod SearchLaws
+pub mod LeadLaws
+pub mod TypeLaws

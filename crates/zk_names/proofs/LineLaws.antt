@@ -1,5 +1,5 @@
 -- The declarations in declarations, and the files that they stand in.
-use Rattle.std.proofs.Common.{◌≡◌, ℕ, suc, zero, ◌+◌, ◌<◌, ◌≤◌, length, Bool, true, false, List, [], ◌∷◌, ◌++◌, Option, Some, None, flat_map, map, drop, refl, ap, sym, ◌∙◌, get_or, add-one, drop-cons, arith}
+use Rattle.std.proofs.Common.{◌≡◌, ℕ, suc, zero, ◌+◌, ◌<◌, ◌≤◌, length, Bool, true, false, List, [], ◌∷◌, ◌++◌, flat_map, drop, refl, ap, ◌∙◌, get_or, add-one, drop-cons, arith}
 use Rattle.std.specs.List.{position, position_or_len}
 use Rattle.zk_tree.specs.declared.decl.Decl.{Decl}
 use Rattle.zk_tree.specs.declared.decl.Decl as tree

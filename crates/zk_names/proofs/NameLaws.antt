@@ -1,5 +1,5 @@
 -- The module in a name, as far as it was read.
-use Rattle.std.proofs.Common.{◌≡◌, ℕ, suc, ◌+◌, ◌<◌, ◌≤◌, Bool, true, false, List, [], ◌∷◌, ◌++◌, length, take, drop, get_or, codes, nat_eq, Option, Some, None, refl, ap, sym, ◌∙◌, add-one, append-nil, append_assoc, drop-cons, arith}
+use Rattle.std.proofs.Common.{◌≡◌, ℕ, ◌+◌, ◌<◌, ◌≤◌, Bool, true, false, List, [], ◌∷◌, ◌++◌, length, take, drop, get_or, codes, nat_eq, Option, Some, None, refl, ap, sym, ◌∙◌, add-one, append-nil, append_assoc, drop-cons}
 use Rattle.std.proofs.Math.ListN.{drop_of_length-le}
 use Rattle.std.proofs.lemmas.List.{take_more}
 use Rattle.std.specs.List.{starts_with}

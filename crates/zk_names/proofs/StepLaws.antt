@@ -1,5 +1,5 @@
 -- Two passes over a list as one.
-use Rattle.std.proofs.Common.{◌≡◌, List, [], ◌∷◌, ◌++◌, flat_map, refl, ap, sym, ◌∙◌}
+use Rattle.std.proofs.Common.{◌≡◌, List, [], ◌∷◌, ◌++◌, flat_map, refl, ap, ◌∙◌}
 use Rattle.std.proofs.lemmas.Grind.{flat_map-append}
 
 pub one_pass : {A B C : Type 0} (f : A → List B) (g : B → List C) (items : List A) → flat_map g (flat_map f items) ≡ flat_map (λ one. flat_map g (f one)) items

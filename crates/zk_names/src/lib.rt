@@ -1,22 +1,34 @@
 //! The names that scripts declare, found by module.
 #![tactic(auto)]
 
+mod copying;
+mod counting;
 mod declared;
+mod gathering;
 mod home;
 mod index;
 mod inner;
+mod kind;
+mod known;
+mod leading;
 mod name;
 mod node;
+mod numbering;
 mod order;
 mod outright;
+mod resolve;
+mod signing;
 mod table;
 #[cfg(test)]
 mod tests;
 mod types;
+mod typing;
 mod whole;
 
 pub use declared::{Declared, LogFunction, Meant, Signature};
 pub use home::{Home, Stated};
+pub use kind::Kind;
+pub use known::Names;
 pub use node::Node;
 pub use outright::outright_name;
 pub use table::Table;

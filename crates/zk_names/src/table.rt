@@ -3,6 +3,7 @@ ghost use Rattle.std.specs.Option.{option_map};
 ghost use Rattle.zk_typed.specs.Names.{find_whole, look_up};
 ghost use Rattle.zk_names.specs.Lent.{declared_lent, declared_of};
 ghost use Rattle.zk_names.specs.Indexing.{Indexes};
+ghost use Rattle.zk_names.specs.Leading.{place_up, place_whole};
 
 use crate::declared::Declared;
 use crate::index::Index;
@@ -70,6 +71,33 @@ impl<'a> Table<'a> {
             None => {
                 let whole = Whole::copy_of(alloc, name)?;
                 Ok(self.find_whole(from_module, &whole))
+            }
+        }
+    }
+
+    /// Where the name stands that a whole name means, as it is seen from a module.
+    fn place_of_whole(&self, from_module: &[u8], whole: &Whole) -> Option<usize>
+        ensures { result ≡ place_whole (declared_lent self.now.names.items) from_module.now whole.now }
+    {
+        let anywhere = is_open(from_module, whole.as_slice());
+        self.index.find(whole, anywhere)
+    }
+
+    /// Where the name stands that a name means in a module.
+    pub fn place_of(
+        &self,
+        alloc: Global,
+        from_module: &[u8],
+        name: &[u8],
+    ) -> Result<Option<usize>, Mem>
+        ensures { IfOk result (λ place. place ≡ place_up (declared_lent self.now.names.items) from_module.now name.now) }
+    {
+        let own = whole_name(alloc, from_module, name)?;
+        match self.place_of_whole(from_module, &own) {
+            Some(place) => Ok(Some(place)),
+            None => {
+                let whole = Whole::copy_of(alloc, name)?;
+                Ok(self.place_of_whole(from_module, &whole))
             }
         }
     }

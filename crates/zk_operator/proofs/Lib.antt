@@ -1,5 +1,9 @@
 pub mod Forms
 pub mod FoundVerbs
 pub mod Keys
+pub mod BothLaws
 pub mod Containers
 pub mod Comparisons
+pub mod Sizes
+pub mod OperandLists
+pub mod Vectors

@@ -1,4 +1,6 @@
 pub mod Views
 pub mod Rows
 pub mod Verbs
+pub mod Gather
 pub mod Literals
+pub mod Gathering

@@ -1,5 +1,5 @@
 -- The table of arithmetic, as the rows that the rules have.
-use Rattle.std.specs.Prelude.{List, map, find, Option, Some, None, Bool, true, false, ◌&&◌, if◌then◌else◌}
+use Rattle.std.specs.Prelude.{List, [], ◌∷◌, Ok, map, find, Option, Some, None, Bool, true, false, ◌&&◌, if◌then◌else◌}
 use Rattle.std.specs.List.{list_any}
 use Rattle.std.specs.Option.{option_map}
 use Rattle.zk_tree.specs.declared.operator.Assigning.{Assigning}
@@ -10,7 +10,11 @@ use Rattle.zk_typed.specs.declared.script.primitive.Relation.{Relation}
 use Rattle.zk_typed.specs.declared.script.types.SimpleType.{SimpleType}
 use Rattle.zk_typed.specs.declared.script.types.SimpleType.TheVariants as simple
 use Rattle.zk_typed.specs.Operations.{Row, row, same_binary, same_simple, same_type, relates}
-use Rattle.zk_typed.specs.Types.{ValueType}
+use Rattle.zk_typed.specs.Checked.{Checked, broken, require, ◌>>◌}
+use Rattle.zk_typed.specs.declared.rule.Rule.TheVariants as rule
+use Rattle.zk_typed.specs.Making.{types_same}
+use Rattle.zk_typed.specs.Types.{ValueType, Simple, Record, Vector}
+use Rattle.zk_typed.specs.Typing.{Typed}
 
 abbrev pub row_of : Binary × SimpleType × SimpleType × SimpleType → Row
 row_of entry = row entry.0 entry.1 entry.2 entry.3
@@ -43,3 +47,20 @@ adds_simple by simple.Int = true
 adds_simple by simple.Interval = true
 adds_simple assigning.Add simple.String = true
 adds_simple by other = false
+
+-- whether a type has a size
+abbrev pub type_has_size : ValueType → Bool
+type_has_size (Simple simple.String) = true
+type_has_size (Simple simple.Int) = true
+type_has_size (Simple other) = false
+type_has_size (Record number) = false
+type_has_size container = true
+
+abbrev pub without_parts : ValueType → Bool
+without_parts (Simple simple) = true
+without_parts other = false
+
+-- the type of a vector of the one type that its items have
+abbrev pub vector_type : Place → List Typed → Checked ValueType
+vector_type place [] = broken rule.WrongType place
+vector_type place (first ∷ others) = require (types_same first.type others) rule.WrongType place >> Ok (Vector first.type)

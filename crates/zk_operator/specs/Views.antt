@@ -1,5 +1,7 @@
 -- What the Rust types stand for.
 use Rattle.std.specs.Prelude.{List, [], ◌∷◌}
+use Rattle.std.specs.declared.alloc.Global.{Global}
+use Rattle.std.specs.declared.vec.Vec.{Vec}
 use Rattle.zk_operator.specs.declared.operands.Typed.{Typed as RustTyped}
 use Rattle.zk_operator.specs.declared.operands.Wanted.{Wanted as RustWanted}
 use Rattle.zk_operator.specs.declared.operands.Wanted.TheVariants as wanted
@@ -20,3 +22,6 @@ wanted_in wanted.Unclear = Unclear
 abbrev pub typed_all : List RustTyped → List Typed
 typed_all [] = []
 typed_all (one ∷ others) = typed_of one ∷ typed_all others
+
+abbrev pub all_typed : Vec RustTyped Global → List Typed
+all_typed all = typed_all all.items

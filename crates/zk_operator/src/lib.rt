@@ -2,7 +2,10 @@
 #![tactic(auto)]
 
 mod defaults;
+mod gather;
+mod gathering;
 mod literals;
+mod membership;
 mod operands;
 mod operators;
 mod relations;
@@ -12,7 +15,10 @@ mod table;
 mod texts;
 
 pub use defaults::default_typed;
+pub use gather::{also, both};
+pub use gathering::with_part;
 pub use literals::{constant, interval_of, literal_typed};
+pub use membership::{is_left_of_in, operands_of, size_typed, vector_alone};
 pub use operands::{Typed, Wanted, beside, fit, fits, simple_type, to_int};
 pub use operators::{arithmetic, choice, inverted, negative, related, truths, turned};
 pub use relations::{binary_of, is_ordered, relates, relation_of};

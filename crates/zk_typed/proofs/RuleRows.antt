@@ -27,6 +27,7 @@ use Rattle.std.specs.Fmt.{digits}
 use Rattle.zk_typed.specs.Blind.{is_blind}
 use Rattle.zk_typed.specs.Checked.{Broken}
 use Rattle.zk_typed.specs.Errors.{errors}
+use Rattle.zk_typed.specs.Within.{depth_max}
 use Rattle.zk_tree.specs.declared.name.Name.{Name}
 use Rattle.zk_tree.specs.declared.operator.Assigning.TheVariants as assigning
 use Rattle.zk_typed.specs.LoadOrder.{File, load_order}
@@ -68,51 +69,51 @@ handler : List Stmt → Decl
 handler list = decl.Body 0 body.Event (name 6 (codes "zeek_init")) [] [] (roll-Block (record { place = 18; stmts = list }))
 
 right_types_break_no_rule : errors (file (global (expr.Number 18 1) ∷ [])) ≡ []
-unfolding file global count_at name trees
+unfolding file global count_at name trees depth_max
 right_types_break_no_rule = refl
 
 -- global x: count = y;
 a_name_that_means_nothing : errors (file (global (expr.Name (name 18 (codes "y"))) ∷ [])) ≡ told rule.Unknown 18
-unfolding file global told count_at name trees
+unfolding file global told count_at name trees depth_max
 a_name_that_means_nothing = refl
 
 -- global x: count = "a";
 a_string_for_a_count : errors (file (global (string 18 (codes "a")) ∷ [])) ≡ told rule.WrongType 18
-unfolding file global told count_at string name trees
+unfolding file global told count_at string name trees depth_max
 a_string_for_a_count = refl
 
 -- global x: count = 1; redef x = 2;
 a_redef_of_what_is_fixed :
     errors (file (global (expr.Number 18 1) ∷ decl.Redef 21 (name 27 (codes "x")) redefining.Set (init.Value (expr.Number 31 2)) ∷ [])) ≡ told rule.FixedGlobal 21
-unfolding file global told count_at name trees
+unfolding file global told count_at name trees depth_max
 a_redef_of_what_is_fixed = refl
 
 -- event zeek_init() { break; }
 a_break_outside_a_loop : errors (file (handler (stmt.Break 20 ∷ []) ∷ [])) ≡ told rule.Break 20
-unfolding file handler told name trees
+unfolding file handler told name trees depth_max
 a_break_outside_a_loop = refl
 
 -- event zeek_init() { print a; local a = 1; }
 a_local_before_its_statement :
     errors (file (handler (stmt.Print 20 (expr.Name (name 26 (codes "a")) ∷ []) ∷ stmt.Local 29 (name 35 (codes "a")) None (Some (init.Value (expr.Number 39 1))) ∷ []) ∷ [])) ≡ told rule.Unknown 26
-unfolding file handler told name trees
+unfolding file handler told name trees depth_max
 a_local_before_its_statement = refl
 
 -- global x: count = 1; global x: count = 2;
 a_name_that_is_declared_twice :
     errors (file (global (expr.Number 18 1) ∷ decl.Variable 21 lasting.Global (name 28 (codes "x")) (Some (count_at 31)) (Some (init.Value (expr.Number 39 2))) [] ∷ [])) ≡ told rule.Twice 21
-unfolding file global told count_at name trees
+unfolding file global told count_at name trees depth_max
 a_name_that_is_declared_twice = refl
 
 -- event zeek_init() { return 5; }
 a_value_that_nothing_wants : errors (file (handler (stmt.Return 20 (Some (expr.Number 27 5)) ∷ []) ∷ [])) ≡ told rule.Return 20
-unfolding file handler told name trees
+unfolding file handler told name trees depth_max
 a_value_that_nothing_wants = refl
 
 -- type R: record { r: R; };  (the inner R stands at byte 20)
 a_record_that_reaches_itself :
     errors (file (decl.Type 0 (name 5 (codes "R")) (written.Record 8 (Rattle.zk_tree.specs.declared.types.Field.roll-Field (record { name = name 17 (codes "r"); field_type = written.Named (name 20 (codes "R")); attrs = [] }) ∷ [])) ∷ [])) ≡ told rule.Recursive 20
-unfolding file told name trees
+unfolding file told name trees depth_max
 a_record_that_reaches_itself = refl
 
 -- global x: count = 1; event zeek_init() { print x; }
@@ -120,7 +121,7 @@ printing : List File
 printing = file (global (expr.Number 18 1) ∷ handler (stmt.Print 41 (expr.Name (name 47 (codes "x")) ∷ []) ∷ []) ∷ [])
 
 a_typed_program_runs : (world_in (run (typed_program printing) 1000 [] (record { 0 = pos 0 }))).lines ≡ codes "1" ∷ []
-unfolding printing file global handler count_at name trees digits dispatches_max
+unfolding printing file global handler count_at name trees depth_max digits dispatches_max
 a_typed_program_runs = refl
 
 -- event connection_state_remove(c: connection) { STATEMENTS }
@@ -139,11 +140,11 @@ tells_packets : List File
 tells_packets = file (of_connection (stmt.Print 47 (packets 53 (codes "orig") ∷ []) ∷ []) ∷ [])
 
 a_printed_count_of_packets_breaks_no_rule : errors tells_packets ≡ []
-unfolding tells_packets of_connection packets file name trees
+unfolding tells_packets of_connection packets file name trees depth_max
 a_printed_count_of_packets_breaks_no_rule = refl
 
 a_printed_count_of_packets_is_not_blind : is_blind (typed_program tells_packets) ≡ false
-unfolding tells_packets of_connection packets file name trees
+unfolding tells_packets of_connection packets file name trees depth_max
 a_printed_count_of_packets_is_not_blind = refl
 
 -- event connection_state_remove(c: connection) { c$orig$num_pkts = c$resp$num_pkts; }
@@ -151,7 +152,7 @@ moves_packets : List File
 moves_packets = file (of_connection (stmt.Expr (expr.Assign (packets 47 (codes "orig")) assigning.Set (packets 65 (codes "resp"))) ∷ []) ∷ [])
 
 a_moved_count_of_packets_is_blind : is_blind (typed_program moves_packets) ≡ true
-unfolding moves_packets of_connection packets file name trees
+unfolding moves_packets of_connection packets file name trees depth_max
 a_moved_count_of_packets_is_blind = refl
 
 -- redef enum Log::ID += { L };
@@ -183,20 +184,20 @@ filters = file (
     call (codes "Log::write") (item.Value (named (codes "L")) ∷ item.Value (call (codes "R") (given (codes "a") (expr.Number 0 1) ∷ given (codes "b") (string 0 (codes "q")) ∷ [])) ∷ []) ∷ []) ∷ []) ∷ [])
 
 log_calls_break_no_rule : errors filters ≡ []
-unfolding filters logged call given named file handler count_at string name trees
+unfolding filters logged call given named file handler count_at string name trees depth_max
 log_calls_break_no_rule = refl
 
 log_calls_give_truth : (world_in (run (typed_program filters) 1000 [] (record { 0 = pos 0 }))).lines ≡ codes "T, T, T, T" ∷ []
-unfolding filters logged call given named file handler count_at string name trees digits dispatches_max
+unfolding filters logged call given named file handler count_at string name trees depth_max digits dispatches_max
 log_calls_give_truth = refl
 
 a_filter_writes_to_its_path : map (λ row. row.path) (world_in (run (typed_program filters) 1000 [] (record { 0 = pos 0 }))).rows ≡ codes "y" ∷ []
-unfolding filters logged call given named file handler count_at string name trees digits dispatches_max
+unfolding filters logged call given named file handler count_at string name trees depth_max digits dispatches_max
 a_filter_writes_to_its_path = refl
 
 a_filter_keeps_what_it_includes :
     map (λ row. row.cells) (world_in (run (typed_program filters) 1000 [] (record { 0 = pos 0 }))).rows ≡ (One (Text (codes "q")) ∷ []) ∷ []
-unfolding filters logged call given named file handler count_at string name trees digits dispatches_max
+unfolding filters logged call given named file handler count_at string name trees depth_max digits dispatches_max
 a_filter_keeps_what_it_includes = refl
 
 -- the same script, whose handler creates the stream of another word with other columns at the path x
@@ -210,7 +211,7 @@ two_streams = file (
     stmt.Expr (expr.Post (expr.Name (name 70 (codes "Log::create_stream"))) (part.Call (item.Value (named (codes "M")) ∷ item.Value (expr.List 0 (given (codes "columns") (named (codes "S")) ∷ given (codes "path") (string 0 (codes "x")) ∷ [])) ∷ []) ∷ [])) ∷ []) ∷ [])
 
 a_path_with_two_sets_of_columns : errors two_streams ≡ told rule.Twice 70
-unfolding two_streams logged call given named file handler told count_at string name trees
+unfolding two_streams logged call given named file handler told count_at string name trees depth_max
 a_path_with_two_sets_of_columns = refl
 
 -- One row for each of the other rules -------------------------------------------------------------------------------
@@ -224,30 +225,30 @@ with_priority value = decl.Body 0 body.Hook (name 5 (codes "h")) [] (attr 9 (cod
 
 -- hook h() &priority=-5 { }
 a_priority_below_0 : errors (file (with_priority (expr.Unary 19 prefix.Negate (expr.Number 20 5)) ∷ [])) ≡ []
-unfolding with_priority attr file name trees
+unfolding with_priority attr file name trees depth_max
 a_priority_below_0 = refl
 
 -- hook h() &priority=k { }
 a_priority_that_is_no_literal : errors (file (with_priority (expr.Name (name 19 (codes "k"))) ∷ [])) ≡ told rule.NotConst 19
-unfolding with_priority attr file told name trees
+unfolding with_priority attr file told name trees depth_max
 a_priority_that_is_no_literal = refl
 
 -- global x: count = 1 &log;
 an_attribute_of_another_place :
     errors (file (decl.Variable 0 lasting.Global (name 7 (codes "x")) (Some (count_at 10)) (Some (init.Value (expr.Number 18 1))) (attr 20 (codes "log") None ∷ []) ∷ [])) ≡ told rule.Attribute 20
-unfolding attr file told count_at name trees
+unfolding attr file told count_at name trees depth_max
 an_attribute_of_another_place = refl
 
 -- event zeek_done(n: count) { }
 a_handler_with_another_parameter :
     errors (file (decl.Body 0 body.Event (name 6 (codes "zeek_done")) (roll-Param (record { name = name 16 (codes "n"); param_type = count_at 19 }) ∷ []) [] (roll-Block (record { place = 26; stmts = [] })) ∷ [])) ≡ told rule.Arguments 0
-unfolding file told count_at name trees
+unfolding file told count_at name trees depth_max
 a_handler_with_another_parameter = refl
 
 -- event zeek_init() { print fmt("%q", 1); }
 a_verb_that_there_is_not :
     errors (file (handler (stmt.Print 20 (expr.Post (expr.Name (name 26 (codes "fmt"))) (part.Call (item.Value (string 30 (codes "%q")) ∷ item.Value (expr.Number 36 1) ∷ []) ∷ []) ∷ []) ∷ []) ∷ [])) ≡ told rule.Format 30
-unfolding file handler told string name trees
+unfolding file handler told string name trees depth_max
 a_verb_that_there_is_not = refl
 
 -- type R: record { a: count &log; };  event zeek_init() { print R()$a; }
@@ -256,13 +257,13 @@ one_field = decl.Type 0 (name 5 (codes "R")) (written.Record 8 (logged (codes "a
 
 a_field_that_is_not_given :
     errors (file (one_field ∷ handler (stmt.Print 20 (expr.Post (expr.Name (name 62 (codes "R"))) (part.Call [] ∷ part.Field (name 66 (codes "a")) ∷ []) ∷ []) ∷ []) ∷ [])) ≡ told rule.Field 62
-unfolding one_field logged file handler told count_at name trees
+unfolding one_field logged file handler told count_at name trees depth_max
 a_field_that_is_not_given = refl
 
 -- event zeek_init() { print 2 * 5 sec; }
 a_count_times_an_interval :
     errors (file (handler (stmt.Print 20 (expr.Chain level.Term (expr.Number 26 2) (roll-Link (record { operator = operator.Times; operand = expr.Interval 30 5 unit.Second false }) ∷ []) ∷ []) ∷ []) ∷ [])) ≡ told rule.WrongType 30
-unfolding file handler told name trees
+unfolding file handler told name trees depth_max
 a_count_times_an_interval = refl
 
 -- Modules and files --------------------------------------------------------------------------------------------------
@@ -280,11 +281,11 @@ two_modules other = file (
     count_named 68 (codes "x") (expr.Name (name 79 other)) ∷ [])
 
 an_exported_name_is_seen : errors (two_modules (codes "M::shown")) ≡ []
-unfolding two_modules count_named file name trees
+unfolding two_modules count_named file name trees depth_max
 an_exported_name_is_seen = refl
 
 a_name_that_is_not_exported_is_not_seen : errors (two_modules (codes "M::hidden")) ≡ told rule.Unknown 79
-unfolding two_modules count_named file told name trees
+unfolding two_modules count_named file told name trees depth_max
 a_name_that_is_not_exported_is_not_seen = refl
 
 -- a.zeek: global a = b; @load b.zeek @load b.zeek global c = 1;  b.zeek: @load a.zeek global b = 1;
@@ -298,7 +299,7 @@ loading =
     record { name = codes "b.zeek"; decls = decl.Load 0 (codes "a.zeek") ∷ count_named 15 (codes "b") (expr.Number 26 1) ∷ [] } ∷ []
 
 a_file_stands_in_the_place_of_its_first_load : map (λ one. one.home.file) (load_order loading) ≡ 0 ∷ 1 ∷ 0 ∷ []
-unfolding loading count_named name trees
+unfolding loading count_named name trees depth_max
 a_file_stands_in_the_place_of_its_first_load = refl
 
 -- a.zeek: @load base/x global a = 1;  base/x: global b = 1;
@@ -308,11 +309,11 @@ default_script_named =
     record { name = codes "base/x"; decls = count_named 0 (codes "b") (expr.Number 11 1) ∷ [] } ∷ []
 
 a_load_of_a_default_script_is_passed_over : map (λ one. one.home.file) (load_order default_script_named) ≡ 0 ∷ 1 ∷ []
-unfolding default_script_named count_named name trees
+unfolding default_script_named count_named name trees depth_max
 a_load_of_a_default_script_is_passed_over = refl
 
 names_of_loaded_files_are_seen : errors loading ≡ []
-unfolding loading count_named name trees
+unfolding loading count_named name trees depth_max
 names_of_loaded_files_are_seen = refl
 
 -- global a = b; global b = a;
@@ -320,7 +321,7 @@ circle : List File
 circle = file (count_named 0 (codes "a") (expr.Name (name 11 (codes "b"))) ∷ count_named 14 (codes "b") (expr.Name (name 25 (codes "a"))) ∷ [])
 
 types_that_rest_on_each_other : errors circle ≡ told rule.WrongType 11 ++ told rule.WrongType 25
-unfolding circle count_named file told name trees
+unfolding circle count_named file told name trees depth_max
 types_that_rest_on_each_other = refl
 
 -- Broken parts ------------------------------------------------------------------------------------------------------
@@ -331,30 +332,30 @@ local_value value = file (handler (stmt.Local 20 (name 26 (codes "s")) None (Som
 
 -- local s = set([1]);
 a_single_key_in_brackets : errors (local_value (expr.Make 30 container.Set (item.Value (expr.List 34 (item.Value (expr.Number 35 1) ∷ [])) ∷ []))) ≡ told rule.WrongType 34
-unfolding local_value file handler told name trees
+unfolding local_value file handler told name trees depth_max
 a_single_key_in_brackets = refl
 
 -- local s = set($a=1);
 a_member_that_names_a_field : errors (local_value (expr.Make 30 container.Set (item.Field 34 (name 35 (codes "a")) (expr.Number 37 1) ∷ []))) ≡ told rule.WrongType 34
-unfolding local_value file handler told name trees
+unfolding local_value file handler told name trees depth_max
 a_member_that_names_a_field = refl
 
 -- local s = fmt("%d", $a=y);
 a_broken_value_behind_the_name_of_a_field :
     errors (local_value (expr.Post (expr.Name (name 30 (codes "fmt"))) (part.Call (item.Value (string 34 (codes "%d")) ∷ item.Field 40 (name 41 (codes "a")) (expr.Name (name 43 (codes "y"))) ∷ []) ∷ []))) ≡ told rule.Unknown 43
-unfolding local_value file handler told string name trees
+unfolding local_value file handler told string name trees depth_max
 a_broken_value_behind_the_name_of_a_field = refl
 
 -- local s = table([1] = y);
 a_broken_entry_where_no_type_is_wanted :
     errors (local_value (expr.Make 30 container.Table (item.Value (expr.Assign (expr.List 36 (item.Value (expr.Number 37 1) ∷ [])) assigning.Set (expr.Name (name 42 (codes "y")))) ∷ []))) ≡ told rule.Unknown 42
-unfolding local_value file handler told name trees
+unfolding local_value file handler told name trees depth_max
 a_broken_entry_where_no_type_is_wanted = refl
 
 -- global x: count = { y };
 a_broken_member_of_braces :
     errors (file (decl.Variable 0 lasting.Global (name 7 (codes "x")) (Some (count_at 10)) (Some (init.Braces 18 (expr.Name (name 20 (codes "y")) ∷ []) false)) [] ∷ [])) ≡ told rule.Unknown 20
-unfolding file told count_at name trees
+unfolding file told count_at name trees depth_max
 a_broken_member_of_braces = refl
 
 -- global f: function() = VALUE;
@@ -362,11 +363,11 @@ function_with : Expr → List File
 function_with value = file (decl.Variable 0 lasting.Global (name 7 (codes "f")) (Some (written.Procedure 10 [])) (Some (init.Value value)) [] ∷ [])
 
 a_broken_value_of_a_function : errors (function_with (expr.Name (name 23 (codes "y")))) ≡ told rule.Unknown 23
-unfolding function_with file told name trees
+unfolding function_with file told name trees depth_max
 a_broken_value_of_a_function = refl
 
 a_value_of_a_function : errors (function_with (expr.Number 23 5)) ≡ told rule.WrongType 23
-unfolding function_with file told name trees
+unfolding function_with file told name trees depth_max
 a_value_of_a_function = refl
 
 -- type R: record { a: count &default="q" &b; };
@@ -374,7 +375,7 @@ one_wrong_attribute_hides_no_other :
     errors (file (decl.Type 0 (name 5 (codes "R")) (written.Record 8 (
     roll-Field (record { name = name 17 (codes "a"); field_type = count_at 20; attrs = attr 26 (codes "default") (Some (string 35 (codes "q"))) ∷ attr 39 (codes "b") None ∷ [] }) ∷ [])) ∷ [])) ≡
     told rule.WrongType 35 ++ told rule.Attribute 39
-unfolding file told attr count_at string name trees
+unfolding file told attr count_at string name trees depth_max
 one_wrong_attribute_hides_no_other = refl
 
 -- redef record NAME += { b: TYPE &optional; };
@@ -385,17 +386,17 @@ field_added text type =
 -- redef record R += { b: record { c: y; } &optional; };
 a_broken_type_within_an_added_field :
     errors (file (one_field ∷ field_added (codes "R") (written.Record 83 (roll-Field (record { name = name 92 (codes "c"); field_type = written.Named (name 95 (codes "y")); attrs = [] }) ∷ [])) ∷ [])) ≡ told rule.Unknown 95
-unfolding one_field logged field_added file told attr count_at name trees
+unfolding one_field logged field_added file told attr count_at name trees depth_max
 a_broken_type_within_an_added_field = refl
 
 -- redef record connection += { b: connection &optional; };
 an_added_field_that_leads_back : errors (file (field_added (codes "connection") (written.Named (name 83 (codes "connection"))) ∷ [])) ≡ told rule.Recursive 83
-unfolding field_added file told attr name trees
+unfolding field_added file told attr name trees depth_max
 an_added_field_that_leads_back = refl
 
 -- type R: record { a: count &log; }; redef record R += { b: R &optional; };
 an_added_field_is_told_alone : errors (file (one_field ∷ field_added (codes "R") (written.Named (name 83 (codes "R"))) ∷ [])) ≡ told rule.Recursive 83
-unfolding one_field logged field_added file told attr count_at name trees
+unfolding one_field logged field_added file told attr count_at name trees depth_max
 an_added_field_is_told_alone = refl
 
 -- event zeek_init() { Log::create_stream(L, [$path="A", $columns=y]); }
@@ -405,7 +406,7 @@ every_setting_is_judged :
     handler (stmt.Expr (call (codes "Log::create_stream") (item.Value (named (codes "L")) ∷ item.Value (expr.List 42 (
     item.Field 43 (name 44 (codes "path")) (string 49 (codes "A")) ∷ item.Field 54 (name 55 (codes "columns")) (expr.Name (name 63 (codes "y"))) ∷ [])) ∷ [])) ∷ []) ∷ [])) ≡
     told rule.Format 49 ++ told rule.Unknown 63
-unfolding call named file handler told string name trees
+unfolding call named file handler told string name trees depth_max
 every_setting_is_judged = refl
 
 -- redef enum Log::ID += { L }; type R: record { a: count &log; };
@@ -425,12 +426,12 @@ vector_at place = item.Value (expr.Make place container.Vector [])
 
 -- Log::create_stream(L, vector());
 what_is_no_settings : errors (with_log (call_at (codes "Log::create_stream") (vector_at 92 ∷ []))) ≡ told rule.WrongType 92
-unfolding with_log call_at vector_at one_field logged call given named file handler told count_at string name trees
+unfolding with_log call_at vector_at one_field logged call given named file handler told count_at string name trees depth_max
 what_is_no_settings = refl
 
 -- Log::remove_default_filter(L, vector());
 an_argument_too_many : errors (with_log (call_at (codes "Log::remove_default_filter") (vector_at 100 ∷ []))) ≡ told rule.Arguments 70
-unfolding with_log call_at vector_at one_field logged call given named file handler told count_at string name trees
+unfolding with_log call_at vector_at one_field logged call given named file handler told count_at string name trees depth_max
 an_argument_too_many = refl
 
 -- event zeek_init() { Log::create_stream(L, [$columns=R, $path="x"]); local L = 1; Log::remove_default_filter(L); }
@@ -441,7 +442,7 @@ a_local_hides_a_word :
     stmt.Expr (call (codes "Log::create_stream") (item.Value (named (codes "L")) ∷ item.Value (expr.List 0 (given (codes "columns") (named (codes "R")) ∷ given (codes "path") (string 0 (codes "x")) ∷ [])) ∷ [])) ∷
     stmt.Local 70 (name 76 (codes "L")) None (Some (init.Value (expr.Number 80 1))) ∷
     stmt.Expr (call (codes "Log::remove_default_filter") (item.Value (expr.Name (name 110 (codes "L"))) ∷ [])) ∷ []) ∷ [])) ≡ told rule.WrongType 110
-unfolding one_field logged call given named file handler told count_at string name trees
+unfolding one_field logged call given named file handler told count_at string name trees depth_max
 a_local_hides_a_word = refl
 
 -- event zeek_init() { local NAME = 1; STATEMENT }
@@ -450,12 +451,12 @@ hidden_by text one = file (one_field ∷ handler (stmt.Local 20 (name 26 text) N
 
 -- with zeek_done and event zeek_done();
 a_local_hides_an_event : errors (hidden_by (codes "zeek_done") (stmt.Event 40 (name 46 (codes "zeek_done")) [])) ≡ told rule.WrongType 46
-unfolding hidden_by one_field logged file handler told count_at name trees
+unfolding hidden_by one_field logged file handler told count_at name trees depth_max
 a_local_hides_an_event = refl
 
 -- with R and local x: R;
 a_local_hides_a_type : errors (hidden_by (codes "R") (stmt.Local 40 (name 46 (codes "x")) (Some (written.Named (name 49 (codes "R")))) None)) ≡ told rule.WrongType 49
-unfolding hidden_by one_field logged file handler told count_at name trees
+unfolding hidden_by one_field logged file handler told count_at name trees depth_max
 a_local_hides_a_type = refl
 
 -- with R and Log::create_stream(L, [$path="x", $columns=R]);
@@ -466,7 +467,7 @@ a_local_hides_columns :
     stmt.Local 20 (name 26 (codes "R")) None (Some (init.Value (expr.Number 30 1))) ∷
     stmt.Expr (call (codes "Log::create_stream") (item.Value (named (codes "L")) ∷ item.Value (expr.List 0 (given (codes "path") (string 0 (codes "x")) ∷ given (codes "columns") (expr.Name (name 80 (codes "R"))) ∷ [])) ∷ [])) ∷ []) ∷ [])) ≡
     told rule.WrongType 80
-unfolding one_field logged call given named file handler told count_at string name trees
+unfolding one_field logged call given named file handler told count_at string name trees depth_max
 a_local_hides_columns = refl
 
 -- Values that are added to no value ---------------------------------------------------------------------------------
@@ -482,7 +483,7 @@ subnets_added : List File
 subnets_added = added_to_none (written.Set 10 (written.Atomic 14 atomic.Subnet ∷ [])) (init.Braces 35 (expr.Literal 37 (literal.Subnet 167772160 8) ∷ []) false) (expr.Size 66 (expr.Name (name 67 (codes "x"))))
 
 values_are_added_to_an_empty_set : (world_in (run (typed_program subnets_added) 1000 [] (record { 0 = pos 0 }))).lines ≡ codes "1" ∷ []
-unfolding subnets_added added_to_none file handler attr name trees digits dispatches_max entry_at
+unfolding subnets_added added_to_none file handler attr name trees depth_max digits dispatches_max entry_at
 values_are_added_to_an_empty_set = refl
 
 -- with x: count, 5 and 1
@@ -492,5 +493,5 @@ count_added = added_to_none (count_at 10) (init.Value (expr.Number 35 5)) (expr.
 a_count_is_added_to_no_value :
     map (λ row. row.cells) (world_in (run (typed_program count_added) 1000 [] (record { 0 = pos 0 }))).rows ≡
     (One (Plain (codes "0.000000")) ∷ One (Plain (codes "Reporter::ERROR")) ∷ One (Text (codes "Unset")) ∷ One (Text (codes "s.zeek, byte 0")) ∷ []) ∷ []
-unfolding count_added added_to_none file handler count_at attr name trees digits dispatches_max span_decimal
+unfolding count_added added_to_none file handler count_at attr name trees depth_max digits dispatches_max span_decimal
 a_count_is_added_to_no_value = refl

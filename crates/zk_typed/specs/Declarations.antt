@@ -28,7 +28,7 @@ use Rattle.zk_tree.specs.declared.stmt.Init.TheVariants as init
 use Rattle.zk_tree.specs.declared.types.Attr.{Attr}
 use Rattle.zk_tree.specs.declared.types.Field.{Field, out-Field}
 use Rattle.zk_tree.specs.declared.types.Param.{Param, out-Param}
-use Rattle.zk_tree.specs.declared.types.Type.{«Type», out-Type, size-Type}
+use Rattle.zk_tree.specs.declared.types.Type.{«Type», out-Type}
 use Rattle.zk_tree.specs.declared.types.Type.TheOpen.{Type-F}
 use Rattle.zk_tree.specs.declared.types.Type.TheOpen as tree
 use Rattle.zk_tree.specs.Places.{type_place}
@@ -54,7 +54,7 @@ use Rattle.zk_tree.specs.declared.operator.TimeUnit.{TimeUnit}
 use Rattle.zk_tree.specs.Value as plain
 use Rattle.zk_tree.specs.declared.decl.Lasting.TheVariants as lasting
 use Rattle.zk_tree.specs.declared.stmt.Block.{Block}
-use Rattle.zk_typed.specs.Within.{local_types}
+use Rattle.zk_typed.specs.Within.{depth_max, local_types}
 
 -- The types of globals ---------------------------------------------------------------------------------------------
 
@@ -279,7 +279,7 @@ is_too_deep scripts = deeper 200 (record scripts { stated = filter (adds_well sc
 -- What there is within a type: it isn't too deep, and its record types keep their rules. What else is broken in it is told
 -- where it is asked for.
 abbrev pub parts_rules : (ValueType → Bool) → Scripts → Home → «Type» → Checked (Unit {0})
-parts_rules too_deep scripts home one = nothing (both (of_type (type_of scripts home one)) (nested_to (size-Type one) scripts home one))
+parts_rules too_deep scripts home one = nothing (both (of_type (type_of scripts home one)) (nested_to depth_max scripts home one))
   where
     of_type : Checked ValueType → Checked (Unit {0})
     of_type (Ok type) = require (not (too_deep type)) rule.Recursive (place_in home (type_place one))

@@ -2,7 +2,7 @@
 use Rattle.std.specs.Prelude.{ℕ, zero, suc, Bool, true, false, not, ◌||◌, List, [], ◌∷◌, Option, Some, None, Ok, if◌then◌else◌}
 use Rattle.zk_tree.specs.declared.decl.Lasting.{Lasting}
 use Rattle.zk_tree.specs.declared.decl.Lasting.TheVariants as lasting
-use Rattle.zk_tree.specs.declared.expr.Expr.{Expr, out-Expr, size-Expr}
+use Rattle.zk_tree.specs.declared.expr.Expr.{Expr, out-Expr}
 use Rattle.zk_tree.specs.declared.expr.Expr.TheOpen.{Expr-F, Part-F}
 use Rattle.zk_tree.specs.declared.expr.Expr.TheOpen as written
 use Rattle.zk_tree.specs.declared.expr.Item.{Item}
@@ -36,6 +36,7 @@ use Rattle.zk_typed.specs.Predefined as type
 use Rattle.zk_typed.specs.Resolving.{has_attr}
 use Rattle.zk_typed.specs.Types.{ValueType, Simple, Record}
 use Rattle.zk_typed.specs.Typing.{Typed, typed, Env, at, apply, expr_place, Wanted, Nothing, Wants, Unclear, Check, fit, constant, interval_of, literal_typed, name_typed, chained, related, beside, membership, left_of_in, found, local_named, number_among, is_variable}
+use Rattle.zk_typed.specs.Within.{depth_max}
 use Rattle.std.specs.Prelude.{codes}
 
 -- Left sides -------------------------------------------------------------------------------------------------------
@@ -212,4 +213,4 @@ expr_to (suc depth) env wanted one = of_form (expr_to depth env) (out-Expr one)
     of_form check (written.Hook place name items) = fitting (hook_typed check env (at env place) name items (found env name))
 
 abbrev pub expr_typed : Env → Wanted → Expr → Checked Typed
-expr_typed env wanted one = expr_to (size-Expr one) env wanted one
+expr_typed = expr_to depth_max

@@ -11,7 +11,7 @@ use Rattle.zk_base.specs.declared.numbers.RecordNo.{RecordNo}
 use Rattle.zk_tree.specs.declared.decl.Decl.{Decl, out-Decl}
 use Rattle.zk_tree.specs.declared.decl.Decl.TheOpen.{Decl-F}
 use Rattle.zk_tree.specs.declared.decl.Decl.TheOpen as decl
-use Rattle.zk_tree.specs.declared.expr.Expr.{Expr, out-Expr, size-Expr}
+use Rattle.zk_tree.specs.declared.expr.Expr.{Expr, out-Expr}
 use Rattle.zk_tree.specs.declared.expr.Expr.TheOpen.{Expr-F, Part-F, Item-F}
 use Rattle.zk_tree.specs.declared.expr.Expr.TheOpen as written
 use Rattle.zk_tree.specs.declared.expr.Item.{Item, out-Item}
@@ -26,7 +26,7 @@ use Rattle.zk_tree.specs.declared.place.Place.{Place}
 use Rattle.zk_tree.specs.declared.stmt.Block.{Block, out-Block}
 use Rattle.zk_tree.specs.declared.stmt.Init.{Init}
 use Rattle.zk_tree.specs.declared.stmt.Init.TheVariants as init
-use Rattle.zk_tree.specs.declared.stmt.Stmt.{Stmt, out-Stmt, size-Stmt}
+use Rattle.zk_tree.specs.declared.stmt.Stmt.{Stmt, out-Stmt}
 use Rattle.zk_tree.specs.declared.stmt.Stmt.TheOpen.{Stmt-F}
 use Rattle.zk_tree.specs.declared.stmt.Stmt.TheOpen as stmt
 use Rattle.zk_tree.specs.Places as places
@@ -43,6 +43,7 @@ use Rattle.zk_typed.specs.Operations.{same_type}
 use Rattle.zk_typed.specs.Predefined as type
 use Rattle.zk_typed.specs.Resolving.{Scripts, FieldInfo, place_in, type_named, params_of, fields_of}
 use Rattle.zk_typed.specs.Types.{ValueType, Record}
+use Rattle.zk_typed.specs.Within.{depth_max}
 use Rattle.zk_typed.specs.Typing.{Typed, typed, Env, at, expr_place, Nothing, Wants, Unclear, Wanted, Check, number_among, is_event, is_hook, is_local, found, on_item}
 
 -- Calls in the texts -------------------------------------------------------------------------------------------------
@@ -96,7 +97,7 @@ expr_calls_to (suc depth) home one = of_form (expr_calls_to depth home) (out-Exp
     of_form more other = []
 
 abbrev pub expr_calls : Home → Expr → List Call
-expr_calls home one = expr_calls_to (size-Expr one) home one
+expr_calls = expr_calls_to depth_max
 
 abbrev pub maybe_calls : Home → Option Expr → List Call
 maybe_calls home None = []
@@ -131,7 +132,7 @@ stmt_calls_to (suc depth) home one = of_form (stmt_calls_to depth home) (out-Stm
     of_form more other = []
 
 abbrev pub block_calls : Home → Block → List Call
-block_calls home block = flat_map (λ one. stmt_calls_to (size-Stmt one) home one) (out-Block block).stmts
+block_calls home block = flat_map (stmt_calls_to depth_max home) (out-Block block).stmts
 
 abbrev pub decl_calls : Home → Decl-F Decl → List Call
 decl_calls home (decl.Variable place lasting name tree init attrs) = init_calls home init

@@ -17,7 +17,7 @@ use Rattle.zk_tree.specs.declared.stmt.Init.{Init}
 use Rattle.zk_tree.specs.declared.stmt.Init.TheVariants as init
 use Rattle.zk_tree.specs.declared.stmt.Keys.{Keys}
 use Rattle.zk_tree.specs.declared.stmt.Keys.TheVariants as keys
-use Rattle.zk_tree.specs.declared.stmt.Stmt.{Stmt, out-Stmt, size-Stmt}
+use Rattle.zk_tree.specs.declared.stmt.Stmt.{Stmt, out-Stmt}
 use Rattle.zk_tree.specs.declared.stmt.Stmt.TheOpen.{Stmt-F}
 use Rattle.zk_tree.specs.declared.stmt.Stmt.TheOpen as stmt
 use Rattle.zk_tree.specs.declared.types.Type.{«Type»}
@@ -43,7 +43,7 @@ use Rattle.zk_typed.specs.Operations.{same_type}
 use Rattle.zk_typed.specs.Predefined as type
 use Rattle.zk_typed.specs.Resolving.{Scripts, params_of, type_of, hushed}
 use Rattle.zk_typed.specs.Types.{ValueType, Simple, Record, Table, Set, Vector}
-use Rattle.zk_typed.specs.Within.{mentions}
+use Rattle.zk_typed.specs.Within.{depth_max, mentions}
 use Rattle.zk_typed.specs.Typing.{Typed, Env, LocalName, Wanted, Nothing, Wants, Unclear, wanted_of, Check, at, exprs, expr_place, found, is_event, number_among, local_named}
 
 -- what a body is of: a function with what its result has to be, a hook, or a handler
@@ -441,4 +441,4 @@ stmt_to (suc depth) context locals one = of_form (stmt_to depth) (out-Stmt one)
 
 -- the statements of a body, beside the names that are visible at its start
 abbrev pub body_typed : Context → Locals → Block → Stated
-body_typed context locals block = block_typed (λ context locals one. stmt_to (size-Stmt one) context locals one) context locals block
+body_typed context locals block = block_typed (stmt_to depth_max) context locals block

@@ -1,5 +1,5 @@
 -- What stands within types and statements, in the order of the text.
-use Rattle.std.specs.Prelude.{List, [], ◌∷◌, ◌++◌, flat_map, Option, Some, None}
+use Rattle.std.specs.Prelude.{ℕ, ◌-◌, ◌^◌, List, [], ◌∷◌, ◌++◌, flat_map, Option, Some, None}
 use Rattle.zk_tree.specs.declared.name.Name.{Name}
 use Rattle.zk_tree.specs.declared.stmt.Block.{Block}
 use Rattle.zk_tree.specs.declared.stmt.Stmt.{Stmt, Row_of-Stmt, end_of-Stmt, more_of-Stmt}
@@ -9,6 +9,10 @@ use Rattle.zk_tree.specs.declared.types.Param.{Param}
 use Rattle.zk_tree.specs.declared.types.Type.{«Type», out-Type, Atomic, Named, Table', Set', Vector', Record', Enum, Event', Hook', Procedure', Function', Row_of-Type, end_of-Type, more_of-Type, Row_of-Field, end_of-Field, more_of-Field, Row_of-Param, end_of-Param, more_of-Param}
 use Rattle.zk_tree.specs.declared.types.Type.TheOpen.{Type-F}
 use Rattle.zk_tree.specs.declared.types.Type.TheOpen as written
+
+-- How deep a definition follows a tree. Scripts nest at most 200 deep, and no tree that a machine of 64 bits holds is deeper than this.
+unfoldable pub depth_max : ℕ
+depth_max = 2 ^ 64 - 1
 
 -- a type, and the types within it
 abbrev mutual

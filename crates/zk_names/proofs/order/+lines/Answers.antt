@@ -1,4 +1,4 @@
-use Rattle.std.proofs.Common.{◌≡◌, ap, sym, ◌∙◌, ◌++◌, flat_map, true}
+use Rattle.std.proofs.Common.{ap, sym, ◌∙◌, ◌++◌, flat_map, true}
 use Rattle.zk_typed.specs.LoadOrder.{decl_lines}
 use Rattle.zk_names.specs.Lent.{lines_lent}
 use Rattle.zk_names.proofs.LineLaws.{export_lines}

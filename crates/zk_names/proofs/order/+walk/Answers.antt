@@ -1,4 +1,4 @@
-use Rattle.std.proofs.Common.{◌≡◌, ap, sym, ◌∙◌}
+use Rattle.std.proofs.Common.{ap, ◌∙◌}
 use Rattle.zk_tree.specs.Opening.{trees}
 use Rattle.zk_typed.specs.LoadOrder.{load, walk_to}
 use Rattle.zk_names.specs.Lent.{files_of, found_of}

@@ -1,4 +1,4 @@
-use Rattle.std.proofs.Common.{◌≡◌, List, ℕ, flat_map, ap, sym, ◌∙◌, refl}
+use Rattle.std.proofs.Common.{List, ℕ, flat_map, ap, sym, ◌∙◌, refl}
 use Rattle.zk_tree.specs.declared.decl.Tree.{Tree}
 use Rattle.zk_typed.specs.LoadOrder.{decl_lines}
 use Rattle.zk_names.proofs.LineLaws.{decls_of_at, decls_of_past}

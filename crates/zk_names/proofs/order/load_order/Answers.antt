@@ -1,4 +1,4 @@
-use Rattle.std.proofs.Common.{◌≡◌, ◌+◌, ◌<◌, length, drop, true, false, ap, sym, ◌∙◌, arith}
+use Rattle.std.proofs.Common.{◌≡◌, ◌+◌, ◌<◌, length, drop, true, false, ap, sym, ◌∙◌}
 use Rattle.zk_typed.specs.LoadOrder.{Found, Walk, enter, is_in, roots, walk_to}
 use Rattle.zk_names.specs.Lent.{files_of, found_of}
 use Rattle.zk_names.proofs.LineLaws.{roots_on, roots_enter, as_many}

@@ -1,4 +1,4 @@
-use Rattle.std.proofs.Common.{◌≡◌, length, drop, false}
+use Rattle.std.proofs.Common.{◌≡◌, length, drop}
 use Rattle.zk_typed.specs.LoadOrder.{roots, walk_to, load_order}
 use Rattle.zk_names.specs.Lent.{files_of, found_of}
 use Rattle.zk_names.proofs.order.load_order.Given as goal

@@ -1,4 +1,4 @@
-use Rattle.std.proofs.Common.{◌≡◌, ap, ◌∙◌, Option}
+use Rattle.std.proofs.Common.{ap, ◌∙◌, Option}
 use Rattle.zk_names.specs.declared.index.Slot.{Slot}
 use Rattle.zk_names.specs.Indexing.{with_place}
 use Rattle.zk_names.proofs.IndexLaws.{added}

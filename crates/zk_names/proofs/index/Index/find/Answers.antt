@@ -1,4 +1,4 @@
-use Rattle.std.proofs.Common.{◌≡◌, Bool, Option, Some, None, ap, sym, ◌∙◌}
+use Rattle.std.proofs.Common.{Bool, Some, None, ap, sym, ◌∙◌}
 use Rattle.zk_names.proofs.IndexLaws.{slot_place, slot_told}
 use Rattle.zk_names.proofs.index.Index.find.Goals as goal
 

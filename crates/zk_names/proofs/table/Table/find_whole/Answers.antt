@@ -1,4 +1,4 @@
-use Rattle.std.proofs.Common.{◌≡◌, Option, Some, None, Bool, List, Bor, ap, sym, ◌∙◌, slice_get}
+use Rattle.std.proofs.Common.{Some, None, List, Bor, ap, sym, ◌∙◌, slice_get}
 use Rattle.std.specs.Option.{option_map}
 use Rattle.zk_typed.specs.Names.{is_open}
 use Rattle.zk_names.specs.declared.declared.Declared.{Declared}

@@ -1,0 +1,50 @@
+-- Arguments with their parameters, one after another.
+use Rattle.std.proofs.Common.{◌≡◌, ℕ, suc, ◌+◌, ◌<◌, ◌≤◌, Result, Ok, List, [], ◌∷◌, length, map, drop, get_or, refl, ap, sym, ◌∙◌, subst, drop-cons, add-one}
+use Rattle.std.proofs.lemmas.List.{drop_all}
+use Rattle.std.specs.declared.alloc.Global.{Global}
+use Rattle.std.specs.declared.vec.Vec.{Vec}
+use Rattle.zk_tree.specs.declared.expr.Item.{Item}
+use Rattle.zk_operator.specs.declared.operands.Typed.{Typed as RustTyped}
+use Rattle.zk_operator.specs.Gathering.{IsNext}
+use Rattle.zk_operator.specs.Views.{typed_of, all_typed}
+use Rattle.zk_typed.specs.declared.refusal.Refusal.{Refusal}
+use Rattle.zk_typed.specs.declared.script.types.ValueType as declared
+use Rattle.zk_typed.specs.Checked.{Checked}
+use Rattle.zk_typed.specs.Making.{argument, matched}
+use Rattle.zk_typed.specs.Tells.{Tells}
+use Rattle.zk_typed.specs.Types.{ValueType}
+use Rattle.zk_typed.specs.Typing.{Typed, Env, Check, Wants}
+use Rattle.zk_typed.specs.View.{type_of}
+use Rattle.zk_expression.proofs.Eaches.{with_first, with_last, with_rest, rest_turn, no_rest, next_tells}
+
+-- what is told where a list of parts goes on as another
+abbrev pub GoesOn : Result (Vec RustTyped Global) Refusal → Checked (List Typed) → Checked (List Typed) → Type 0
+GoesOn all more whole = (now : Checked (List Typed)) × Tells all_typed all now × (with_rest now more ≡ whole)
+
+front_of : (items : List Item) (i : ℕ) (item : Item) → i < length items → item ≡ get_or items i item → drop i items ≡ item ∷ drop (i + 1) items
+front_of items i item within is = rw add-one (drop-cons items i item within ∙ ap (λ x. x ∷ drop (suc i) items) (sym is))
+
+pub matched_turn : (check : Check) (env : Env) (others rest : List declared.ValueType) (param : declared.ValueType) (items : List Item) (i : ℕ) (item : Item)
+    (all : Result (Vec RustTyped Global) Refusal) (part : Result RustTyped Refusal) (next : Result (Vec RustTyped Global) Refusal) (whole : Checked (List Typed)) →
+    others ≡ param ∷ rest → i < length items → item ≡ get_or items i item →
+    GoesOn all (matched check env (map type_of others) (drop i items)) whole → Tells typed_of part (argument check env (Wants (type_of param)) item) → IsNext all part next →
+    GoesOn next (matched check env (map type_of rest) (drop (i + 1) items)) whole
+matched_turn check env others rest param items i item all part next whole front within is before told step =
+    let here : Checked Typed = argument check env (Wants (type_of param)) item in
+    let left : matched check env (map type_of others) (drop i items) ≡ with_first here (matched check env (map type_of rest) (drop (i + 1) items)) =
+    ap (λ params. matched check env (map type_of params) (drop i items)) front ∙ ap (matched check env (type_of param ∷ map type_of rest)) (front_of items i item within is) in
+    (with_last before.0 here, next_tells all part next before.0 here before.1 told step, rest_turn before.0 here _ ∙ ap (with_rest before.0) (sym left) ∙ before.2)
+
+matched_none : (check : Check) (env : Env) (params : List ValueType) → matched check env params [] ≡ Ok []
+matched_none check env [] = refl
+matched_none check env (param ∷ params) = refl
+
+none_left : (items : List Item) (i : ℕ) → length items ≤ i → drop i items ≡ []
+none_left items i past = drop_all i items past
+
+pub matched_end : (check : Check) (env : Env) (params : List ValueType) (items : List Item) (i : ℕ) (all : Result (Vec RustTyped Global) Refusal) (whole : Checked (List Typed)) →
+    length items ≤ i → GoesOn all (matched check env params (drop i items)) whole → Tells all_typed all whole
+matched_end check env params items i all whole past before =
+    let left : matched check env params (drop i items) ≡ Ok [] = ap (matched check env params) (none_left items i past) ∙ matched_none check env params in
+    let same : before.0 ≡ whole = sym (no_rest before.0) ∙ ap (with_rest before.0) (sym left) ∙ before.2 in
+    subst (λ (x : Checked (List Typed)). Tells all_typed all x) same before.1

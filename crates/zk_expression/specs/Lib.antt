@@ -1,0 +1,3 @@
+pub mod Envs
+pub mod Judging
+pub mod Parts

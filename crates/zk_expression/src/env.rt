@@ -1,0 +1,46 @@
+ghost use Rattle.std.specs.Prelude.{◌≡◌};
+
+use zk_names::{Home, Names};
+use zk_tree::{Expr, Place};
+use zk_typed::script::ValueType;
+
+/// A parameter or a local.
+#[derive(Debug, Drop)]
+pub struct LocalName<'a> {
+    pub name: &'a [u8],
+    /// None where its declaration is broken.
+    pub value_type: Option<ValueType>,
+}
+
+/// Where an expression stands.
+#[derive(Clone, Copy)]
+pub struct Env<'a> {
+    pub names: &'a Names<'a>,
+    pub home: Home<'a>,
+    /// The parameters and locals that are visible, by their numbers.
+    pub locals: &'a [LocalName<'a>],
+    /// The types of the globals and constants, by their numbers; None where one is broken.
+    pub global_types: &'a [Option<ValueType>],
+}
+
+impl Env<'_> {
+    ghost use Rattle.zk_typed.specs.Typing as spec;
+    ghost use Rattle.zk_expression.specs.Envs.{env_of};
+
+    /// A place in the file.
+    pub fn at(&self, byte: u64) -> Place
+        ensures { result ≡ spec.at (env_of self.now) byte }
+    {
+        Place {
+            file: self.home.file,
+            byte,
+        }
+    }
+
+    /// The place of an expression.
+    pub fn expr_place(&self, one: &Expr) -> Place
+        ensures { result ≡ spec.expr_place (env_of self.now) one.now }
+    {
+        self.at(one.place())
+    }
+}

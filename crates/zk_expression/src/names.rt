@@ -1,0 +1,123 @@
+ghost use Rattle.std.specs.Prelude.{◌≡◌, IfOk, Ok};
+ghost use Rattle.std.specs.Option.{option_map};
+ghost use Rattle.zk_names.specs.Lent.{declared_of};
+ghost use Rattle.zk_operator.specs.Views.{typed_of};
+ghost use Rattle.zk_typed.specs.Forms as form;
+ghost use Rattle.zk_typed.specs.Tells.{Tells};
+ghost use Rattle.zk_typed.specs.Typing as spec;
+ghost use Rattle.zk_typed.specs.View.{type_of};
+ghost use Rattle.zk_expression.specs.Envs.{env_of, local_found, locals_of, known_at, known_or};
+ghost use Rattle.zk_expression.specs.Parts.{and_then};
+
+use crate::env::{Env, LocalName};
+use sqlite_items::{Items, at};
+use std::alloc::Global;
+use zk_base::{Bytes, Mem};
+use zk_names::{Declared, Kind, Meant};
+use zk_operator::{Typed, constant, copied_type};
+use zk_tree::{Name, Place};
+use zk_typed::script::{Expr, Literal, SimpleType, ValueType};
+use zk_typed::{Refusal, Rule, one_broken};
+
+/// The local of a name among some, and its number. More locals than numbers are more than memory holds.
+pub fn local_named<'a>(
+    locals: &'a [LocalName<'a>],
+    name: &[u8],
+) -> Result<Option<(u32, &'a LocalName<'a>)>, Mem>
+    ensures { IfOk result (λ found. option_map local_found found ≡ spec.local_named name.now 0 (locals_of locals.entry.now)) }
+{
+    for (number, local) in locals.iter().enumerate() {
+        if local.name == name {
+            return match u32::try_from(number) {
+                Ok(number) => Ok(Some((number, local))),
+                Err(_) => Err(Mem),
+            };
+        }
+    }
+    Ok(None)
+}
+
+/// The value of a local.
+fn local_value(alloc: Global, number: u32, value_type: &Option<ValueType>) -> Result<Typed, Refusal>
+    ensures { Tells typed_of result (and_then (known_or (option_map type_of value_type.now)) (λ type. Ok (spec.typed type (form.Local number)))) }
+{
+    match value_type {
+        None => Err(Refusal::Broken(Items::new(alloc))),
+        Some(value_type) => {
+            let value_type = copied_type(alloc, value_type)?;
+            Ok(Typed {
+                value_type,
+                expr: Expr::Local(number),
+            })
+        }
+    }
+}
+
+/// The value of a global or a constant, of those whose types are known.
+fn global_value(
+    alloc: Global,
+    global_types: &[Option<ValueType>],
+    number: u32,
+) -> Result<Typed, Refusal>
+    ensures { Tells typed_of result (and_then (known_at global_types.now number) (λ type. Ok (spec.typed type (form.Global number)))) }
+{
+    match at(global_types, number as usize) {
+        None => Err(Refusal::Broken(Items::new(alloc))),
+        Some(one) => match one {
+            None => Err(Refusal::Broken(Items::new(alloc))),
+            Some(value_type) => {
+                let value_type = copied_type(alloc, value_type)?;
+                Ok(Typed {
+                    value_type,
+                    expr: Expr::Global(number),
+                })
+            }
+        },
+    }
+}
+
+/// The value that a declared name has. The name of an event, a hook, a function or a type has none.
+fn declared_value(
+    alloc: Global,
+    env: &Env<'_>,
+    place: Place,
+    found: Option<&Declared<'_>>,
+) -> Result<Typed, Refusal>
+    ensures { Tells typed_of result (spec.declared_value (env_of env.now) place (option_map (λ one. declared_of one.now) found.entry)) }
+{
+    let Some(one) = found else {
+        return Err(Refusal::Broken(one_broken(alloc, Rule::Unknown, place)?));
+    };
+    match &one.meant {
+        Meant::Word { number } => {
+            let word = Bytes::copy_of(alloc, one.name.as_slice())?;
+            Ok(constant(SimpleType::Enum(*number), Literal::Enum(word)))
+        }
+        Meant::Variable { .. } => {
+            let number = env.names.number_among(Kind::Variable, one)?;
+            global_value(alloc, env.global_types, number)
+        }
+        Meant::KnownType { .. }
+        | Meant::WrittenType { .. }
+        | Meant::Event { .. }
+        | Meant::Hook { .. }
+        | Meant::Function { .. }
+        | Meant::BuiltInFunction { .. }
+        | Meant::Log { .. } => Err(Refusal::Broken(one_broken(alloc, Rule::WrongType, place)?)),
+    }
+}
+
+/// The value of a name.
+pub fn name_typed(alloc: Global, env: &Env<'_>, name: &Name) -> Result<Typed, Refusal>
+    ensures { Tells typed_of result (spec.name_typed (env_of env.now) name.now) }
+{
+    match local_named(env.locals, name.text.as_slice())? {
+        Some((number, local)) => local_value(alloc, number, &local.value_type),
+        None => {
+            let found = env
+                .names
+                .look_up(alloc, env.home.module_name, name.text.as_slice())?;
+            declared_value(alloc, env, env.at(name.place), found)
+        }
+    }
+}

@@ -1,0 +1,48 @@
+-- Where names lead by way of the types that they are declared as, with each declared name by its place.
+use Rattle.std.specs.Prelude.{ℕ, Bool, false, ◌&&◌, ◌||◌, List, [], flat_map, Option, Some, None, slice_get}
+use Rattle.std.specs.Str.{bytes_eq}
+use Rattle.zk_tree.specs.declared.name.Name.{Name}
+use Rattle.zk_tree.specs.declared.types.Type.{«Type»}
+use Rattle.zk_typed.specs.Names.{Declared, Meant, WrittenType, is_open, whole_name}
+use Rattle.zk_typed.specs.Resolving.{Scripts, leads_by, leads_to}
+use Rattle.zk_typed.specs.Within.{maybe_one, mention, mentions}
+use Rattle.zk_names.specs.Indexing.{first_place, or_else}
+
+-- where the first stands that a whole name means
+abbrev pub place_whole : List Declared → List ℕ → List ℕ → Option ℕ
+place_whole names from_module whole = first_place (λ one. bytes_eq one.name whole && (one.exported || is_open from_module whole)) names
+
+-- where the first stands that a name means in a module
+abbrev pub place_up : List Declared → List ℕ → List ℕ → Option ℕ
+place_up names from_module name = or_else (place_whole names from_module (whole_name from_module name)) (place_whole names from_module name)
+
+-- where names lead
+abbrev pub places : List Declared → List ℕ → List Name → List ℕ
+places names from_module mentioned = flat_map (λ name. maybe_one (place_up names from_module name.text)) mentioned
+
+-- where the name leads that a type is
+abbrev pub mention_places : List Declared → List ℕ → «Type» → List ℕ
+mention_places names from_module tree = places names from_module (mention tree)
+
+abbrev pub meant_steps : List Declared → Meant → List ℕ
+meant_steps names (WrittenType home tree) = places names home.module_name (mentions tree)
+meant_steps names other = []
+
+abbrev pub declared_steps : List Declared → Option Declared → List ℕ
+declared_steps names None = []
+declared_steps names (Some one) = meant_steps names one.meant
+
+-- where the name at a place leads
+abbrev pub steps : List Declared → ℕ → List ℕ
+steps names place = declared_steps names (slice_get names place)
+
+abbrev pub has_name : List ℕ → Option Declared → Bool
+has_name target None = false
+has_name target (Some one) = bytes_eq one.name target
+
+abbrev pub is_target : List Declared → List ℕ → ℕ → Bool
+is_target names target place = has_name target (slice_get names place)
+
+-- the name at a place leads to a declared type within so many steps
+abbrev pub led : Scripts → List ℕ → ℕ → ℕ → Bool
+led scripts target most place = leads_by (leads_to most scripts target) target (slice_get scripts.names place)

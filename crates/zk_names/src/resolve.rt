@@ -1,0 +1,118 @@
+ghost use Rattle.std.specs.Prelude.{◌≡◌, IfOk};
+ghost use Rattle.std.specs.List.{list_any};
+ghost use Rattle.std.specs.Option.{option_map};
+ghost use Rattle.zk_typed.specs.Names.{enum_number, find_whole, look_up, record_number};
+ghost use Rattle.zk_typed.specs.Resolving as spec;
+ghost use Rattle.zk_typed.specs.Typing.{number_among};
+ghost use Rattle.zk_typed.specs.Within.{mentions};
+ghost use Rattle.zk_names.specs.Kinds.{is_of};
+ghost use Rattle.zk_names.specs.Lent.{declared_lent, declared_of, home_of, stated_lent};
+ghost use Rattle.zk_names.specs.Scripted.{scripts_in};
+
+use crate::counting::{enum_number, record_number};
+use crate::declared::Declared;
+use crate::home::{Home, Stated};
+use crate::kind::Kind;
+use crate::known::Names;
+use crate::leading::{add_place, mentioned, search};
+use crate::numbering::number_among;
+use crate::whole::Whole;
+use std::alloc::Global;
+use zk_base::Mem;
+use zk_tree::{Name, Type};
+
+impl<'a> Names<'a> {
+    /// The declarations, in load order.
+    pub fn stated(&self) -> &[Stated<'a>]
+        ensures { stated_lent result.now ≡ (scripts_in self.now).stated }
+    {
+        &self.stated
+    }
+
+    /// The names, in the order of their declarations.
+    pub fn declared(&self) -> &[Declared<'a>]
+        ensures { declared_lent result.now ≡ (scripts_in self.now).names }
+    {
+        &self.table.names
+    }
+
+    /// What a name means in a module: one of the module, or else one of none.
+    pub fn look_up(
+        &self,
+        alloc: Global,
+        from_module: &[u8],
+        name: &[u8],
+    ) -> Result<Option<&Declared<'a>>, Mem>
+        ensures { IfOk result (λ found. option_map (λ one. declared_of one.now) found ≡ look_up (scripts_in self.now).names from_module.now name.now) }
+    {
+        self.table.look_up(alloc, from_module, name)
+    }
+
+    /// What a whole name means, as it is seen from a module.
+    pub fn find_whole(
+        &self,
+        alloc: Global,
+        from_module: &[u8],
+        whole: &[u8],
+    ) -> Result<Option<&Declared<'a>>, Mem>
+        ensures { IfOk result (λ found. option_map (λ one. declared_of one.now) found ≡ find_whole (scripts_in self.now).names from_module.now whole.now) }
+    {
+        let whole = Whole::copy_of(alloc, whole)?;
+        Ok(self.table.find_whole(from_module, &whole))
+    }
+
+    /// The number of a name among those of a kind: that of the first that has its name, or how many there
+    /// are.
+    pub fn number_among(&self, kind: Kind, one: &Declared<'_>) -> Result<u32, Mem>
+        ensures { IfOk result (λ number. number ≡ number_among (is_of kind) (scripts_in self.now) (declared_of one.now)) }
+    {
+        let number = number_among(&self.table.names, kind, one.name.as_slice())?;
+        Ok(number)
+    }
+
+    /// The number of the record type whose text begins at a place.
+    pub fn record_number(&self, file: usize, place: u64) -> Result<u32, Mem>
+        ensures { IfOk result (λ number. number ≡ record_number (scripts_in self.now).nodes file place) }
+    {
+        record_number(&self.nodes, file, place)
+    }
+
+    /// The number of the enum whose text begins at a place.
+    pub fn enum_number(&self, file: usize, place: u64) -> Result<u32, Mem>
+        ensures { IfOk result (λ number. number ≡ enum_number (scripts_in self.now).nodes file place) }
+    {
+        enum_number(&self.nodes, file, place)
+    }
+
+    /// Whether a name leads to a declared type of a whole name, by way of the names that types mention.
+    pub fn leads(
+        &self,
+        alloc: Global,
+        target: &[u8],
+        home: Home<'_>,
+        name: &Name,
+    ) -> Result<bool, Mem>
+        ensures { IfOk result (λ found. found ≡ spec.leads (scripts_in self.now) target.now (home_of home.entry) name.now) }
+    {
+        let mut starts = Vec::new(alloc);
+        let text = name.text.as_slice();
+        add_place(alloc, &self.table, home.module_name, text, &mut starts)?;
+        let leads = search(alloc, &self.table, target, &starts)?;
+        Ok(leads)
+    }
+
+    /// Whether a declared type leads back to its own whole name.
+    pub fn is_circular(
+        &self,
+        alloc: Global,
+        target: &[u8],
+        home: Home<'_>,
+        tree: &Type,
+    ) -> Result<bool, Mem>
+        ensures { IfOk result (λ found. found ≡ list_any (spec.leads (scripts_in self.now) target.now (home_of home.entry)) (mentions tree.now)) }
+    {
+        let starts = mentioned(alloc, &self.table, home.module_name, tree)?;
+        let leads = search(alloc, &self.table, target, &starts)?;
+        Ok(leads)
+    }
+}

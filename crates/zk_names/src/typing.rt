@@ -1,0 +1,268 @@
+ghost use Rattle.std.specs.Prelude.{◌≡◌, List, IfOk};
+ghost use Rattle.std.specs.List.{list_any};
+ghost use Rattle.zk_typed.specs.Checked.{Checked};
+ghost use Rattle.zk_typed.specs.declared.script.types.SimpleType as key;
+ghost use Rattle.zk_typed.specs.Names.{look_up};
+ghost use Rattle.zk_typed.specs.Predefined.{enum as enum_of, record_no};
+ghost use Rattle.zk_typed.specs.Resolving as spec;
+ghost use Rattle.zk_typed.specs.Tells.{Tells};
+ghost use Rattle.zk_typed.specs.Types as typed;
+ghost use Rattle.zk_typed.specs.View.{type_of};
+ghost use Rattle.zk_names.specs.Keys.{keyed, keys_to, tabled};
+ghost use Rattle.zk_names.specs.Lent.{home_of};
+ghost use Rattle.zk_names.specs.Scripted.{scripts_in};
+
+use crate::copying::copied_type;
+use crate::declared::Meant;
+use crate::gathering::appended;
+use crate::home::Home;
+use crate::known::Names;
+use sqlite_items::{Boxed, Items};
+use std::alloc::Global;
+use zk_base::{RecordNo, Sequence};
+use zk_tree::{Atomic, Name, Place, Type};
+use zk_typed::script::{SimpleType, ValueType};
+use zk_typed::{Broken, Refusal, Rule, one_broken};
+
+/// The place of a byte in the file of a declaration.
+pub fn place_in(home: Home<'_>, byte: u64) -> Place
+    ensures { result ≡ spec.place_in (home_of home.entry) byte }
+{
+    Place {
+        file: home.file,
+        byte,
+    }
+}
+
+/// A type without parts.
+fn simple_of(atomic: Atomic) -> SimpleType
+    ensures { result ≡ spec.simple_of atomic }
+{
+    match atomic {
+        Atomic::Bool => SimpleType::Bool,
+        Atomic::Count => SimpleType::Count,
+        Atomic::Int => SimpleType::Int,
+        Atomic::String => SimpleType::String,
+        Atomic::Time => SimpleType::Time,
+        Atomic::Interval => SimpleType::Interval,
+        Atomic::Addr => SimpleType::Addr,
+        Atomic::Port => SimpleType::Port,
+        Atomic::Subnet => SimpleType::Subnet,
+    }
+}
+
+/// The record type of a number.
+fn record_type(number: u32) -> ValueType
+    ensures { type_of result ≡ typed.Record (record_no number) }
+{
+    ValueType::Record(RecordNo(number))
+}
+
+/// The enum of a number.
+fn enum_type(number: u32) -> ValueType
+    ensures { type_of result ≡ enum_of number }
+{
+    ValueType::Simple(SimpleType::Enum(number))
+}
+
+/// The type of a key, which has no parts.
+fn as_key(
+    alloc: Global,
+    place: Place,
+    one: Result<ValueType, Refusal>,
+) -> Result<SimpleType, Refusal>
+    ensures { (checked : Checked typed.ValueType) → Tells type_of one checked → Tells (λ key. key) result (keyed place checked) }
+{
+    match one {
+        Ok(ValueType::Simple(simple)) => Ok(simple),
+        Ok(ValueType::Record(_))
+        | Ok(ValueType::Table { .. })
+        | Ok(ValueType::Set { .. })
+        | Ok(ValueType::Vector { .. }) => {
+            Err(Refusal::Broken(one_broken(alloc, Rule::WrongType, place)?))
+        }
+        Err(refusal) => Err(refusal),
+    }
+}
+
+/// The type of a table by those of its keys and its values, or all that is broken in either.
+fn table_of(
+    alloc: Global,
+    keys: Result<Sequence<SimpleType>, Refusal>,
+    value: Result<ValueType, Refusal>,
+) -> Result<ValueType, Refusal>
+    ensures { (first : Checked (List key.SimpleType)) (second : Checked typed.ValueType) → Tells (λ keys. keys) keys first → Tells type_of value second → Tells type_of result (tabled first second) }
+{
+    match keys {
+        Ok(keys) => {
+            let value = Boxed::new(alloc, value?)?;
+            Ok(ValueType::Table { keys, value })
+        }
+        Err(Refusal::Broken(mut rules)) => match value {
+            Ok(_) => Err(Refusal::Broken(rules)),
+            Err(Refusal::Broken(more)) => {
+                rules.append(more)?;
+                Err(Refusal::Broken(rules))
+            }
+            Err(Refusal::NoMemory) => Err(Refusal::NoMemory),
+        },
+        Err(Refusal::NoMemory) => Err(Refusal::NoMemory),
+    }
+}
+
+/// Whether it nests too deep.
+fn is_deep(one: &Broken) -> bool
+    ensures { result ≡ spec.is_deep one.now }
+{
+    match one.rule {
+        Rule::Recursive => true,
+        Rule::Unknown
+        | Rule::Twice
+        | Rule::WrongType
+        | Rule::Field
+        | Rule::NotConst
+        | Rule::FixedGlobal
+        | Rule::Arguments
+        | Rule::Return
+        | Rule::Break
+        | Rule::Attribute
+        | Rule::Format => false,
+    }
+}
+
+/// Whether something nests too deep.
+fn has_deep(rules: &[Broken]) -> bool
+    ensures { result ≡ list_any spec.is_deep rules.now }
+{
+    rules.iter().any(|one| is_deep(one))
+}
+
+/// The type behind a name: one that nests too deep is told at the name.
+fn unless_deep(
+    alloc: Global,
+    place: Place,
+    one: Result<ValueType, Refusal>,
+) -> Result<ValueType, Refusal>
+    ensures { (checked : Checked typed.ValueType) → Tells type_of one checked → Tells type_of result (spec.unless_deep place checked) }
+{
+    match one {
+        Ok(one) => Ok(one),
+        Err(Refusal::Broken(rules)) => {
+            if has_deep(rules.as_slice()) {
+                Err(Refusal::Broken(one_broken(alloc, Rule::Recursive, place)?))
+            } else {
+                Err(Refusal::Broken(Items::new(alloc)))
+            }
+        }
+        Err(Refusal::NoMemory) => Err(Refusal::NoMemory),
+    }
+}
+
+/// A type, with names followed at most so deep.
+#[cycle(typing)]
+#[tactic(auto, unfolding(crate::specs::Scripted::scripts_in))]
+pub fn type_to(
+    alloc: Global,
+    depth: u8,
+    names: &Names<'_>,
+    home: Home<'_>,
+    tree: &Type,
+) -> Result<ValueType, Refusal>
+    ensures { Tells type_of result (spec.type_to depth (scripts_in names.now) (home_of home.entry) tree.now) }
+{
+    let place = place_in(home, tree.place());
+    if depth == 0 {
+        return Err(Refusal::Broken(one_broken(alloc, Rule::Recursive, place)?));
+    }
+    match tree {
+        Type::Atomic { place: _, atomic } => Ok(ValueType::Simple(simple_of(*atomic))),
+        Type::Named { name } => named_type(alloc, depth - 1, names, home, name),
+        Type::Table {
+            place: _,
+            keys,
+            value,
+        } => {
+            let keys = keys_to(alloc, depth - 1, names, home, keys.as_slice());
+            let value = type_to(alloc, depth - 1, names, home, value.get());
+            table_of(alloc, keys, value)
+        }
+        Type::Set { place: _, keys } => {
+            let keys = keys_to(alloc, depth - 1, names, home, keys.as_slice())?;
+            Ok(ValueType::Set { keys })
+        }
+        Type::Vector { place: _, item } => {
+            let item = type_to(alloc, depth - 1, names, home, item.get())?;
+            let item = Boxed::new(alloc, item)?;
+            Ok(ValueType::Vector { item })
+        }
+        Type::Record { place, fields: _ } => {
+            let number = names.record_number(home.file, *place)?;
+            Ok(record_type(number))
+        }
+        Type::Enum {
+            place,
+            words: _,
+            comma: _,
+        } => {
+            let number = names.enum_number(home.file, *place)?;
+            Ok(enum_type(number))
+        }
+        Type::Event { .. } | Type::Hook { .. } | Type::Procedure { .. } | Type::Function { .. } => {
+            Err(Refusal::Broken(one_broken(alloc, Rule::WrongType, place)?))
+        }
+    }
+}
+
+/// The types of keys.
+#[cycle(typing)]
+fn keys_to(
+    alloc: Global,
+    depth: u8,
+    names: &Names<'_>,
+    home: Home<'_>,
+    keys: &[Type],
+) -> Result<Sequence<SimpleType>, Refusal>
+    ensures { Tells (λ keys. keys) result (keys_to depth (scripts_in names.now) (home_of home.entry) keys.now) }
+{
+    let mut all = Ok(Sequence::new(alloc));
+    for key in keys {
+        let one = type_to(alloc, depth, names, home, key);
+        let one = as_key(alloc, place_in(home, key.place()), one);
+        all = appended(all, one);
+    }
+    all
+}
+
+/// The type that a name names, with names behind it followed at most so deep.
+#[cycle(typing)]
+pub fn named_type(
+    alloc: Global,
+    depth: u8,
+    names: &Names<'_>,
+    home: Home<'_>,
+    name: &Name,
+) -> Result<ValueType, Refusal>
+    ensures { Tells type_of result (spec.named_type (spec.type_to depth (scripts_in names.now)) (scripts_in names.now) (spec.place_in (home_of home.entry) name.now.place) (look_up (scripts_in names.now).names home.entry.module_name.now name.now.text)) }
+{
+    let place = place_in(home, name.place);
+    let Some(one) = names.look_up(alloc, home.module_name, name.text.as_slice())? else {
+        return Err(Refusal::Broken(one_broken(alloc, Rule::Unknown, place)?));
+    };
+    match &one.meant {
+        Meant::KnownType { known } => Ok(copied_type(alloc, known)?),
+        Meant::WrittenType { home: other, tree } => {
+            if names.is_circular(alloc, &one.name, *other, tree)? {
+                return Err(Refusal::Broken(Items::new(alloc)));
+            }
+            let behind = type_to(alloc, depth, names, *other, tree);
+            unless_deep(alloc, place, behind)
+        }
+        Meant::Word { .. }
+        | Meant::Variable { .. }
+        | Meant::Event { .. }
+        | Meant::Hook { .. }
+        | Meant::Function { .. }
+        | Meant::BuiltInFunction { .. }
+        | Meant::Log { .. } => Err(Refusal::Broken(one_broken(alloc, Rule::WrongType, place)?)),
+    }
+}

@@ -9,3 +9,4 @@ pub mod GatherLaws
 pub mod SearchLaws
 pub mod LeadLaws
 pub mod TypeLaws
+pub mod FieldLaws

@@ -4,6 +4,8 @@
 mod copying;
 mod counting;
 mod declared;
+mod field;
+mod fielding;
 mod gathering;
 mod home;
 mod index;
@@ -16,6 +18,7 @@ mod node;
 mod numbering;
 mod order;
 mod outright;
+mod predefined;
 mod resolve;
 mod signing;
 mod table;
@@ -26,6 +29,8 @@ mod typing;
 mod whole;
 
 pub use declared::{Declared, LogFunction, Meant, Signature};
+pub use field::FieldInfo;
+pub use fielding::{attr_value, has_attr};
 pub use home::{Home, Stated};
 pub use kind::Kind;
 pub use known::Names;

@@ -10,3 +10,6 @@ pub mod SearchLaws
 pub mod LeadLaws
 pub mod TypeLaws
 pub mod FieldLaws
+pub mod AddLaws
+pub mod BodyLaws
+pub mod ScriptLaws

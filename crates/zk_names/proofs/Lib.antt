@@ -9,3 +9,7 @@ pub mod GatherLaws
 pub mod SearchLaws
 pub mod LeadLaws
 pub mod TypeLaws
+pub mod FieldLaws
+pub mod AddLaws
+pub mod BodyLaws
+pub mod ScriptLaws

@@ -1,4 +1,6 @@
+pub mod Fields
 pub mod Gathering
+pub mod Given
 pub mod Indexing
 pub mod Keys
 pub mod Leading
@@ -6,3 +8,4 @@ pub mod Kinds
 pub mod Lent
 pub mod Same
 pub mod Scripted
+pub mod Words

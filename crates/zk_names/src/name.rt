@@ -1,5 +1,5 @@
 ghost use Rattle.std.specs.Prelude.{◌≡◌, ◌≤◌, length, take, is_some, IfOk, IfSome};
-ghost use Rattle.std.specs.Option.{option_map};
+ghost use Rattle.std.specs.Option.{option_copied, option_map};
 ghost use Rattle.zk_typed.specs.Names.{is_open, module_in, module_of, whole_name};
 
 use crate::whole::Whole;
@@ -25,6 +25,16 @@ pub fn has_module(name: &[u8]) -> bool
     ensures { result ≡ is_some (module_in name.now) }
 {
     module_len(name).is_some()
+}
+
+/// The part of a name before `::`, where it has one.
+pub fn own_module(name: &[u8]) -> Option<&[u8]>
+    ensures { option_copied result ≡ module_in name.now }
+{
+    match module_len(name) {
+        Some(len) => Some(&name[..len]),
+        None => None,
+    }
 }
 
 /// The module of a name, which is empty for none.

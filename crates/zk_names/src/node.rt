@@ -84,7 +84,11 @@ fn all_within<'a>(trees: &[&'a Type], found: &mut Vec<&'a Type>) -> Result<(), M
 }
 
 /// Adds the nodes of a declaration.
-fn add_decl_nodes<'a>(alloc: Global, one: Stated<'a>, nodes: &mut Vec<Node<'a>>) -> Result<(), Mem>
+pub fn add_decl_nodes<'a>(
+    alloc: Global,
+    one: Stated<'a>,
+    nodes: &mut Vec<Node<'a>>,
+) -> Result<(), Mem>
     ensures { OnOk result (nodes_lent nodes.new.items ≡ nodes_lent nodes.old.items ++ decl_nodes (home_of one.entry.home) (out-Decl one.entry.decl.now)) }
 {
     let mut types = Vec::new(alloc);

@@ -13,7 +13,7 @@ use zk_base::Mem;
 use zk_tree::{Attr, Decl, Init, Lasting, Name, Param, Type};
 
 /// A signature that is written.
-fn written<'a>(home: Home<'a>, params: &'a [Param], given: Option<&'a Type>) -> Signature<'a>
+pub fn written<'a>(home: Home<'a>, params: &'a [Param], given: Option<&'a Type>) -> Signature<'a>
     ensures { signature_of result ≡ Written (home_of home.entry) params.entry.now (option_copied given.entry) }
 {
     Signature::Written {
@@ -64,7 +64,7 @@ fn variable_meaning<'a>(
 }
 
 /// A name that a declaration declares.
-fn declare<'a>(
+pub fn declare<'a>(
     alloc: Global,
     home: Home<'a>,
     name: &Name,

@@ -6,7 +6,7 @@ ghost use Rattle.zk_typed.specs.Resolving as spec;
 ghost use Rattle.zk_typed.specs.Typing.{number_among};
 ghost use Rattle.zk_typed.specs.Within.{mentions};
 ghost use Rattle.zk_names.specs.Kinds.{is_of};
-ghost use Rattle.zk_names.specs.Lent.{declared_lent, declared_of, home_of, stated_lent};
+ghost use Rattle.zk_names.specs.Lent.{declared_lent, declared_of, home_of, nodes_lent, stated_lent};
 ghost use Rattle.zk_names.specs.Scripted.{scripts_in};
 
 use crate::counting::{enum_number, record_number};
@@ -15,6 +15,7 @@ use crate::home::{Home, Stated};
 use crate::kind::Kind;
 use crate::known::Names;
 use crate::leading::{add_place, mentioned, search};
+use crate::node::Node;
 use crate::numbering::number_among;
 use crate::whole::Whole;
 use std::alloc::Global;
@@ -27,6 +28,13 @@ impl<'a> Names<'a> {
         ensures { stated_lent result.now ≡ (scripts_in self.now).stated }
     {
         &self.stated
+    }
+
+    /// The records and enums in the texts, in load order.
+    pub fn nodes(&self) -> &[Node<'a>]
+        ensures { nodes_lent result.now ≡ (scripts_in self.now).nodes }
+    {
+        &self.nodes
     }
 
     /// The names, in the order of their declarations.

@@ -1,5 +1,7 @@
 ghost use Rattle.std.specs.Prelude.{◌≡◌, [], ◌∷◌, ◌++◌, OnOk, OnErr, IfOk};
+ghost use Rattle.std.specs.List.{list_any};
 ghost use Rattle.std.specs.Option.{option_map};
+ghost use Rattle.std.specs.Str.{bytes_eq};
 ghost use Rattle.zk_typed.specs.Names.{find_whole, look_up};
 ghost use Rattle.zk_names.specs.Lent.{declared_lent, declared_of};
 ghost use Rattle.zk_names.specs.Indexing.{Indexes};
@@ -100,5 +102,13 @@ impl<'a> Table<'a> {
                 Ok(self.place_of_whole(from_module, &whole))
             }
         }
+    }
+
+    /// Whether a whole name is there.
+    pub fn has(&self, whole: &Whole) -> bool
+        ensures { result ≡ list_any (λ one. bytes_eq one.name whole.now) (declared_lent self.now.names.items) }
+    {
+        let place = self.index.find(whole, true);
+        place.is_some()
     }
 }

@@ -1,11 +1,15 @@
 use crate::declared::{Declared, Meant};
+use crate::home::Home;
+use crate::making::names;
 use crate::order::load_order;
 use crate::table::Table;
 use sqlite_items::Items;
 use std::alloc::Global;
 use std::test::Fail;
-use zk_base::{Bytes, Mem};
-use zk_tree::{Decl, Lasting, Name, Tree};
+use zk_base::{Bytes, Mem, RecordNo};
+use zk_tree::{Decl, Field, Lasting, Name, Tree, Type};
+use zk_typed::Refusal;
+use zk_typed::script::ValueType;
 
 fn name(alloc: Global, text: &[u8]) -> Result<Name, Mem> {
     Ok(Name {
@@ -128,5 +132,78 @@ fn a_name_is_seen_in_its_module_and_elsewhere_if_it_is_exported(
     for (module_name, text, number) in cases {
         assert_eq!(rt; meant(rt.alloc(), &table, module_name, text)?, number);
     }
+    Ok(())
+}
+
+fn named(alloc: Global, text: &[u8]) -> Result<Type, Mem> {
+    Ok(Type::Named {
+        name: name(alloc, text)?,
+    })
+}
+
+fn field(alloc: Global, text: &[u8], field_type: Type) -> Result<Field, Mem> {
+    Ok(Field {
+        name: name(alloc, text)?,
+        field_type,
+        attrs: Items::new(alloc),
+    })
+}
+
+fn declared_type(alloc: Global, text: &[u8], meant: Type) -> Result<Decl, Mem> {
+    Ok(Decl::Type {
+        place: 0,
+        name: name(alloc, text)?,
+        meant,
+    })
+}
+
+/// `type R: record { a: string_vec; }`, `type A: B`, `type B: A`, `redef record R += { b: R; }` and
+/// `redef enum Log::ID += { W }`.
+fn declaring(alloc: Global) -> Result<Vec<(Bytes, Tree)>, Mem> {
+    let own = vec![in alloc; field(alloc, b"a", named(alloc, b"string_vec")?)?]?;
+    let record = Type::Record {
+        place: 5,
+        fields: Items::from_vec(own),
+    };
+    let more = vec![in alloc; field(alloc, b"b", named(alloc, b"R")?)?]?;
+    let redef = Decl::RedefRecord {
+        place: 0,
+        name: name(alloc, b"R")?,
+        fields: Items::from_vec(more),
+    };
+    let word = vec![in alloc; name(alloc, b"W")?]?;
+    let words = Decl::RedefEnum {
+        place: 0,
+        name: name(alloc, b"Log::ID")?,
+        words: Items::from_vec(word),
+        comma: false,
+    };
+    let decls = vec![in alloc;
+        declared_type(alloc, b"R", record)?,
+        declared_type(alloc, b"A", named(alloc, b"B")?)?,
+        declared_type(alloc, b"B", named(alloc, b"A")?)?,
+        redef,
+        words,
+    ]?;
+    Ok(vec![in alloc; file(alloc, b"a", decls)?]?)
+}
+
+#[test]
+fn names_lead_to_records_words_and_circles(rt: HostRuntime) -> Result<(), Fail> {
+    let alloc = rt.alloc();
+    let files = declaring(alloc)?;
+    let names = names(alloc, &files)?;
+    let home = Home {
+        file: 0,
+        module_name: b"",
+        exported: false,
+    };
+    let record = names.type_named(alloc, home, &name(alloc, b"R")?);
+    assert!(rt; matches!(record, Ok(ValueType::Record(RecordNo(8)))));
+    let fields = names.fields_of(alloc, RecordNo(8))?;
+    assert_eq!(rt; fields.len(), 2);
+    let circle = names.type_named(alloc, home, &name(alloc, b"A")?);
+    assert!(rt; matches!(circle, Err(Refusal::Broken(_))));
+    assert_eq!(rt; meant(alloc, &names.table, b"", b"W")?, 1);
     Ok(())
 }

@@ -1,0 +1,81 @@
+-- Words of enums, and what bodies declare.
+use Rattle.std.proofs.Common.{◌≡◌, ℕ, suc, Bool, true, false, ◌&&◌, ◌||◌, List, [], ◌∷◌, filter, fold, Ok, Err, not, is_some, Option, Some, None, refl, ap, ◌∙◌}
+use Rattle.std.specs.List.{list_any}
+use Rattle.std.specs.Option.{option_map}
+use Rattle.std.specs.Str.{bytes_eq}
+use Rattle.zk_tree.specs.declared.name.Name.{Name}
+use Rattle.zk_typed.specs.declared.script.types.SimpleType.{SimpleType}
+use Rattle.zk_typed.specs.declared.script.types.SimpleType.TheVariants as simple
+use Rattle.zk_typed.specs.Checked.{Checked}
+use Rattle.zk_typed.specs.Declaring.{in_no_module, with_bodies, words_of}
+use Rattle.zk_typed.specs.LoadOrder.{Home, Stated}
+use Rattle.zk_typed.specs.Names.{Declared}
+use Rattle.zk_typed.specs.Types.{ValueType, Simple, Record, Table, Set, Vector}
+use Rattle.zk_names.specs.Indexing.{first_place}
+use Rattle.zk_names.proofs.IndexLaws.{same_first}
+use Rattle.zk_names.specs.Words.{enum_in, with_body, words_in}
+
+of_simple : (one : SimpleType) (home : Home) (words : List Name) → words_of (Ok (Simple one)) home words ≡ words_in (enum_in (Ok (Simple one))) home words
+of_simple simple.Bool home words = refl
+of_simple simple.Count home words = refl
+of_simple simple.Int home words = refl
+of_simple simple.String home words = refl
+of_simple simple.Time home words = refl
+of_simple simple.Interval home words = refl
+of_simple simple.Addr home words = refl
+of_simple simple.Port home words = refl
+of_simple simple.Subnet home words = refl
+of_simple (simple.Enum number) home words = refl
+
+pub words_is : (checked : Checked ValueType) (home : Home) (words : List Name) → words_of checked home words ≡ words_in (enum_in checked) home words
+words_is (Ok (Simple one)) home words = of_simple one home words
+words_is (Ok (Record number)) home words = refl
+words_is (Ok (Table keys value)) home words = refl
+words_is (Ok (Set keys)) home words = refl
+words_is (Ok (Vector item)) home words = refl
+words_is (Err rules) home words = refl
+
+by_module : (names : List Declared) (one : Stated) (others : List Stated) (b : Bool) → in_no_module one ≡ b → ((names : List Declared) → with_bodies names (filter in_no_module others) ≡ fold (with_body true) names others) →
+    with_bodies names (filter in_no_module (one ∷ others)) ≡ fold (with_body true) names (one ∷ others)
+by_module names one others true e h = rw e (h _)
+by_module names one others false e h = rw e (h names)
+
+-- the bodies of no module
+pub first_bodies : (stated : List Stated) (names : List Declared) → with_bodies names (filter in_no_module stated) ≡ fold (with_body true) names stated
+first_bodies [] names = refl
+first_bodies (one ∷ others) names = by_module names one others (in_no_module one) refl (first_bodies others)
+
+by_other : (names : List Declared) (one : Stated) (others : List Stated) (b : Bool) → in_no_module one ≡ b → ((names : List Declared) → with_bodies names (filter (λ one. not (in_no_module one)) others) ≡ fold (with_body false) names others) →
+    with_bodies names (filter (λ one. not (in_no_module one)) (one ∷ others)) ≡ fold (with_body false) names (one ∷ others)
+by_other names one others true e h = rw e (h names)
+by_other names one others false e h = rw e (h _)
+
+-- the bodies of modules
+pub other_bodies : (stated : List Stated) (names : List Declared) → with_bodies names (filter (λ one. not (in_no_module one)) stated) ≡ fold (with_body false) names stated
+other_bodies [] names = refl
+other_bodies (one ∷ others) names = by_other names one others (in_no_module one) refl (other_bodies others)
+
+-- Names that are there ------------------------------------------------------------------------------------------------
+
+some_by : {A : Type 0} (p : A → Bool) (one : A) (others : List A) (b : Bool) → p one ≡ b → is_some (first_place p others) ≡ list_any p others → is_some (first_place p (one ∷ others)) ≡ list_any p (one ∷ others)
+some_by p one others true e h = rw e refl
+some_by p one others false e h = rw e (later (first_place p others) ∙ h)
+  where
+    later : (a : Option ℕ) → is_some (option_map suc a) ≡ is_some a
+    later None = refl
+    later (Some at) = refl
+
+some_any : {A : Type 0} (p : A → Bool) (items : List A) → is_some (first_place p items) ≡ list_any p items
+some_any p [] = refl
+some_any p (one ∷ others) = some_by p one others (p one) refl (some_any p others)
+
+or_true : (a b : Bool) → a && (b || true) ≡ a
+or_true true true = refl
+or_true true false = refl
+or_true false b = refl
+
+-- a name stands in a list where its place is found, exported or not
+pub has_place : (names : List Declared) (whole : List ℕ) → is_some (first_place (λ (one : Declared). bytes_eq one.name whole && (one.exported || true)) names) ≡ list_any (λ (one : Declared). bytes_eq one.name whole) names
+has_place names whole =
+    ap is_some (same_first (λ (one : Declared). bytes_eq one.name whole && (one.exported || true)) (λ (one : Declared). bytes_eq one.name whole) (λ one. or_true (bytes_eq one.name whole) one.exported) names) ∙
+    some_any (λ (one : Declared). bytes_eq one.name whole) names

@@ -1,0 +1,255 @@
+ghost use Rattle.std.specs.Prelude.{◌≡◌, ◌++◌, filter, flat_map, map, slice_get, OnOk, IfOk};
+ghost use Rattle.std.specs.Option.{option_copied, option_map};
+ghost use Rattle.zk_typed.specs.Names.{is_record};
+ghost use Rattle.zk_typed.specs.Resolving as spec;
+ghost use Rattle.zk_typed.specs.View.{type_of};
+ghost use Rattle.zk_names.specs.Fields.{field_of, fields_lent, known_or, node_fields, own_of, predefined_fields, stated_fields};
+ghost use Rattle.zk_names.specs.Lent.{home_of, node_of, nodes_lent, stated_lent, stated_of};
+ghost use Rattle.zk_names.specs.Scripted.{scripts_in};
+
+use crate::field::FieldInfo;
+use crate::home::{Home, Stated};
+use crate::known::Names;
+use crate::node::Node;
+use crate::predefined::{add_known, known_fields};
+use std::alloc::Global;
+use zk_base::{Mem, RecordNo};
+use zk_tree::{Attr, Decl, Expr, Field, Name, Type};
+use zk_typed::Refusal;
+use zk_typed::script::ValueType;
+
+/// Whether an attribute is among some.
+pub fn has_attr(attrs: &[Attr], name: &[u8]) -> bool
+    ensures { result ≡ spec.has_attr name.now attrs.now }
+{
+    attrs.iter().any(|attr| attr.name.as_slice() == name)
+}
+
+/// The value of one attribute.
+fn value_in(attr: &Attr) -> Option<&Expr>
+    ensures { option_copied result ≡ attr.now.value }
+{
+    match &attr.value {
+        Some(value) => Some(value),
+        None => None,
+    }
+}
+
+/// The value of an attribute.
+pub fn attr_value<'a>(attrs: &'a [Attr], name: &[u8]) -> Option<&'a Expr>
+    ensures { option_copied result ≡ spec.attr_value name.now attrs.entry.now }
+{
+    for attr in attrs {
+        if attr.name.as_slice() == name {
+            return value_in(attr);
+        }
+    }
+    None
+}
+
+/// The type of a field, where it isn't broken.
+fn field_type(
+    alloc: Global,
+    names: &Names<'_>,
+    home: Home<'_>,
+    tree: &Type,
+) -> Result<Option<ValueType>, Mem>
+    ensures { IfOk result (λ one. known_or (option_map type_of one) ≡ spec.hushed (spec.type_of (scripts_in names.now) (home_of home.entry) tree.now)) }
+{
+    match names.type_of(alloc, home, tree) {
+        Ok(one) => Ok(Some(one)),
+        Err(Refusal::Broken(_)) => Ok(None),
+        Err(Refusal::NoMemory) => Err(Mem),
+    }
+}
+
+/// A field of a text.
+fn written_field<'a>(
+    alloc: Global,
+    names: &Names<'_>,
+    home: Home<'a>,
+    field: &'a Field,
+) -> Result<FieldInfo<'a>, Mem>
+    ensures { IfOk result (λ made. field_of made ≡ spec.written_field (scripts_in names.now) (home_of home.entry) field.entry.now) }
+{
+    let field_type = field_type(alloc, names, home, &field.field_type)?;
+    let attrs = field.attrs.as_slice();
+    Ok(FieldInfo {
+        name: field.name.text.as_slice(),
+        field_type,
+        log: has_attr(attrs, b"log"),
+        wire: has_attr(attrs, b"wire"),
+        optional: has_attr(attrs, b"optional"),
+        default: attr_value(attrs, b"default"),
+        home,
+    })
+}
+
+/// Adds the fields of a text.
+fn add_written<'a>(
+    alloc: Global,
+    names: &Names<'_>,
+    home: Home<'a>,
+    fields: &'a [Field],
+    all: &mut Vec<FieldInfo<'a>>,
+) -> Result<(), Mem>
+    ensures { OnOk result (fields_lent all.new.items ≡ fields_lent all.old.items ++ map (spec.written_field (scripts_in names.now) (home_of home.entry)) fields.entry.now) }
+{
+    for field in fields {
+        let one = written_field(alloc, names, home, field)?;
+        all.push(one)?;
+    }
+    Ok(())
+}
+
+/// The record type of a number, among those of the texts.
+fn record_node<'a>(nodes: &[Node<'a>], number: u32) -> Option<Node<'a>>
+    ensures { option_map node_of result ≡ slice_get (filter is_record (nodes_lent nodes.now)) number }
+{
+    let mut left = number;
+    for node in nodes {
+        if node.is_record() {
+            if left == 0 {
+                return Some(*node);
+            }
+            left -= 1;
+        }
+    }
+    None
+}
+
+/// Adds the fields that stand in the text of a record type.
+fn add_node_fields<'a>(
+    alloc: Global,
+    names: &Names<'_>,
+    node: Option<Node<'a>>,
+    all: &mut Vec<FieldInfo<'a>>,
+) -> Result<(), Mem>
+    ensures { OnOk result (fields_lent all.new.items ≡ fields_lent all.old.items ++ node_fields (scripts_in names.now) (option_map node_of node.entry)) }
+{
+    match node {
+        Some(
+            Node::Record {
+                home,
+                place: _,
+                fields,
+            },
+        ) => {
+            add_written(alloc, names, home, fields, all)?;
+            Ok(())
+        }
+        Some(Node::Enum { .. }) => Ok(()),
+        None => Ok(()),
+    }
+}
+
+/// Whether a name names the record type of a number.
+fn is_that(
+    alloc: Global,
+    names: &Names<'_>,
+    home: Home<'_>,
+    name: &Name,
+    number: u32,
+) -> Result<bool, Mem>
+    ensures { IfOk result (λ found. found ≡ spec.is_that number (spec.type_named (scripts_in names.now) (home_of home.entry) name.now)) }
+{
+    match names.type_named(alloc, home, name) {
+        Ok(ValueType::Record(other)) => Ok(other.0 == number),
+        Ok(ValueType::Simple(_))
+        | Ok(ValueType::Table { .. })
+        | Ok(ValueType::Set { .. })
+        | Ok(ValueType::Vector { .. }) => Ok(false),
+        Err(Refusal::Broken(_)) => Ok(false),
+        Err(Refusal::NoMemory) => Err(Mem),
+    }
+}
+
+/// Adds the fields that a declaration adds to a record type.
+fn add_stated_fields<'a>(
+    alloc: Global,
+    names: &Names<'_>,
+    number: u32,
+    one: Stated<'a>,
+    all: &mut Vec<FieldInfo<'a>>,
+) -> Result<(), Mem>
+    ensures { OnOk result (fields_lent all.new.items ≡ fields_lent all.old.items ++ stated_fields (scripts_in names.now) number (stated_of one.entry)) }
+{
+    match one.decl {
+        Decl::RedefRecord {
+            place: _,
+            name,
+            fields,
+        } => {
+            if is_that(alloc, names, one.home, name, number)? {
+                add_written(alloc, names, one.home, fields.as_slice(), all)?;
+            }
+            Ok(())
+        }
+        Decl::Module { .. }
+        | Decl::Export { .. }
+        | Decl::Load { .. }
+        | Decl::Variable { .. }
+        | Decl::Redef { .. }
+        | Decl::RedefEnum { .. }
+        | Decl::Type { .. }
+        | Decl::Body { .. }
+        | Decl::Function { .. } => Ok(()),
+    }
+}
+
+/// Adds the fields that declarations add to a record type.
+fn add_added<'a>(
+    alloc: Global,
+    names: &Names<'_>,
+    number: u32,
+    stated: &[Stated<'a>],
+    all: &mut Vec<FieldInfo<'a>>,
+) -> Result<(), Mem>
+    ensures { OnOk result (fields_lent all.new.items ≡ fields_lent all.old.items ++ flat_map (stated_fields (scripts_in names.now) number) (stated_lent stated.now)) }
+{
+    for one in stated {
+        add_stated_fields(alloc, names, number, *one, all)?;
+    }
+    Ok(())
+}
+
+/// Adds the fields that stand in a record type's own text.
+fn add_own<'a>(
+    alloc: Global,
+    names: &Names<'a>,
+    number: u32,
+    all: &mut Vec<FieldInfo<'a>>,
+) -> Result<(), Mem>
+    ensures { OnOk result (fields_lent all.new.items ≡ fields_lent all.old.items ++ own_of (scripts_in names.now) number (predefined_fields number)) }
+{
+    match known_fields(number) {
+        Some(fields) => {
+            add_known(fields, all)?;
+            Ok(())
+        }
+        None => {
+            let node = names.record_node(number.saturating_sub(8));
+            add_node_fields(alloc, names, node, all)?;
+            Ok(())
+        }
+    }
+}
+
+impl<'a> Names<'a> {
+    /// The record type of a number, among those of the texts.
+    fn record_node(&self, number: u32) -> Option<Node<'a>>
+        ensures { option_map node_of result ≡ slice_get (filter is_record (scripts_in self.now).nodes) number }
+    {
+        record_node(&self.nodes, number)
+    }
+
+    /// The fields of a record type, those of `redef record` last.
+    pub fn fields_of(&self, alloc: Global, number: RecordNo) -> Result<Vec<FieldInfo<'a>>, Mem>
+        ensures { IfOk result (λ fields. fields_lent fields.items ≡ spec.fields_of (scripts_in self.now) number.0) }
+    {
+        let mut all = Vec::new(alloc);
+        add_own(alloc, self, number.0, &mut all)?;
+        add_added(alloc, self, number.0, &self.stated, &mut all)?;
+        Ok(all)
+    }
+}

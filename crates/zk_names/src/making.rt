@@ -1,0 +1,65 @@
+ghost use Rattle.std.specs.Prelude.{◌≡◌, ◌++◌, true, false, fold, flat_map, IfOk};
+ghost use Rattle.zk_typed.specs.Declaring.{predefined_names, scripts_of, with_words};
+ghost use Rattle.zk_typed.specs.LoadOrder.{load_order};
+ghost use Rattle.zk_names.specs.Lent.{declared_lent, files_of};
+ghost use Rattle.zk_names.specs.Scripted.{scripts_in};
+ghost use Rattle.zk_names.specs.Words.{known_scripts, with_body};
+
+use crate::bodies::add_bodies;
+use crate::given::add_predefined;
+use crate::known::Names;
+use crate::node::all_nodes;
+use crate::order::load_order;
+use crate::table::Table;
+use crate::words::{add_all_outright, add_all_words};
+use std::alloc::Global;
+use zk_base::{Bytes, Mem};
+use zk_tree::Tree;
+
+/// The names that are predefined or declared outright.
+fn known_names<'a>(alloc: Global, files: &'a [(Bytes, Tree)]) -> Result<Names<'a>, Mem>
+    ensures { IfOk result (λ known. scripts_in known ≡ known_scripts (load_order (files_of files.now))) }
+{
+    let stated = load_order(alloc, files)?;
+    let nodes = all_nodes(alloc, &stated)?;
+    let mut table = Table::new(alloc);
+    add_predefined(alloc, &mut table)?;
+    add_all_outright(alloc, &stated, &mut table)?;
+    Ok(Names {
+        stated,
+        nodes,
+        table,
+    })
+}
+
+/// All names, by those that are predefined or declared outright.
+fn all_names<'a>(alloc: Global, known: &Names<'a>) -> Result<Table<'a>, Mem>
+    ensures { IfOk result (λ table. declared_lent table.names.items ≡
+        fold (with_body false) (fold (with_body true) (predefined_names ++ flat_map (with_words (scripts_in known.now)) (scripts_in known.now).stated) (scripts_in known.now).stated) (scripts_in known.now).stated) }
+{
+    let mut table = Table::new(alloc);
+    add_predefined(alloc, &mut table)?;
+    let stated = known.stated();
+    add_all_words(alloc, known, stated, &mut table)?;
+    add_bodies(alloc, true, stated, &mut table)?;
+    add_bodies(alloc, false, stated, &mut table)?;
+    Ok(table)
+}
+
+/// The names of scripts.
+pub fn names<'a>(alloc: Global, files: &'a [(Bytes, Tree)]) -> Result<Names<'a>, Mem>
+    ensures { IfOk result (λ names. scripts_in names ≡ scripts_of (files_of files.now)) }
+{
+    let known = known_names(alloc, files)?;
+    let table = all_names(alloc, &known)?;
+    let Names {
+        stated,
+        nodes,
+        table: _,
+    } = known;
+    Ok(Names {
+        stated,
+        nodes,
+        table,
+    })
+}

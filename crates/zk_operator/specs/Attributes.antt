@@ -1,5 +1,5 @@
 -- The rules of one attribute among those of its declaration.
-use Rattle.std.specs.Prelude.{ℕ, zero, suc, Bool, true, false, not, ◌&&◌, ◌||◌, List, [], ◌∷◌, Option, Some, None, Ok, is_some, slice_get, if◌then◌else◌}
+use Rattle.std.specs.Prelude.{ℕ, zero, suc, Bool, true, false, not, ◌&&◌, ◌||◌, List, [], ◌∷◌, Option, Some, None, is_some, slice_get}
 use Rattle.std.specs.List.{list_any}
 use Rattle.zk_tree.specs.declared.types.Attr.{Attr}
 use Rattle.zk_typed.specs.declared.rule.Rule.TheVariants as rule

@@ -18,7 +18,9 @@ mod shapes;
 mod table;
 mod texts;
 
-pub use attributes::{field_attribute, global_attribute, is_column, is_expiry, is_made, with_value};
+pub use attributes::{
+    field_attribute, global_attribute, is_column, is_expiry, is_made, with_value,
+};
 pub use attrs::{Attributes, attr_rules};
 pub use defaults::default_typed;
 pub use gather::{also, both};

@@ -4,7 +4,7 @@ use Rattle.zk_typed.specs.Declarations as spec
 use Rattle.zk_operator.specs.Attributes.{before, one_rule}
 use Rattle.zk_operator.specs.Gather.{told}
 use Rattle.zk_operator.proofs.AttrLaws.{rules_step}
-use Rattle.zk_operator.proofs.BothLaws.{all_told, one_more}
+use Rattle.zk_operator.proofs.BothLaws.{one_more}
 use Rattle.zk_operator.proofs.attrs.attr_rules.Goals as goal
 
 pub loop-end-preserved : goal.loop-end-preserved

@@ -9,7 +9,8 @@ returns-then-is_expiry c =
     (omega arith) (omega arith) c.as_slice.ensures c.is_expiry.ensures c.if-is_expiry.true c.loop-at.invariant.1
 
 pub loop-at-preserved : goal.loop-at-preserved
-loop-at-preserved c =
-    (omega arith,
-    none_so_far spec.is_expiry c.loop-at.at c.args.attrs.now c.index-attrs-at.result c.as_slice.result.now c.is_expiry.result _
-    (omega arith) (omega arith) c.as_slice.ensures c.is_expiry.ensures c.if-is_expiry.false c.loop-at.invariant.1)
+loop-at-preserved c = (
+  omega arith,
+  none_so_far spec.is_expiry c.loop-at.at c.args.attrs.now c.index-attrs-at.result c.as_slice.result.now c.is_expiry.result _
+      (omega arith) (omega arith) c.as_slice.ensures c.is_expiry.ensures c.if-is_expiry.false c.loop-at.invariant.1,
+)

@@ -2,6 +2,7 @@ pub mod Forms
 pub mod FoundVerbs
 pub mod Keys
 pub mod BothLaws
+pub mod AttrLaws
 pub mod Containers
 pub mod Comparisons
 pub mod Sizes

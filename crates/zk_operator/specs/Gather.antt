@@ -1,5 +1,5 @@
 -- Parts of a construct that are checked one after another: all rules that are broken in them are told.
-use Rattle.std.specs.Prelude.{◌≡◌, List, [], ◌++◌, Result, Ok, Err}
+use Rattle.std.specs.Prelude.{◌≡◌, [], ◌++◌, Result, Ok, Err}
 use Rattle.zk_typed.specs.declared.refusal.Refusal.{Refusal}
 use Rattle.zk_typed.specs.declared.refusal.Refusal.TheVariants.{Broken, NoMemory}
 use Rattle.zk_typed.specs.Checked.{Checked, both}

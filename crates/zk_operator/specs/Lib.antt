@@ -1,6 +1,7 @@
 pub mod Views
 pub mod Rows
 pub mod Verbs
+pub mod Attributes
 pub mod Gather
 pub mod Literals
 pub mod Gathering

@@ -1,22 +1,31 @@
 //! The types of operators, and what they make of operands that have types.
 #![tactic(auto)]
 
+mod attributes;
+mod attrs;
 mod defaults;
 mod gather;
 mod gathering;
+mod kinds;
 mod literals;
 mod membership;
 mod operands;
 mod operators;
+mod placed;
 mod relations;
 mod same;
 mod shapes;
 mod table;
 mod texts;
 
+pub use attributes::{
+    field_attribute, global_attribute, is_column, is_expiry, is_made, with_value,
+};
+pub use attrs::{Attributes, attr_rules};
 pub use defaults::default_typed;
 pub use gather::{also, both};
 pub use gathering::with_part;
+pub use kinds::{body_attrs, field_attrs, signature_attrs};
 pub use literals::{constant, interval_of, literal_typed};
 pub use membership::{is_left_of_in, operands_of, size_typed, vector_alone};
 pub use operands::{Typed, Wanted, beside, fit, fits, simple_type, to_int};

@@ -1,6 +1,6 @@
 // The code of a program does what the program means.
 ghost use Rattle.zk_lower.specs.Meant.{HandlersMean, InitialsMean, ExpiriesMean, HandlersWithin, InitialsWithin, ExpiriesWithin};
-ghost use Rattle.zk_lower.specs.Run.{RunsByStep};
+ghost use Rattle.zk_lower.specs.Run.{RunsByStep, WeightFalls};
 
 /// Code that is run ends, faults at the same place, or spends its units as what it was made of does, and
 /// leaves the same world and as many units, whatever the world, the arguments and the budget. There is
@@ -22,6 +22,9 @@ pub fn code_ends()
     // A run is its first step and then a run, whatever the code, so the steps that it may take are never too
     // few.
     ensures steps { RunsByStep }
+
+    // The weight of what runs, a number, falls at each step, whatever the code.
+    ensures weight { WeightFalls }
     ensures handlers { HandlersWithin }
     ensures initials { InitialsWithin }
     ensures expiries { ExpiriesWithin }

@@ -16,6 +16,7 @@ pub mod Emission
 pub mod Seams
 pub mod Joins
 pub mod Budgets
+pub mod Earlier
 pub mod Growing
 pub mod Priorities
 pub mod Whole

@@ -1,5 +1,5 @@
 -- The code of a whole program, as it is put together.
-use Rattle.std.proofs.Common.{◌≡◌, ℕ, ◌+◌, List, [], ◌++◌, length, refl, sym, ap, ◌∙◌, append_assoc, length-append}
+use Rattle.std.proofs.Common.{◌≡◌, ℕ, ◌+◌, List, [], ◌++◌, length, ap, ◌∙◌, append_assoc, length-append}
 use Rattle.zk_typed.specs.declared.script.program.Log.{Log}
 use Rattle.zk_typed.specs.Program.{Program, RecordType}
 use Rattle.zk_lower.specs.Code.{Op, BodyCode, HandlerCode, GlobalCode, Code}

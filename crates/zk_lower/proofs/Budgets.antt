@@ -31,7 +31,7 @@ module _ (program : Program) where
   keeps_added place (one ∷ others) given = keeps_bind (value_keeps program (all_calls program) (calls_keep program depth_max) place one) (λ more.
       keeps_bind (keeps_updated place Plus given more) (λ sum. keeps_added place others sum))
 
-  keeps_initial : (number : ℕ) (global : Global) (initial : Option Expr) → Keeps (initial_value program number global initial)
+  pub keeps_initial : (number : ℕ) (global : Global) (initial : Option Expr) → Keeps (initial_value program number global initial)
   keeps_initial number global None = keeps_pure tt
   keeps_initial number global (Some initial) = keeps_bind (value_keeps program (all_calls program) (calls_keep program depth_max) global.place initial) (λ first.
       keeps_bind (keeps_added global.place global.added first) (λ whole. keeps_set_global number (Some whole)))
@@ -40,7 +40,7 @@ module _ (program : Program) where
   keeps_interval_of place (plain.Interval span) = keeps_pure span
   keeps_interval_of place given = keeps_misfit place
 
-  keeps_wait_for : (place : Place) (args : List Value) (function : Option ℕ) → Keeps (wait_for program place args function)
+  pub keeps_wait_for : (place : Place) (args : List Value) (function : Option ℕ) → Keeps (wait_for program place args function)
   keeps_wait_for place args None = keeps_pure _
   keeps_wait_for place args (Some function) = keeps_bind (keeps_function_body program (all_calls program) (calls_keep program depth_max) args place (slice_get program.functions function)) (λ given.
       keeps_bind (keeps_or_fault Unset place given) (λ one. keeps_interval_of place one))

@@ -16,4 +16,8 @@ pub mod Emission
 pub mod Seams
 pub mod Joins
 pub mod Budgets
+pub mod Earlier
+pub mod Growing
+pub mod Priorities
+pub mod Whole
 mod Rows

@@ -1,5 +1,5 @@
--- No expression and no statement adds to the units that are left.
-use Rattle.std.proofs.Common.{ℕ, zero, suc, ◌+◌, Bool, true, false, List, [], ◌∷◌, Option, Some, None}
+-- No expression and no statement adds to the units that are left, or looks at what was told before.
+use Rattle.std.proofs.Common.{ℕ, zero, suc, ◌+◌, Bool, true, false, List, [], ◌∷◌, Option, Some, None, refl, ap, ◌∙◌}
 use Rattle.std.specs.Prelude.{slice_get, length}
 use Rattle.zk_base.specs.declared.numbers.HookNo.{HookNo}
 use Rattle.zk_base.specs.declared.numbers.LogId.{LogId}
@@ -20,8 +20,8 @@ use Rattle.zk_typed.specs.Meaning.{Calls, Flow, Normal, Broke, Nexted, Returned,
 use Rattle.zk_typed.specs.Objects.{keys_of}
 use Rattle.zk_typed.specs.Predefined.{filter_record}
 use Rattle.zk_typed.specs.Program.{Program, Function, HookBody}
-use Rattle.zk_lower.proofs.Units.{AtMost, Keeps, keeps_bind, keeps_then, keeps_pure, keeps_fault, keeps_misfit, keeps_or_fault, keeps_tick, keeps_of, keeps_local, keeps_global, keeps_new_object, keeps_new_record, keeps_field, keeps_set_field, keeps_table, keeps_vector, keeps_item}
-use Rattle.zk_lower.proofs.PrimitiveUnits.{keeps_perform, keeps_act, keeps_set_names, keeps_write_row, keeps_queue_row}
+use Rattle.zk_lower.proofs.Units.{AtMost, Keeps, behind_then, keeps_bind, keeps_then, keeps_pure, keeps_fault, keeps_misfit, keeps_or_fault, keeps_tick, keeps_of, keeps_local, keeps_global, keeps_new_object, keeps_new_record, keeps_field, keeps_set_field, keeps_table, keeps_vector, keeps_item}
+use Rattle.zk_lower.proofs.PrimitiveUnits.{stream_untold, keeps_perform, keeps_act, keeps_set_names, keeps_write_row, keeps_queue_row}
 
 pub record CallsKeep (c : Calls) : Type 0 where
   pub call : (function : ℕ) (args : List Value) (place : Place) → Keeps (c.call function args place)
@@ -51,7 +51,7 @@ module _ (program : Program) (of : RecordNo) (hook : CallsHook) (keeps : (number
 
   keeps_by_filters : (stream : Stream) (row : Value) (filters : List Filter) → Keeps (by_filters program of hook stream row filters)
   keeps_by_filters stream row [] = keeps_pure tt
-  keeps_by_filters stream row (one ∷ others) = keeps_of (still_there stream.id one.name) (λ there.
+  keeps_by_filters stream row (one ∷ others) = keeps_of (still_there stream.id one.name) (record { same = λ told world. refl }) (λ there.
       keeps_then (keeps_if_there there (keeps_by_policy stream one row (policy_of stream one))) (keeps_by_filters stream row others))
 
   keeps_to_stream : (row : Value) (stream : Option Stream) → Keeps (to_stream program of hook row stream)
@@ -59,7 +59,7 @@ module _ (program : Program) (of : RecordNo) (hook : CallsHook) (keeps : (number
   keeps_to_stream row (Some stream) = keeps_then (keeps_queue_row stream.event row) (keeps_then (keeps_by_filters stream row stream.filters) (keeps_pure (plain.Bool true)))
 
   pub keeps_write_log : (log : LogId) (row : Value) → Keeps (write_log program of hook log row)
-  keeps_write_log log row = keeps_of (λ world. stream_of log world.streams) (λ stream. keeps_to_stream row stream)
+  keeps_write_log log row = keeps_of (λ world. stream_of log world.streams) (stream_untold log) (λ stream. keeps_to_stream row stream)
 
 -- Forms ------------------------------------------------------------------------------------------------------------
 
@@ -103,13 +103,13 @@ keeps_after_turn rest (Returned given) = keeps_pure (Returned given)
 
 module _ {test : Does Value} {body : Does Flow} (test_keeps : Keeps test) (body_keeps : Keeps body) (place : Place) where
   keeps_turns : (most : ℕ) → Keeps (turns most place test body)
-  keeps_turns zero = record { by = λ state. tt }
+  keeps_turns zero = record { by = λ state. tt; moves = λ told state. refl }
   keeps_turns (suc most) = keeps_bind test_keeps (λ one. keeps_choose place one
       (keeps_then (keeps_tick place) (keeps_bind body_keeps (λ flow. keeps_after_turn (keeps_turns most) flow)))
       (keeps_pure Normal))
 
   keeps_loop : Keeps (loop place test body)
-  keeps_loop = record { by = λ state. (keeps_turns (suc state.units)).by state }
+  keeps_loop = record { by = λ state. (keeps_turns (suc state.units)).by state; moves = λ told state. (keeps_turns (suc state.units)).moves told state }
 
 module _ {body : Does Flow} (body_keeps : Keeps body) (place : Place) (names : Names) (over : Value) where
   keeps_key_turn : (key : List Value) {others : Does Flow} → Keeps others → (entry : Option Entry) → Keeps (key_turn place names key body others entry)
@@ -161,7 +161,11 @@ entered most (Faults kind place world units) locals le = le
 entered most (Spent place world) locals le = tt
 
 keeps_enter : {A : Type 0} {body : Does A} (locals : ℕ) (args : List Value) → Keeps body → Keeps (enter locals args body)
-keeps_enter {body = body} locals args keeps = record { by = λ state. entered state.units (body (record state { locals = first_locals locals args })) state.locals (keeps.by (record state { locals = first_locals locals args })) }
+keeps_enter {body = body} locals args keeps = record {
+  by = λ state. entered state.units (body (record state { locals = first_locals locals args })) state.locals (keeps.by (record state { locals = first_locals locals args }));
+  moves = λ told state. ap (λ ran. and_then ran (λ a left. Gives a (record left { locals = state.locals }))) (keeps.moves told (record state { locals = first_locals locals args })) ∙
+      behind_then told (body (record state { locals = first_locals locals args })) (λ a left. Gives a (record left { locals = state.locals })) (λ a left. refl);
+}
 
 module _ (program : Program) (c : Calls) (keep : CallsKeep c) where
   pub keeps_function_body : (args : List Value) (place : Place) (function : Option Function) → Keeps (function_body program c args place function)

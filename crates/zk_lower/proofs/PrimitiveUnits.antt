@@ -1,12 +1,14 @@
--- No primitive, action or part of a write adds to the units that are left.
-use Rattle.std.proofs.Common.{ℕ, List, [], ◌∷◌, reverse, Option, Some, None, arith}
+-- No primitive, action or part of a write adds to the units that are left, or looks at what was told before.
+use Rattle.std.specs.Prelude.{map, if◌then◌else◌}
+use Rattle.zk_base.specs.declared.time.Span.{Span}
+use Rattle.std.proofs.Common.{ℕ, List, [], ◌∷◌, reverse, Option, Some, None, arith, true, false, ◌≡◌, refl, ap, append_assoc}
 use Rattle.zk_base.specs.declared.numbers.EventNo.{EventNo}
 use Rattle.zk_base.specs.declared.numbers.LogId.{LogId}
 use Rattle.zk_base.specs.declared.numbers.RecordNo.{RecordNo}
 use Rattle.zk_tree.specs.declared.place.Place.{Place}
 use Rattle.zk_tree.specs.Store.{Object}
 use Rattle.zk_tree.specs.Store as object
-use Rattle.zk_tree.specs.Table.{Table}
+use Rattle.zk_tree.specs.Table.{Table, moment_after}
 use Rattle.zk_tree.specs.Value as value
 use Rattle.zk_tree.specs.Value.{Value}
 use Rattle.zk_typed.specs.declared.script.action.Action.{Action}
@@ -22,41 +24,71 @@ use Rattle.zk_typed.specs.declared.script.primitive.BuiltIn.TheVariants as built
 use Rattle.zk_typed.specs.declared.script.primitive.Primitive.{Primitive}
 use Rattle.zk_typed.specs.declared.script.primitive.Primitive.TheVariants as primitive
 use Rattle.zk_typed.specs.declared.script.stmt.Names.{Names}
-use Rattle.zk_typed.specs.Does.{Does}
-use Rattle.zk_typed.specs.Log.{Stream, Filter}
-use Rattle.zk_typed.specs.Logs.{create, add_filter, remove_filter, log_call, first_filter, write_row, queue_row}
+use Rattle.zk_typed.specs.Columns.{value_at, value_cell}
+use Rattle.zk_typed.specs.Does.{Does, Ran, Gives}
+use Rattle.zk_typed.specs.Log.{Stream, Filter, Row}
+use Rattle.zk_typed.specs.Logs.{stream_of, path_of, filter_leaves, create, add_filter, remove_filter, log_call, first_filter, write_row, queue_row}
 use Rattle.zk_typed.specs.Meaning.{set_keys, set_names}
 use Rattle.zk_typed.specs.Program.{Program}
 use Rattle.zk_typed.specs.Objects as objects
 use Rattle.zk_typed.specs.Objects.{Given, table_in, vector_in, fields_in, in_field}
 use Rattle.zk_typed.specs.Primitives as primitives
-use Rattle.zk_lower.proofs.Units.{Keeps, keeps_binary, keeps_bind, keeps_change_table, keeps_copied_to, keeps_element, keeps_field, keeps_global, keeps_has_field, keeps_has_key, keeps_item, keeps_local, keeps_misfit, keeps_new_object, keeps_new_set, keeps_new_table, keeps_now, keeps_object, keeps_of, keeps_pure, keeps_set_field, keeps_set_global, keeps_set_item, keeps_set_local, keeps_set_object, keeps_size, keeps_stepped, keeps_string, keeps_then, keeps_tick, keeps_unary, keeps_vector}
+use Rattle.zk_typed.specs.State.{State, World, scheduled_for}
+use Rattle.zk_typed.specs.Text.{line_of}
+use Rattle.zk_typed.specs.World.{queued}
+use Rattle.zk_lower.specs.Told.{Told, behind}
+use Rattle.zk_lower.proofs.Units.{Keeps, Untold, keeps_binary, keeps_bind, keeps_change_table, keeps_copied_to, keeps_element, keeps_field, keeps_global, keeps_has_field, keeps_has_key, keeps_item, keeps_local, keeps_misfit, keeps_new_object, keeps_new_set, keeps_new_table, keeps_now, keeps_object, keeps_of, keeps_pure, keeps_set_field, keeps_set_global, keeps_set_item, keeps_set_local, keeps_set_object, keeps_size, keeps_stepped, keeps_string, keeps_then, keeps_tick, keeps_unary, keeps_vector}
+
+pub stream_untold : (log : LogId) → Untold (λ world. stream_of log world.streams)
+stream_untold log = record { same = λ told world. refl }
+
+-- a state with such lines, rows, or such a world
+abbrev said : Told → State → List (List ℕ) → Ran (Unit {0})
+said told state lines = Gives tt (record state { world = record (behind told state.world) { lines = lines } })
+
+abbrev wrote : Told → State → List Row → Ran (Unit {0})
+wrote told state rows = Gives tt (record state { world = record (behind told state.world) { rows = rows } })
+
+abbrev in_world : State → World → Ran (Unit {0})
+in_world state world = Gives tt (record state { world = world })
 
 -- Logs -------------------------------------------------------------------------------------------------------------
 
 pub keeps_create : (stream : Stream) (there : Option Stream) → Keeps (create stream there)
-keeps_create stream (Some there) = record { by = λ state. omega arith }
-keeps_create stream None = record { by = λ state. omega arith }
+keeps_create stream (Some there) = record { by = λ state. omega arith; moves = λ told state. refl }
+keeps_create stream None = record { by = λ state. omega arith; moves = λ told state. refl }
 
 pub keeps_add_filter : (log : LogId) (one : Filter) (stream : Option Stream) → Keeps (add_filter log one stream)
-keeps_add_filter log one None = record { by = λ state. omega arith }
-keeps_add_filter log one (Some stream) = record { by = λ state. omega arith }
+keeps_add_filter log one None = record { by = λ state. omega arith; moves = λ told state. refl }
+keeps_add_filter log one (Some stream) = record { by = λ state. omega arith; moves = λ told state. refl }
 
 pub keeps_remove_filter : (log : LogId) (name : List ℕ) (stream : Option Stream) → Keeps (remove_filter log name stream)
-keeps_remove_filter log name None = record { by = λ state. omega arith }
-keeps_remove_filter log name (Some stream) = record { by = λ state. omega arith }
+keeps_remove_filter log name None = record { by = λ state. omega arith; moves = λ told state. refl }
+keeps_remove_filter log name (Some stream) = record { by = λ state. omega arith; moves = λ told state. refl }
 
 pub keeps_log_call : (call : LogCall) → Keeps (log_call call)
-keeps_log_call (Create log event path policy columns) = keeps_of _ (λ there. keeps_create (record { id = log; event = event; path = path; policy = policy; columns = columns; filters = first_filter columns ∷ [] }) there)
-keeps_log_call (AddFilter log name path policy columns) = keeps_of _ (λ stream. keeps_add_filter log (record { name = name; path = path; policy = policy; columns = columns }) stream)
-keeps_log_call (RemoveFilter log name) = keeps_of _ (λ stream. keeps_remove_filter log name stream)
+keeps_log_call (Create log event path policy columns) = keeps_of (λ world. stream_of log world.streams) (stream_untold log) (λ there. keeps_create (record { id = log; event = event; path = path; policy = policy; columns = columns; filters = first_filter columns ∷ [] }) there)
+keeps_log_call (AddFilter log name path policy columns) = keeps_of (λ world. stream_of log world.streams) (stream_untold log) (λ stream. keeps_add_filter log (record { name = name; path = path; policy = policy; columns = columns }) stream)
+keeps_log_call (RemoveFilter log name) = keeps_of (λ world. stream_of log world.streams) (stream_untold log) (λ stream. keeps_remove_filter log name stream)
+
+-- the row that is written in a world
+abbrev row_now : Program → Stream → Filter → Value → World → Row
+row_now program stream one row world = record {
+  path = path_of stream one;
+  columns = map (λ leaf. leaf.column) (filter_leaves program stream one);
+  cells = map (λ leaf. value_cell world.store (value_at world.store leaf.path (Some row))) (filter_leaves program stream one);
+  at = world.time;
+}
 
 pub keeps_write_row : (program : Program) (stream : Stream) (one : Filter) (row : Value) → Keeps (write_row program stream one row)
-keeps_write_row program stream one row = record { by = λ state. omega arith }
+keeps_write_row program stream one row = record {
+  by = λ state. omega arith;
+  moves = λ told state. ap (wrote told state) (append_assoc told.rows state.world.rows (row_now program stream one row state.world ∷ []));
+}
 
 pub keeps_queue_row : (event : Option EventNo) (row : Value) → Keeps (queue_row event row)
-keeps_queue_row None row = record { by = λ state. omega arith }
-keeps_queue_row (Some event) row = record { by = λ state. omega arith }
+keeps_queue_row None row = record { by = λ state. omega arith; moves = λ told state. refl }
+keeps_queue_row (Some event) row = record { by = λ state. omega arith; moves = λ told state. refl }
 
 -- Left sides -------------------------------------------------------------------------------------------------------
 
@@ -152,16 +184,28 @@ keeps_perform place (primitive.BuiltIn function) values = keeps_then (keeps_tick
 keeps_perform place (primitive.Log call) [] = keeps_then (keeps_tick place) (keeps_log_call call)
 keeps_perform place one values = keeps_misfit place
 
+schedule_behind : (told : Told) (event : EventNo) (delay : Span) (args : List Value) (world : World) → primitives.schedule event delay args (behind told world) ≡ behind told (primitives.schedule event delay args world)
+schedule_behind told event delay args world = elim world.is_ending as (λ b. (if b then behind told world else scheduled_for (moment_after world.time delay) (queued event args) (behind told world)) ≡ behind told (if b then world else scheduled_for (moment_after world.time delay) (queued event args) world)) [
+  | true ↦ refl
+  | false ↦ refl
+]
+
 pub keeps_act : (place : Place) (one : Action) (values : List Value) → Keeps (primitives.act place one values)
-keeps_act place action.Print values = record { by = λ state. omega arith }
+keeps_act place action.Print values = record {
+  by = λ state. omega arith;
+  moves = λ told state. ap (said told state) (append_assoc told.lines state.world.lines (line_of values ∷ []));
+}
 keeps_act place (action.Assign side) (one ∷ operands) = keeps_assign place side operands one
 keeps_act place (action.Update side by) (one ∷ operands) =
     keeps_bind (keeps_left_value place side operands) (λ before. keeps_bind (keeps_updated place by before one) (λ after. keeps_assign place side operands after))
 keeps_act place (action.Forget number) [] = keeps_set_local number None
 keeps_act place action.Add (members ∷ key) = keeps_change_table place members _
 keeps_act place action.Delete (table ∷ key) = keeps_change_table place table _
-keeps_act place (action.Queue event) values = record { by = λ state. omega arith }
-keeps_act place (action.Schedule event) (value.Interval delay ∷ values) = record { by = λ state. omega arith }
+keeps_act place (action.Queue event) values = record { by = λ state. omega arith; moves = λ told state. refl }
+keeps_act place (action.Schedule event) (value.Interval delay ∷ values) = record {
+  by = λ state. omega arith;
+  moves = λ told state. ap (in_world state) (schedule_behind told event delay values state.world);
+}
 keeps_act place one values = keeps_misfit place
 
 -- Names ------------------------------------------------------------------------------------------------------------

@@ -1,5 +1,5 @@
--- Nothing that a script does adds to the units that are left.
-use Rattle.std.proofs.Common.{ℕ, zero, suc, ◌+◌, ◌-◌, ◌≤◌, Bool, true, false, List, [], ◌∷◌, length, Option, Some, None, arith}
+-- Nothing that a script does adds to the units that are left, or looks at what was printed and written before.
+use Rattle.std.proofs.Common.{ℕ, zero, suc, ◌+◌, ◌-◌, ◌≤◌, Bool, true, false, List, [], ◌∷◌, length, Option, Some, None, arith, ◌≡◌, refl, ap, ◌∙◌}
 use Rattle.std.specs.Prelude.{ℤ, pos, nat_lt, nat_le, ◌==◌, ◌^◌, if◌then◌else◌, slice_get}
 use Rattle.std.specs.Ordering.{int_eq}
 use Rattle.zk_base.specs.declared.numbers.RecordNo.{RecordNo}
@@ -23,12 +23,13 @@ use Rattle.zk_typed.specs.declared.script.primitive.Direction.TheVariants.{Up, D
 use Rattle.zk_typed.specs.declared.script.primitive.Shape.{Shape}
 use Rattle.zk_typed.specs.declared.script.primitive.Unary.{Unary}
 use Rattle.zk_typed.specs.declared.script.primitive.Unary.TheVariants.{Not, Negate, ToInt}
-use Rattle.zk_typed.specs.Does.{Does, Ran, Gives, Faults, Spent, and_then, ◌>>=◌, ◌>>◌, pure, fault, or_fault, misfit, tick, spend, read, change, local, set_local, global, set_global, object_in, object, set_object, new_object, named}
+use Rattle.zk_typed.specs.Does.{Does, Ran, Gives, Faults, Spent, and_then, ◌>>=◌, ◌>>◌, pure, fault, or_fault, misfit, tick, spend, read, local, set_local, global, set_global, object_in, object, set_object, new_object, named}
 use Rattle.zk_typed.specs.Objects as objects
 use Rattle.zk_typed.specs.Objects.{Given, table_in, vector_in, fields_in, in_field}
 use Rattle.zk_typed.specs.Operators as operators
 use Rattle.zk_typed.specs.Program.{Field}
 use Rattle.zk_typed.specs.State.{State, World}
+use Rattle.zk_lower.specs.Told.{Told, behind, state_behind, ran_behind}
 
 -- an end with so many units at most
 abbrev pub AtMost : {A : Type 0} → ℕ → Ran A → Type 0
@@ -38,6 +39,8 @@ AtMost most (Spent place world) = Unit {0}
 
 pub record Keeps {A : Type 0} (m : Does A) : Type 0 where
   pub by : (state : State) → AtMost state.units (m state)
+  -- in a world where more was told before it does the same
+  pub moves : (told : Told) (state : State) → m (state_behind told state) ≡ ran_behind told (m state)
 
 pub at_most_more : {A : Type 0} → (n m : ℕ) → n ≤ m → (ran : Ran A) → AtMost n ran → AtMost m ran
 at_most_more n m le (Gives a state) h = omega (arith, le, h)
@@ -49,20 +52,28 @@ at_most_then most (Gives a state) k h le = at_most_more state.units most le (k a
 at_most_then most (Faults kind place world units) k h le = le
 at_most_then most (Spent place world) k h le = tt
 
+pub behind_then : {A B : Type 0} → (told : Told) (ran : Ran A) (k : A → State → Ran B) → ((a : A) (state : State) → k a (state_behind told state) ≡ ran_behind told (k a state)) → and_then (ran_behind told ran) k ≡ ran_behind told (and_then ran k)
+behind_then told (Gives a state) k h = h a state
+behind_then told (Faults kind place world units) k h = refl
+behind_then told (Spent place world) k h = refl
+
 pub keeps_bind : {A B : Type 0} {m : Does A} {k : A → Does B} → Keeps m → ((a : A) → Keeps (k a)) → Keeps (m >>= k)
-keeps_bind {m = m} {k = k} first next = record { by = λ state. at_most_then state.units (m state) k (λ a t. (next a).by t) (first.by state) }
+keeps_bind {m = m} {k = k} first next = record {
+  by = λ state. at_most_then state.units (m state) k (λ a t. (next a).by t) (first.by state);
+  moves = λ told state. ap (λ ran. and_then ran k) (first.moves told state) ∙ behind_then told (m state) k (λ a t. (next a).moves told t);
+}
 
 pub keeps_then : {A B : Type 0} {m : Does A} {k : Does B} → Keeps m → Keeps k → Keeps (m >> k)
 keeps_then first next = keeps_bind first (λ a. next)
 
 pub keeps_pure : {A : Type 0} → (a : A) → Keeps (pure a)
-keeps_pure a = record { by = λ state. omega arith }
+keeps_pure a = record { by = λ state. omega arith; moves = λ told state. refl }
 
 pub keeps_fault : {A : Type 0} → (kind : FaultKind) (place : Place) → Keeps (fault {A = A} kind place)
-keeps_fault kind place = record { by = λ state. omega arith }
+keeps_fault kind place = record { by = λ state. omega arith; moves = λ told state. refl }
 
 pub keeps_misfit : {A : Type 0} → (place : Place) → Keeps (misfit {A = A} place)
-keeps_misfit place = record { by = λ state. omega arith }
+keeps_misfit place = record { by = λ state. omega arith; moves = λ told state. refl }
 
 pub keeps_or_fault : {A : Type 0} → (kind : FaultKind) (place : Place) (one : Option A) → Keeps (or_fault kind place one)
 keeps_or_fault kind place None = keeps_fault kind place
@@ -72,14 +83,16 @@ pub spend_at_most : (place : Place) (state : State) (units : ℕ) → AtMost uni
 spend_at_most place state zero = tt
 spend_at_most place state (suc units) = omega arith
 
+spend_behind : (told : Told) (place : Place) (state : State) (units : ℕ) → spend place (state_behind told state) units ≡ ran_behind told (spend place state units)
+spend_behind told place state zero = refl
+spend_behind told place state (suc units) = refl
+
 pub keeps_tick : (place : Place) → Keeps (tick place)
-keeps_tick place = record { by = λ state. spend_at_most place state state.units }
+keeps_tick place = record { by = λ state. spend_at_most place state state.units; moves = λ told state. spend_behind told place state state.units }
 
-pub keeps_read : {A : Type 0} → (part : World → A) → Keeps (read part)
-keeps_read part = record { by = λ state. omega arith }
-
-pub keeps_change : (changed : World → World) → Keeps (change changed)
-keeps_change changed = record { by = λ state. omega arith }
+-- a part of the world that isn't what was told
+pub record Untold {A : Type 0} (part : World → A) : Type 0 where
+  pub same : (told : Told) (world : World) → part (behind told world) ≡ part world
 
 pub keeps_if : {A : Type 0} {a b : Does A} → (test : Bool) → Keeps a → Keeps b → Keeps (if test then a else b)
 keeps_if true met otherwise = met
@@ -88,33 +101,49 @@ keeps_if false met otherwise = otherwise
 -- Names and objects ------------------------------------------------------------------------------------------------
 
 pub keeps_local : (place : Place) (number : ℕ) → Keeps (local place number)
-keeps_local place number = record { by = λ state. (keeps_or_fault Unset place (named state.locals number)).by state }
+keeps_local place number = record {
+  by = λ state. (keeps_or_fault Unset place (named state.locals number)).by state;
+  moves = λ told state. (keeps_or_fault Unset place (named state.locals number)).moves told state;
+}
 
 pub keeps_set_local : (number : ℕ) (one : Option Value) → Keeps (set_local number one)
-keeps_set_local number one = record { by = λ state. omega arith }
+keeps_set_local number one = record { by = λ state. omega arith; moves = λ told state. refl }
 
 pub keeps_global : (place : Place) (number : ℕ) → Keeps (global place number)
-keeps_global place number = record { by = λ state. (keeps_or_fault Unset place (named state.world.globals number)).by state }
+keeps_global place number = record {
+  by = λ state. (keeps_or_fault Unset place (named state.world.globals number)).by state;
+  moves = λ told state. (keeps_or_fault Unset place (named state.world.globals number)).moves told state;
+}
 
 pub keeps_set_global : (number : ℕ) (one : Option Value) → Keeps (set_global number one)
-keeps_set_global number one = record { by = λ state. omega arith }
+keeps_set_global number one = record { by = λ state. omega arith; moves = λ told state. refl }
+
+object_untold : (one : Value) → Untold (object_in one)
+object_untold (value.Object number) = record { same = λ told world. refl }
+object_untold one = record { same = λ told world. refl }
 
 pub keeps_object : (place : Place) (one : Value) → Keeps (object place one)
-keeps_object place one = record { by = λ state. (keeps_or_fault Unset place (object_in one state.world)).by state }
+keeps_object place one = record {
+  by = λ state. (keeps_or_fault Unset place (object_in one state.world)).by state;
+  moves = λ told state. ap (λ found. or_fault Unset place found (state_behind told state)) ((object_untold one).same told state.world) ∙ (keeps_or_fault Unset place (object_in one state.world)).moves told state;
+}
 
 pub keeps_set_object : (one : Value) (changed : Object) → Keeps (set_object one changed)
-keeps_set_object (value.Object number) changed = record { by = λ state. omega arith }
+keeps_set_object (value.Object number) changed = record { by = λ state. omega arith; moves = λ told state. refl }
 keeps_set_object one changed = keeps_pure tt
 
 pub keeps_new_object : (made : Object) → Keeps (new_object made)
-keeps_new_object made = record { by = λ state. omega arith }
+keeps_new_object made = record { by = λ state. omega arith; moves = λ told state. refl }
 
 -- what is read first decides the rest
-pub keeps_of : {A B : Type 0} → (part : World → A) {k : A → Does B} → ((a : A) → Keeps (k a)) → Keeps (read part >>= k)
-keeps_of part next = record { by = λ state. (next (part state.world)).by state }
+pub keeps_of : {A B : Type 0} → (part : World → A) {k : A → Does B} → Untold part → ((a : A) → Keeps (k a)) → Keeps (read part >>= k)
+keeps_of part {k} untold next = record {
+  by = λ state. (next (part state.world)).by state;
+  moves = λ told state. ap (λ a. k a (state_behind told state)) (untold.same told state.world) ∙ (next (part state.world)).moves told state;
+}
 
 pub keeps_now : {B : Type 0} {k : Moment → Does B} → ((moment : Moment) → Keeps (k moment)) → Keeps (objects.now >>= k)
-keeps_now next = record { by = λ state. (next state.world.time).by state }
+keeps_now next = record { by = λ state. (next state.world.time).by state; moves = λ told state. (next state.world.time).moves told state }
 
 -- Operators --------------------------------------------------------------------------------------------------------
 
@@ -225,9 +254,13 @@ pub keeps_absent : (place : Place) (default : Option DefaultValue) → Keeps (ob
 keeps_absent place None = keeps_fault NoIndex place
 keeps_absent place (Some default) = keeps_default_value place default
 
+default_untold : (one : Value) → Untold (objects.default_of one)
+default_untold (value.Object number) = record { same = λ told world. refl }
+default_untold one = record { same = λ told world. refl }
+
 pub keeps_entry_value : (place : Place) (one : Value) (entry : Option Entry) → Keeps (objects.entry_value place one entry)
 keeps_entry_value place one (Some entry) = keeps_pure _
-keeps_entry_value place one None = keeps_of (objects.default_of one) (λ default. keeps_absent place default)
+keeps_entry_value place one None = keeps_of (objects.default_of one) (default_untold one) (λ default. keeps_absent place default)
 
 pub keeps_element : (place : Place) (one : Value) (key : List Value) → Keeps (objects.element place one key)
 keeps_element place one key = keeps_bind (keeps_table place one) (λ table. keeps_now (λ moment. keeps_then (keeps_set_table one _) (keeps_entry_value place one _)))
@@ -239,7 +272,7 @@ pub keeps_change_table : (place : Place) (one : Value) (changed : Moment → Tab
 keeps_change_table place one changed = keeps_bind (keeps_table place one) (λ table. keeps_now (λ moment. keeps_set_table one _))
 
 pub keeps_keep_default : (default : Option DefaultValue) (one : Value) → Keeps (objects.keep_default default one)
-keeps_keep_default (Some default) (value.Object number) = record { by = λ state. omega arith }
+keeps_keep_default (Some default) (value.Object number) = record { by = λ state. omega arith; moves = λ told state. refl }
 keeps_keep_default default one = keeps_pure one
 
 pub keeps_new_set : (shape : Shape) (values : List Value) → Keeps (objects.new_set shape values)
@@ -338,5 +371,5 @@ module _ (copied : Value → Does Value) (keeps : (one : Value) → Keeps (copie
 pub keeps_copied_to : (depth : ℕ) (place : Place) (one : Value) → Keeps (objects.copied_to depth place one)
 keeps_copied_to zero place one = keeps_misfit place
 keeps_copied_to (suc depth) place (value.Object number) = keeps_then (keeps_tick place) (keeps_bind (keeps_object place (value.Object number)) (λ one.
-    keeps_of (objects.default_of (value.Object number)) (λ default. keeps_object_copied (objects.copied_to depth place) (keeps_copied_to depth place) default one)))
+    keeps_of (objects.default_of (value.Object number)) (default_untold (value.Object number)) (λ default. keeps_object_copied (objects.copied_to depth place) (keeps_copied_to depth place) default one)))
 keeps_copied_to (suc depth) place one = keeps_pure one

@@ -18,7 +18,7 @@ use Rattle.zk_typed.specs.State.{State}
 use Rattle.zk_lower.specs.Code.{Op, BodyCode, Code, types_in}
 use Rattle.zk_lower.specs.Code as op
 use Rattle.zk_lower.specs.Frames.{Loop, Keys, Indexes, Awaits, Result, Return, Bodies, Frame, Held, Machine, pushed, with_stack, with_loops}
-use Rattle.zk_lower.specs.Run.{after, steps, waiting, weight, run}
+use Rattle.zk_lower.specs.Run.{Falls, after, steps, waiting, weight, run}
 use Rattle.zk_lower.specs.Steps.{Step, Goes, Ends, by, goes, operands, without, given, add, decided, with_top, unless, turn, begin_keys, begin_indexes, keys_turn, keys_step, indexes_step, within_depth, room, into, call, Onward, Answer, Body, hook_in, onward, hook, write, resumed_with, resume, come_out, give, operate, at_op, step}
 use Rattle.zk_lower.proofs.Charges.{Within, ChargedAt, charged_tick, charges_then, charges_of, charges_next_key, charges_next_index, charges_bodies, charges_at_depth, charges_answer, charges_to_stream, charges_after_body, enters}
 use Rattle.zk_lower.proofs.PrimitiveUnits.{keeps_perform, keeps_act, keeps_updated}
@@ -35,11 +35,6 @@ charged size u t x y le lt =
 
 not-lt-zero : (n : ℕ) → n < 0 → ⊥
 not-lt-zero n h = omega (arith, h)
-
--- what a step leaves is lighter
-abbrev Falls : Code → ℕ → Step → Type 0
-Falls code n (Goes machine) = weight code machine < n
-Falls code n (Ends ran) = Unit {0}
 
 abbrev pub machine : ℕ → Held → State → Machine
 machine at held state = record { at = at; held = held; state = state }
@@ -201,7 +196,7 @@ module _ (code : Code) where
   falls_at at held state None e = tt
   falls_at at held state (Some one) e = falls_op one at held state (slice_get_within code.ops at one e)
 
-  falls : (m : Machine) → Falls code (weight code m) (step code m)
+  pub falls : (m : Machine) → Falls code (weight code m) (step code m)
   falls m = falls_at m.at m.held m.state (slice_get code.ops m.at) refl
 
   -- with steps enough for the weight, more make no difference

@@ -4,4 +4,5 @@ pub mod Steps
 pub mod Run
 pub mod Lowering
 pub mod Meant
+pub mod Told
 pub mod View

@@ -1,5 +1,5 @@
 -- How code runs. Each step leads on in the code, or comes out of a body, or takes a unit, so that a run ends.
-use Rattle.std.specs.Prelude.{◌≡◌, ℕ, zero, suc, ◌+◌, ◌-◌, ◌*◌, List, [], ◌∷◌, length, Option, None}
+use Rattle.std.specs.Prelude.{◌≡◌, ◌<◌, ℕ, zero, suc, ◌+◌, ◌-◌, ◌*◌, List, [], ◌∷◌, length, Option, None}
 use Rattle.zk_tree.specs.Value.{Value}
 use Rattle.zk_typed.specs.Does.{Ran, Gives}
 use Rattle.zk_lower.specs.Code.{Code}
@@ -30,3 +30,11 @@ run code machine = steps code (suc (weight code machine)) machine
 -- The weight falls at each step of any code, so that the steps are never too few: a run is its first step, and then a run.
 abbrev pub RunsByStep : Type 0
 RunsByStep = (code : Code) (machine : Machine) → run code machine ≡ after (step code machine) (run code)
+
+-- What a step leads to weighs less than so much.
+abbrev pub Falls : Code → ℕ → Step → Type 0
+Falls code most (Goes machine) = weight code machine < most
+Falls code most (Ends ran) = Unit {0}
+
+abbrev pub WeightFalls : Type 0
+WeightFalls = (code : Code) (machine : Machine) → Falls code (weight code machine) (step code machine)

@@ -5,14 +5,18 @@ use Rattle.zk_typed.specs.declared.script.stmt.Names.{Names}
 use Rattle.zk_typed.specs.declared.script.expr.Given.{fold-Given}
 use Rattle.zk_typed.specs.declared.script.expr.Given as given
 use Rattle.zk_typed.specs.Forms.{Expr, Givens}
-use Rattle.zk_typed.specs.View.{Prefixed, expr_step, given_step, givens_of}
+use Rattle.zk_typed.specs.View.{Prefixed, expr_step, given_step, givens_of, record_of}
 use Rattle.zk_value.specs.Plain.{value_of}
+use Rattle.zk_lower.specs.declared.code.BodyCode.{BodyCode as RustBody}
+use Rattle.zk_lower.specs.declared.code.Code.{Code as RustCode}
+use Rattle.zk_lower.specs.declared.code.GlobalCode.{GlobalCode as RustGlobal}
+use Rattle.zk_lower.specs.declared.code.HandlerCode.{HandlerCode as RustHandler}
 use Rattle.zk_lower.specs.declared.op.Op as declared
 use Rattle.zk_lower.specs.declared.op.Op.TheVariants as rust
 use Rattle.zk_lower.specs.declared.ways.Ways.{Ways}
 use Rattle.zk_lower.specs.declared.ways.Walk.{Walk}
 use Rattle.zk_lower.specs.declared.ways.Walk.TheVariants.{Keys, Indexes}
-use Rattle.zk_lower.specs.Code.{Op}
+use Rattle.zk_lower.specs.Code.{Op, BodyCode, HandlerCode, GlobalCode, Code}
 use Rattle.zk_lower.specs.Lowering.{Exits}
 use Rattle.zk_lower.specs.Code as op
 
@@ -60,3 +64,30 @@ begin_of Indexes place = op.BeginIndexes place
 abbrev pub next_of : Walk → Place → Names → ℕ → Op
 next_of Keys place names = op.NextKey place names
 next_of Indexes place names = op.NextIndex place names
+
+abbrev pub body_of : RustBody → BodyCode
+body_of body = record { entry = body.entry; locals = body.locals }
+
+abbrev pub handler_of : RustHandler → HandlerCode
+handler_of handler = record { event = handler.event; priority = handler.priority; body = body_of handler.body }
+
+abbrev pub global_of : RustGlobal → GlobalCode
+global_of global = record {
+  place = global.place;
+  initial = global.initial;
+  expiry = global.expiry;
+  expire_func = global.expire_func;
+}
+
+-- the code that a value of the Rust type stands for
+abbrev pub code_of : RustCode → Code
+code_of code = record {
+  files = code.files;
+  records = map record_of code.records;
+  logs = code.logs;
+  ops = map op_of code.ops;
+  globals = map global_of code.globals;
+  functions = map body_of code.functions;
+  hooks = map (map body_of) code.hooks;
+  handlers = map handler_of code.handlers;
+}

@@ -1,17 +1,23 @@
 //! The code of programs, and what it means.
 #![tactic(auto)]
 
+mod code;
 mod copies;
 mod exprs;
 mod laws;
 mod op;
+mod ops;
+mod order;
+mod program;
 mod stmts;
 mod tail;
+mod types;
 mod ways;
 
-pub use laws::{code_ends, code_means};
+pub use code::{BodyCode, Code, GlobalCode, HandlerCode};
+pub use laws::{code_ends, code_means, told_stays};
 pub use op::Op;
-pub use stmts::body_ops;
+pub use program::lower;
 
 #[cfg(test)]
 mod tests;

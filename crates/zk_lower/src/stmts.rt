@@ -14,7 +14,7 @@ use crate::op::Op;
 use crate::tail::Tail;
 use crate::ways::{Walk, Ways};
 use std::alloc::Global;
-use zk_base::{Mem, Sequence};
+use zk_base::Mem;
 use zk_tree::Place;
 use zk_typed::script::{Action, Expr, FieldNo, Left, Names, Primitive, Stmt};
 
@@ -291,7 +291,7 @@ fn put_given(alloc: Global, tail: &mut Tail, place: Place, value: &Option<Expr>)
 }
 
 /// Puts the code of a body before what there is.
-fn put_body(alloc: Global, tail: &mut Tail, body: &Stmt) -> Result<(), Mem>
+pub fn put_body(alloc: Global, tail: &mut Tail, body: &Stmt) -> Result<(), Mem>
     ensures { OnOk result (tail.new ≡ body_code (stmt_of body.now) ++ tail.old) }
 {
     tail.put(Op::Break)?;
@@ -302,13 +302,4 @@ fn put_body(alloc: Global, tail: &mut Tail, body: &Stmt) -> Result<(), Mem>
         next_at: tail.len(),
     };
     put_stmt(alloc, tail, ways, body)
-}
-
-/// The code of a body, with the operations that end it behind it.
-pub fn body_ops(alloc: Global, body: &Stmt) -> Result<Sequence<Op>, Mem>
-    ensures { IfOk result (λ ops. map op_of ops ≡ body_code (stmt_of body.now)) }
-{
-    let mut tail = Tail::new(alloc);
-    put_body(alloc, &mut tail, body)?;
-    tail.into_ops(alloc)
 }

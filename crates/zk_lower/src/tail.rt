@@ -1,4 +1,4 @@
-ghost use Rattle.std.specs.Prelude.{◌≡◌, ◌<◌, ◌-◌, List, [], ◌∷◌, ◌++◌, length, map, slice_set, OnOk, IfOk};
+ghost use Rattle.std.specs.Prelude.{◌≡◌, ◌<◌, ◌-◌, [], ◌∷◌, length, slice_set, OnOk, MatchOption};
 ghost use Rattle.zk_lower.specs.Code as plain;
 ghost use Rattle.zk_lower.specs.View.{op_of};
 
@@ -6,7 +6,7 @@ use crate::op::Op;
 use sqlite_items::Items;
 use std::alloc::Global;
 use std::marker::Model;
-use zk_base::{Mem, Sequence};
+use zk_base::Mem;
 use zk_tree::Place;
 
 /// The code behind a place. It grows to the front, so that all places to which a jump may lead are there
@@ -77,15 +77,10 @@ impl Tail {
         }
     }
 
-    /// The operations from the place on.
-    pub fn into_ops(self, alloc: Global) -> Result<Sequence<Op>, Mem>
-        ensures { IfOk result (λ ops. map op_of ops ≡ self) }
+    /// Takes the first operation off, where there is one.
+    pub fn take_first(&mut self) -> Option<Op>
+        ensures { MatchOption result (self.old ≡ []) (λ op. self.old ≡ op_of op ∷ self.new) }
     {
-        let Tail { mut ops } = self;
-        let mut list = Vec::new(alloc);
-        while let Some(op) = ops.pop() {
-            list.push(op)?;
-        }
-        Ok(Sequence::from(list))
+        self.ops.pop()
     }
 }

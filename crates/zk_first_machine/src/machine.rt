@@ -4,7 +4,7 @@ ghost use Rattle.zk_typed.specs.declared.program.Handler.{Handler};
 ghost use Rattle.zk_typed.specs.Exec.{exec_body, end_of};
 ghost use Rattle.zk_typed.specs.World.{World, first_world, at_time};
 ghost use Rattle.zk_value.specs.Plain.{value_of, line_in};
-ghost use Rattle.zk_machine.specs.Lowered.{lowered, print_of};
+ghost use Rattle.zk_first_machine.specs.Lowered.{lowered, print_of};
 
 use crate::frame::Frame;
 use std::alloc::Global;
@@ -25,7 +25,7 @@ pub struct Machine {
 }
 
 impl Machine {
-    ghost use Rattle.zk_machine.specs.Standing.{StandsFor, HasFailed, code_of, waiting};
+    ghost use Rattle.zk_first_machine.specs.Standing.{StandsFor, HasFailed, code_of, waiting};
 
     /// A machine at the beginning of a run: network time is 0, and nothing is printed. So far no memory
     /// is taken, and `Mem` never comes.

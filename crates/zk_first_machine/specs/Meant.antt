@@ -11,7 +11,7 @@ use Rattle.zk_value.specs.declared.code.Print.{Print}
 use Rattle.zk_value.specs.declared.code.Operand.{Operand}
 use Rattle.zk_value.specs.declared.code.Operand.TheVariants as operand
 use Rattle.zk_value.specs.Plain.{value_of}
-use Rattle.zk_machine.specs.declared.frame.Frame.{Frame}
+use Rattle.zk_first_machine.specs.declared.frame.Frame.{Frame}
 
 abbrev pub expression_of : Operand → Expression
 expression_of (operand.Bool truth) = expression.Bool truth

@@ -3,11 +3,11 @@ use Rattle.std.proofs.Common.{◌≡◌, ℕ, suc, List, [], ◌∷◌, ◌++◌
 use Rattle.zk_typed.specs.Exec as exec
 use Rattle.zk_typed.specs.Exec.{Left, printed}
 use Rattle.zk_value.specs.declared.code.Print.{Print}
-use Rattle.zk_machine.specs.declared.frame.Frame.{Frame}
-use Rattle.zk_machine.specs.declared.halt.Halt.{Halt}
-use Rattle.zk_machine.specs.declared.halt.Halt.TheVariants.{Fault, Spent, NoMemory}
-use Rattle.zk_machine.specs.Meant.{world_of, evaluated_all, executed}
-use Rattle.zk_machine.specs.Steps.{with_units, GivesLine, Stops, gone_on, Halts}
+use Rattle.zk_first_machine.specs.declared.frame.Frame.{Frame}
+use Rattle.zk_first_machine.specs.declared.halt.Halt.{Halt}
+use Rattle.zk_first_machine.specs.declared.halt.Halt.TheVariants.{Fault, Spent, NoMemory}
+use Rattle.zk_first_machine.specs.Meant.{world_of, evaluated_all, executed}
+use Rattle.zk_first_machine.specs.Steps.{with_units, GivesLine, Stops, gone_on, Halts}
 
 -- What a print does is what its values give in the frame with a unit less.
 print_is : (frame begun : Frame) (lines : List (List ℕ)) (print : Print) → frame.units ≡ suc begun.units → begun ≡ with_units frame begun.units

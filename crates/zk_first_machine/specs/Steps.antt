@@ -9,10 +9,10 @@ use Rattle.zk_typed.specs.Text.{text_of, line_of}
 use Rattle.zk_typed.specs.World.{World}
 use Rattle.zk_typed.specs.Exec as exec
 use Rattle.zk_typed.specs.Exec.{Evaluated, Stop, Left, end_of}
-use Rattle.zk_machine.specs.declared.frame.Frame.{Frame}
-use Rattle.zk_machine.specs.declared.halt.Halt.{Halt}
-use Rattle.zk_machine.specs.declared.halt.Halt.TheVariants.{Fault, Spent, NoMemory}
-use Rattle.zk_machine.specs.Meant.{world_of}
+use Rattle.zk_first_machine.specs.declared.frame.Frame.{Frame}
+use Rattle.zk_first_machine.specs.declared.halt.Halt.{Halt}
+use Rattle.zk_first_machine.specs.declared.halt.Halt.TheVariants.{Fault, Spent, NoMemory}
+use Rattle.zk_first_machine.specs.Meant.{world_of}
 
 -- the frame with so many units left
 abbrev pub with_units : Frame → ℕ → Frame

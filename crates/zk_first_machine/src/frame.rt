@@ -1,6 +1,6 @@
 ghost use Rattle.std.specs.Prelude.{◌≡◌, suc, OnOk, IfOk, OnErr, IfErr};
-ghost use Rattle.zk_machine.specs.Meant.{world_of, evaluated, evaluated_all, executed, executed_all};
-ghost use Rattle.zk_machine.specs.Steps.{with_units, Gives, GivesLine, Stops, gone_on, Halts, Ends};
+ghost use Rattle.zk_first_machine.specs.Meant.{world_of, evaluated, evaluated_all, executed, executed_all};
+ghost use Rattle.zk_first_machine.specs.Steps.{with_units, Gives, GivesLine, Stops, gone_on, Halts, Ends};
 
 use crate::halt::Halt;
 use crate::texts::{push_bool, push_separator};

@@ -1,6 +1,6 @@
 ghost use Rattle.std.specs.Prelude.{◌≡◌};
-ghost use Rattle.zk_machine.specs.declared.halt.Halt.TheVariants.{NoMemory};
-ghost use Rattle.zk_machine.specs.Steps.{ended_at};
+ghost use Rattle.zk_first_machine.specs.declared.halt.Halt.TheVariants.{NoMemory};
+ghost use Rattle.zk_first_machine.specs.Steps.{ended_at};
 
 use std::alloc::{AllocError, AllocFailed};
 use zk_base::Mem;

@@ -1,9 +1,9 @@
 use Rattle.std.proofs.Common.{subst}
 use Rattle.std.proofs.lemmas.Result.{err_from_is_err_and}
-use Rattle.zk_machine.specs.Meant.{evaluated_all}
-use Rattle.zk_machine.specs.Steps.{GivesLine, Stops}
-use Rattle.zk_machine.proofs.PrintLemmas.{print_goes_on, print_halts}
-use Rattle.zk_machine.proofs.frame.Frame.do_print.Goals as goal
+use Rattle.zk_first_machine.specs.Meant.{evaluated_all}
+use Rattle.zk_first_machine.specs.Steps.{GivesLine, Stops}
+use Rattle.zk_first_machine.proofs.PrintLemmas.{print_goes_on, print_halts}
+use Rattle.zk_first_machine.proofs.frame.Frame.do_print.Goals as goal
 
 pub returns-in_err-line-clause-halted : goal.returns-in_err-line-clause-halted
 returns-in_err-line-clause-halted c =

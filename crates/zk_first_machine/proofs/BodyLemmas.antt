@@ -18,11 +18,11 @@ use Rattle.zk_value.specs.declared.code.Code.{Code}
 use Rattle.zk_value.specs.declared.code.HandlerCode.{HandlerCode}
 use Rattle.zk_value.specs.declared.code.Print.{Print}
 use Rattle.zk_value.specs.Plain.{value_of}
-use Rattle.zk_machine.specs.declared.frame.Frame.{Frame}
-use Rattle.zk_machine.specs.declared.machine.Machine.{Machine}
-use Rattle.zk_machine.specs.Lowered.{operand_of, print_of, handler_code, lowered}
-use Rattle.zk_machine.specs.Meant.{expression_of, statement_of, world_of, executed_all}
-use Rattle.zk_machine.specs.Standing.{StandsFor}
+use Rattle.zk_first_machine.specs.declared.frame.Frame.{Frame}
+use Rattle.zk_first_machine.specs.declared.machine.Machine.{Machine}
+use Rattle.zk_first_machine.specs.Lowered.{operand_of, print_of, handler_code, lowered}
+use Rattle.zk_first_machine.specs.Meant.{expression_of, statement_of, world_of, executed_all}
+use Rattle.zk_first_machine.specs.Standing.{StandsFor}
 
 -- Lines that were printed before ---------------------------------------------------------------------------------------
 

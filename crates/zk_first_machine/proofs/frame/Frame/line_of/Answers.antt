@@ -1,5 +1,5 @@
-use Rattle.zk_machine.proofs.LineLemmas.{line_goes_on}
-use Rattle.zk_machine.proofs.frame.Frame.line_of.Goals as goal
+use Rattle.zk_first_machine.proofs.LineLemmas.{line_goes_on}
+use Rattle.zk_first_machine.proofs.frame.Frame.line_of.Goals as goal
 
 pub loop-number-preserved : goal.loop-number-preserved
 loop-number-preserved c =

@@ -2,8 +2,8 @@ use Rattle.std.proofs.Common.{◌≡◌, ◌++◌, ap, ◌∙◌, rules}
 use Rattle.zk_tree.specs.Value.{Bool, Count, String, Time}
 use Rattle.zk_typed.specs.Exec.{called}
 use Rattle.zk_typed.specs.Text.{text_of}
-use Rattle.zk_machine.specs.Meant.{evaluated}
-use Rattle.zk_machine.proofs.frame.Frame.push_operand.Goals as goal
+use Rattle.zk_first_machine.specs.Meant.{evaluated}
+use Rattle.zk_first_machine.proofs.frame.Frame.push_operand.Goals as goal
 
 pub returns-in_ok-push_bool-in-Bool-clause-given : goal.returns-in_ok-push_bool-in-Bool-clause-given
 returns-in_ok-push_bool-in-Bool-clause-given c = (Bool c.in-Bool.truth, ap (evaluated c.args.self.now) c.in-Bool.is, c.in_ok-push_bool-in-Bool.ensures)

@@ -1,7 +1,7 @@
 use Rattle.std.proofs.Common.{get_or, ap, ◌∙◌}
 use Rattle.std.proofs.lemmas.Option.{slice_get-get_or}
-use Rattle.zk_machine.proofs.BodyLemmas.{code_is}
-use Rattle.zk_machine.proofs.machine.prints_of.Goals as goal
+use Rattle.zk_first_machine.proofs.BodyLemmas.{code_is}
+use Rattle.zk_first_machine.proofs.machine.prints_of.Goals as goal
 
 pub returns : goal.returns
 returns c program of is found =

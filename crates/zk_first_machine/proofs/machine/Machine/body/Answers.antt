@@ -3,11 +3,11 @@ use Rattle.std.specs.Result.{is_err}
 use Rattle.std.proofs.lemmas.Result.{IfOk-weaker}
 use Rattle.zk_typed.specs.Exec.{end_of, exec_body}
 use Rattle.zk_value.specs.Plain.{value_of}
-use Rattle.zk_machine.specs.declared.frame.Frame.{Frame}
-use Rattle.zk_machine.specs.Meant.{world_of, executed_all}
-use Rattle.zk_machine.specs.Steps.{Ends}
-use Rattle.zk_machine.proofs.BodyLemmas.{body_is, stands_after}
-use Rattle.zk_machine.proofs.machine.Machine.body.Goals as goal
+use Rattle.zk_first_machine.specs.declared.frame.Frame.{Frame}
+use Rattle.zk_first_machine.specs.Meant.{world_of, executed_all}
+use Rattle.zk_first_machine.specs.Steps.{Ends}
+use Rattle.zk_first_machine.proofs.BodyLemmas.{body_is, stands_after}
+use Rattle.zk_first_machine.proofs.machine.Machine.body.Goals as goal
 
 -- a fact where a result is there
 where_ok : {T E : Type 0} (r : Result T E) (P : T → Type 0) (Q : Type 0) → IfOk r P → ((x : T) → P x → is_err r ≡ false → Q) → OnOk r Q

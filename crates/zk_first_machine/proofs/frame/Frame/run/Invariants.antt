@@ -1,7 +1,7 @@
 use Rattle.std.proofs.Common.{◌≡◌, drop}
-use Rattle.zk_machine.specs.Meant.{executed_all}
-use Rattle.zk_machine.specs.Steps.{with_units}
-use Rattle.zk_machine.proofs.frame.Frame.run.Given as goal
+use Rattle.zk_first_machine.specs.Meant.{executed_all}
+use Rattle.zk_first_machine.specs.Steps.{with_units}
+use Rattle.zk_first_machine.proofs.frame.Frame.run.Given as goal
 
 abbrev pub invariant-loop-print : goal.invariant-loop-print
 invariant-loop-print l = record {

@@ -3,8 +3,8 @@ use Rattle.std.specs.Prelude.{◌≡◌, ℕ, List, ◌++◌, length, true, fals
 use Rattle.zk_typed.specs.declared.program.Program.{Program}
 use Rattle.zk_typed.specs.World.{World}
 use Rattle.zk_value.specs.declared.code.Code.{Code}
-use Rattle.zk_machine.specs.declared.machine.Machine.{Machine}
-use Rattle.zk_machine.specs.Lowered.{lowered}
+use Rattle.zk_first_machine.specs.declared.machine.Machine.{Machine}
+use Rattle.zk_first_machine.specs.Lowered.{lowered}
 
 -- the code that a machine runs
 abbrev pub code_of : Machine → Code

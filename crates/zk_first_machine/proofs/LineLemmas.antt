@@ -5,9 +5,9 @@ use Rattle.zk_tree.specs.Value as plain
 use Rattle.zk_typed.specs.Exec.{Evaluated, Stop, and_then, before}
 use Rattle.zk_typed.specs.Text.{text_of, with_commas, line_of}
 use Rattle.zk_value.specs.declared.code.Operand.{Operand}
-use Rattle.zk_machine.specs.declared.frame.Frame.{Frame}
-use Rattle.zk_machine.specs.Meant.{evaluated, evaluated_all}
-use Rattle.zk_machine.specs.Steps.{with_units, Gives}
+use Rattle.zk_first_machine.specs.declared.frame.Frame.{Frame}
+use Rattle.zk_first_machine.specs.Meant.{evaluated, evaluated_all}
+use Rattle.zk_first_machine.specs.Steps.{with_units, Gives}
 
 -- what stands before a value of this number
 abbrev pub separator : ℕ → List ℕ

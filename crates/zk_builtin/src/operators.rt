@@ -187,12 +187,7 @@ fn modulo(a: &Value, b: &Value) -> Result<Value, OperatorFault>
 }
 
 /// What an operator that computes gives (Zeek manual, Operators).
-pub fn binary(
-    alloc: Global,
-    operator: Binary,
-    a: &Value,
-    b: &Value,
-) -> Result<Value, OperatorFault>
+pub fn binary(alloc: Global, operator: Binary, a: &Value, b: &Value) -> Result<Value, OperatorFault>
     ensures { Computes result (λ place. meant.binary place operator (value_of a.now) (value_of b.now)) }
 {
     match operator {

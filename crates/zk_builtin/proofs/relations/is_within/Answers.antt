@@ -1,4 +1,4 @@
-use Rattle.std.proofs.Common.{Bool, ◌≡◌, ◌∙◌, Option, ℕ, Some, None, nat_lt, is_some, refl, sym, ap, rules}
+use Rattle.std.proofs.Common.{◌≡◌, ◌∙◌, Option, ℕ, Some, None, nat_lt, is_some, refl, sym, ap, rules}
 use Rattle.zk_builtin.proofs.FindLemmas.{place_of, strstr-found}
 use Rattle.zk_builtin.proofs.relations.is_within.Goals as goal
 

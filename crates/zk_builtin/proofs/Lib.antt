@@ -2,3 +2,4 @@ pub mod FindLemmas
 pub mod FormatLemmas
 pub mod JoinLemmas
 pub mod NumberLemmas
+pub mod RelationLemmas

@@ -1,3 +1,2 @@
+pub mod ObjectLemmas
 pub mod LineLemmas
-pub mod BodyLemmas
-pub mod PrintLemmas

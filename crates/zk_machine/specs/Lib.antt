@@ -1,4 +1,3 @@
-pub mod Lowered
-pub mod Meant
-pub mod Steps
-pub mod Standing
+pub mod Comes
+pub mod Halted
+pub mod State

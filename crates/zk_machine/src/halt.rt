@@ -1,11 +1,11 @@
 ghost use Rattle.std.specs.Prelude.{◌≡◌};
 ghost use Rattle.zk_machine.specs.declared.halt.Halt.TheVariants.{NoMemory};
-ghost use Rattle.zk_machine.specs.Steps.{ended_at};
+ghost use Rattle.zk_machine.specs.Halted.{halted_by};
 
 use std::alloc::{AllocError, AllocFailed};
 use zk_base::Mem;
-use zk_tree::Place;
-use zk_typed::{BodyEnd, FaultKind};
+use zk_builtin::OperatorFault;
+use zk_typed::FaultKind;
 
 /// What stops a statement before it is done.
 #[derive(Clone, Copy, Debug, PartialEq, Eq)]
@@ -18,16 +18,22 @@ pub enum Halt {
     NoMemory,
 }
 
-impl Halt {
-    /// How the body ends whose statement at a place is stopped so.
-    pub fn at(self, place: Place) -> Result<BodyEnd, Mem>
-        ensures { result ≡ ended_at place self }
-    {
-        match self {
-            Halt::Fault(kind) => Ok(BodyEnd::Fault { kind, place }),
-            Halt::Spent => Ok(BodyEnd::Spent { place }),
-            Halt::NoMemory => Err(Mem),
+impl From<OperatorFault> for Halt {
+    ghost from_gives = { λ fault halt. halt ≡ halted_by fault };
+
+    fn from(fault: OperatorFault) -> Halt {
+        match fault {
+            OperatorFault::Fault(kind) => Halt::Fault(kind),
+            OperatorFault::NoMemory => Halt::NoMemory,
         }
+    }
+}
+
+impl From<Mem> for Halt {
+    ghost from_gives = { λ _ halt. halt ≡ NoMemory };
+
+    fn from(_: Mem) -> Halt {
+        Halt::NoMemory
     }
 }
 

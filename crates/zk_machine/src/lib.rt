@@ -1,12 +1,14 @@
-//! Runs the code of a program, one handler's body at a time.
+//! The world that scripts run in, and what primitives and actions do to it.
 #![tactic(auto)]
 
-mod frame;
 mod halt;
-mod machine;
-mod texts;
+mod objects;
+mod state;
+mod world;
 
-pub use machine::Machine;
+pub use halt::Halt;
+pub use state::State;
+pub use world::{Queued, Scheduled, TableDefault, World};
 
 #[cfg(test)]
 mod tests;

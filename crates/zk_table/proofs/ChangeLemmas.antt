@@ -1,6 +1,6 @@
 -- The entries of a table after the code changed a slot.
-use Rattle.std.proofs.Common.{◌≡◌, ℕ, suc, ◌+◌, ◌<◌, ◌≤◌, Bool, true, false, cond, List, [], ◌∷◌, ◌++◌, length, get_or, slice_get, Option, Some, None, is_some, IsSome, refl, sym, ap, subst, ◌∙◌, arith, ⊎_elim, true≢false, length-set}
-use Rattle.std.specs.Option.{option_map, option_and_then}
+use Rattle.std.proofs.Common.{◌≡◌, ℕ, ◌≤◌, List, length, get_or, slice_get, Option, Some, None, is_some, refl, sym, ap, subst, ◌∙◌, arith, ⊎_elim}
+use Rattle.std.specs.Option.{option_map}
 use Rattle.std.specs.Global.{Vec}
 use Rattle.std.specs.Vec.{with_item, with_items}
 use Rattle.std.proofs.Math.ListN.{set}
@@ -9,14 +9,13 @@ use Rattle.std.proofs.lemmas.List.{with_items_is}
 use Rattle.std.proofs.lemmas.Option.{get_or_from_slice_get, slice_get_within}
 use Rattle.zk_base.specs.declared.time.Moment.{Moment}
 use Rattle.zk_tree.specs.declared.expiry.Expiry.{Expiry}
-use Rattle.zk_tree.specs.Table.{due_from, turn_of}
+use Rattle.zk_tree.specs.Table.{due_from}
 use Rattle.zk_table.specs.declared.entries.Entries.{Entries}
 use Rattle.zk_table.specs.declared.slot.Slot.{Slot}
 use Rattle.zk_table.specs.declared.slot.Stored.{Stored}
 use Rattle.zk_table.specs.Index.{AllBut, IsTree}
 use Rattle.zk_table.specs.Kept.{IsKept, Rewrites}
-use Rattle.zk_table.specs.Slots.{entry_in, entry_of, occupied, stored_numbered, turn_at}
-use Rattle.zk_table.proofs.KeptLemmas.{place-numbered}
+use Rattle.zk_table.specs.Slots.{occupied, turn_at}
 use Rattle.zk_table.proofs.TurnLemmas.{turn_in, turn_at-is, turn_at-set_other, turn_at-set_same, tree-same, tree-changed}
 
 -- a slot whose entry is changed

@@ -1,8 +1,7 @@
 -- The entries of a table by their slots.
-use Rattle.std.proofs.Common.{◌≡◌, ◌==◌, ℕ, zero, suc, ◌+◌, ◌<◌, ◌≤◌, Bool, true, false, cond, not, List, [], ◌∷◌, ◌++◌, length, map, filter, slice_get, Option, Some, None, is_some, refl, sym, ap, subst, ◌∙◌, arith, true≢false}
-use Rattle.std.specs.List.{filter_map, cons_option}
+use Rattle.std.proofs.Common.{◌≡◌, ◌==◌, ℕ, zero, suc, ◌+◌, ◌<◌, ◌≤◌, Bool, true, false, cond, not, List, [], ◌∷◌, ◌++◌, length, slice_get, Option, Some, None, is_some, refl, sym, ap, subst, ◌∙◌, arith, true≢false}
+use Rattle.std.specs.List.{cons_option}
 use Rattle.std.specs.Option.{option_map}
-use Rattle.std.specs.Prelude.{find}
 use Rattle.std.proofs.Math.ListN.{set}
 use Rattle.std.proofs.lemmas.Bool.Decides.{Decides-eqb}
 use Rattle.zk_tree.specs.Table.{Entry, entry_at, entry_numbered, with_entry, without}
@@ -12,7 +11,7 @@ use Rattle.zk_value.specs.Plain.{key_of}
 use Rattle.zk_table.specs.declared.slot.Slot.{Slot}
 use Rattle.zk_table.specs.declared.slot.Stored.{Stored}
 use Rattle.zk_table.specs.Slots.{Ascends, entries_in, entry_in, entry_of, stored_numbered, occupied, hole, without_holes}
-use Rattle.zk_table.proofs.SlotLemmas.{eqb-refl, eqb-apart, ascends-at, ascends-up, numbered-under}
+use Rattle.zk_table.proofs.SlotLemmas.{eqb-refl, eqb-apart, ascends-at, numbered-under}
 
 same_slot : (x y : Slot) → Some x ≡ Some y → x ≡ y
 same_slot x y e = cc

@@ -1,5 +1,5 @@
 -- What the look-ups of a table find.
-use Rattle.std.proofs.Common.{◌≡◌, ℕ, ◌<◌, ◌≤◌, List, [], ◌∷◌, slice_get, Option, Some, None, refl, sym, ap, subst, ◌∙◌}
+use Rattle.std.proofs.Common.{◌≡◌, ℕ, List, slice_get, Option, Some, None, refl, sym, ap, ◌∙◌}
 use Rattle.std.specs.Prelude.{IfSome, IfNone}
 use Rattle.std.specs.Option.{option_map, option_and_then}
 use Rattle.zk_tree.specs.Table.{entry_at, entry_numbered}
@@ -10,7 +10,7 @@ use Rattle.zk_table.specs.declared.slot.Slot.{Slot}
 use Rattle.zk_table.specs.declared.slot.Stored.{Stored}
 use Rattle.zk_table.specs.Kept.{IsKept, Found, Numbered, order_at}
 use Rattle.zk_table.specs.Slots.{Ascends, entries_in, occupied, stored_numbered}
-use Rattle.zk_table.proofs.KeptLemmas.{absent, numbered-none}
+use Rattle.zk_table.proofs.KeptLemmas.{numbered-none}
 use Rattle.zk_table.proofs.SlotLemmas.{numbered-at}
 
 no_number : {A : Type 0} {o : Option A} {a : A} → o ≡ None → o ≡ Some a → ⊥

@@ -1,5 +1,5 @@
 -- What stays together in the entries of a table: found entries, and entries that change.
-use Rattle.std.proofs.Common.{◌≡◌, ◌==◌, ℕ, suc, ◌+◌, ◌<◌, ◌≤◌, Bool, true, false, cond, List, [], ◌∷◌, ◌++◌, length, slice_get, Option, Some, None, is_some, IsSome, refl, sym, ap, subst, ◌∙◌, arith, ⊎_elim, true≢false, length-set, length-append, add-one}
+use Rattle.std.proofs.Common.{◌≡◌, ◌==◌, ℕ, suc, ◌+◌, ◌≤◌, Bool, true, false, cond, List, [], ◌∷◌, ◌++◌, length, slice_get, Option, Some, None, is_some, IsSome, refl, sym, ap, subst, ◌∙◌, arith, true≢false, length-set, length-append}
 use Rattle.std.specs.Bool.{Decides}
 use Rattle.std.specs.Option.{option_map}
 use Rattle.std.proofs.Common.{rules}
@@ -9,9 +9,8 @@ use Rattle.std.proofs.lemmas.Slice.Eq.{slice_eq-Decides}
 use Rattle.indexmap.specs.IndexMap as keyed
 use Rattle.zk_tree.specs.Table as plain
 use Rattle.zk_tree.specs.Table.{Entry, entry_at, entry_numbered, with_entry, with_entries, without}
-use Rattle.zk_tree.specs.Value.{same_key}
 use Rattle.zk_tree.proofs.ValueLaws.{same_key-Decides}
-use Rattle.zk_value.specs.Plain.{key_of, value_of}
+use Rattle.zk_value.specs.Plain.{key_of}
 use Rattle.zk_value.specs.contracts.key.KeyPartialEq.TheImpl as key_eq
 use Rattle.zk_value.specs.declared.value.Value.{Value}
 use Rattle.zk_value.proofs.PlainLaws.{key_of-apart}
@@ -19,10 +18,10 @@ use Rattle.zk_table.specs.declared.entries.Entries.{Entries}
 use Rattle.zk_table.specs.declared.slot.Slot.{Slot}
 use Rattle.zk_table.specs.declared.slot.Stored.{Stored}
 use Rattle.zk_table.specs.Index.{IsTree}
-use Rattle.zk_table.specs.Kept.{IsKept, Found, Numbered, Rewrites, Empties, Adds, Widens, Becomes, order_at, table_in}
-use Rattle.zk_table.specs.Slots.{Ascends, entries_in, entry_of, stored_numbered, occupied, hole, without_holes}
-use Rattle.zk_table.proofs.EntryLemmas.{entries-set, entries-empty, entries-push, length-empty, length-with_entry, entry_numbered-is, Held, entry_at-held, entry_at-some}
-use Rattle.zk_table.proofs.SlotLemmas.{eqb-refl, eqb-apart, ascends-set, ascends-push, ascends-more, numbered-at, numbered-set, numbered-push, numbered-over}
+use Rattle.zk_table.specs.Kept.{IsKept, Rewrites, Empties, Adds, Becomes, order_at, table_in}
+use Rattle.zk_table.specs.Slots.{Ascends, entries_in, entry_of, stored_numbered, occupied, hole}
+use Rattle.zk_table.proofs.EntryLemmas.{entries-set, entries-empty, entries-push, length-empty, length-with_entry, entry_numbered-is, entry_at-held, entry_at-some}
+use Rattle.zk_table.proofs.SlotLemmas.{eqb-apart, ascends-set, ascends-push, numbered-at, numbered-set, numbered-push, numbered-over}
 
 -- keys that are equal are one
 pub key_eq-Decides : (a b : List Value) → Decides ((key_eq.ghosts).eq a b) (a ≡ b)

@@ -1,6 +1,7 @@
 pub mod ChangeLemmas
 pub mod EntryLemmas
 pub mod FindLemmas
+pub mod HeapLemmas
 pub mod IndexLemmas
 pub mod KeptLemmas
 pub mod MomentLemmas

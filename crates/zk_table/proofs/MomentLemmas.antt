@@ -1,5 +1,5 @@
 -- Moments after others.
-use Rattle.std.proofs.Common.{◌≡◌, ◌-◌, ◌^◌, ◌≤◌, ℕ, suc, ℤ, pos, negsuc, ◌≤ℤ◌, min, cond, refl, ap, arith}
+use Rattle.std.proofs.Common.{◌≡◌, ◌-◌, ◌^◌, ℤ, pos, negsuc, ◌≤ℤ◌, ap, arith}
 use Rattle.std.specs.Int.{int_min, saturate_to_bits}
 use Rattle.std.proofs.lemmas.Int.{ints}
 use Rattle.std.proofs.lemmas.Bool.Decides.{nat_tests}

@@ -1,9 +1,8 @@
 -- The operations on the entries of a table, from what their parts did.
-use Rattle.std.proofs.Common.{◌≡◌, ◌==◌, ℕ, zero, suc, ◌+◌, ◌-◌, ◌<◌, ◌≤◌, min, Bool, true, false, cond, List, [], ◌∷◌, ◌++◌, length, map, take, get_or, slice_get, Option, Some, None, is_some, IsSome, refl, sym, ap, subst, ◌∙◌, arith, ⊎_elim, true≢false, length-set, length-append}
+use Rattle.std.proofs.Common.{◌≡◌, ◌==◌, ℕ, suc, ◌+◌, ◌-◌, ◌<◌, ◌≤◌, min, Bool, true, false, cond, List, [], ◌∷◌, ◌++◌, length, slice_get, Option, Some, None, is_some, IsSome, refl, sym, ap, subst, ◌∙◌, arith, true≢false}
 use Rattle.std.specs.Option.{option_map, option_and_then}
 use Rattle.std.proofs.Math.ListN.{set}
-use Rattle.std.proofs.lemmas.Bool.{cases_eq, cases_lt}
-use Rattle.std.proofs.lemmas.Option.{slice_get_past, slice_get_within}
+use Rattle.std.proofs.lemmas.Option.{slice_get_past}
 use Rattle.indexmap.specs.IndexMap as keyed
 use Rattle.zk_base.specs.declared.time.Moment.{Moment}
 use Rattle.zk_tree.specs.declared.expiry.Expiry.{Expiry}
@@ -16,13 +15,13 @@ use Rattle.zk_table.specs.declared.entries.Entries.{Entries}
 use Rattle.zk_table.specs.declared.slot.Slot.{Slot}
 use Rattle.zk_table.specs.declared.slot.Stored.{Stored}
 use Rattle.zk_table.specs.Index.{AllBut, IsTree}
-use Rattle.zk_table.specs.Kept.{IsKept, Found, Numbered, Rewrites, Empties, Adds, Widens, Becomes, order_at, table_in}
-use Rattle.zk_table.specs.Slots.{Ascends, entries_in, entry_of, entry_in, occupied, hole, stored_numbered, turn_at, with_moment, with_value, without_holes}
-use Rattle.zk_table.proofs.ChangeLemmas.{is_some-due_from, past_index}
+use Rattle.zk_table.specs.Kept.{IsKept, Found, Rewrites, Empties, Adds, Widens, Becomes, order_at, table_in}
+use Rattle.zk_table.specs.Slots.{Ascends, entries_in, entry_of, occupied, hole, stored_numbered, turn_at, with_moment, with_value, without_holes}
+use Rattle.zk_table.proofs.ChangeLemmas.{is_some-due_from}
 use Rattle.zk_table.proofs.EntryLemmas.{entries-without_holes, length-empty}
 use Rattle.zk_table.proofs.KeptLemmas.{added, absent-order, kept_same, place-numbered, present, rewritten}
 use Rattle.zk_table.proofs.SlotLemmas.{ascends-without_holes, eqb-refl, numbered-at, numbered-without_holes}
-use Rattle.zk_table.proofs.TurnLemmas.{turn_in, turn_at-set_other, turn_at-set_same, tree-changed, tree-longer, slice_get-push_other, slice_get-push_same, slice_get-set_same}
+use Rattle.zk_table.proofs.TurnLemmas.{turn_in, turn_at-set_other, turn_at-set_same, tree-changed, slice_get-push_other, slice_get-push_same, slice_get-set_same}
 
 no_value : {A : Type 0} {o : Option A} {a : A} → o ≡ None → o ≡ Some a → ⊥
 no_value none some = cc

@@ -1,15 +1,10 @@
 -- The slots of a table: what is kept under an order number, and the entries that are there.
-use Rattle.std.proofs.Common.{◌≡◌, ◌==◌, ℕ, zero, suc, ◌+◌, ◌<◌, ◌≤◌, Bool, true, false, cond, not, List, [], ◌∷◌, ◌++◌, length, map, filter, slice_get, Option, Some, None, is_some, refl, sym, ap, subst, ◌∙◌, arith}
-use Rattle.std.specs.List.{filter_map}
-use Rattle.std.specs.Option.{option_map}
-use Rattle.std.specs.Prelude.{find}
+use Rattle.std.proofs.Common.{◌≡◌, ◌==◌, ℕ, zero, suc, ◌<◌, ◌≤◌, Bool, true, false, cond, List, [], ◌∷◌, ◌++◌, slice_get, Option, Some, None, is_some, refl, sym, ap, subst, ◌∙◌, arith}
 use Rattle.std.proofs.Math.ListN.{set}
 use Rattle.std.proofs.lemmas.Bool.Decides.{Decides-eqb}
-use Rattle.std.proofs.lemmas.Grind.{common_steps}
-use Rattle.zk_tree.specs.Table.{Entry, entry_numbered, with_entry, without}
 use Rattle.zk_table.specs.declared.slot.Slot.{Slot}
 use Rattle.zk_table.specs.declared.slot.Stored.{Stored}
-use Rattle.zk_table.specs.Slots.{Ascends, entries_in, entry_in, entry_of, stored_numbered, occupied, hole, without_holes}
+use Rattle.zk_table.specs.Slots.{Ascends, stored_numbered, without_holes}
 
 -- Numbers ----------------------------------------------------------------------------------------------------------
 

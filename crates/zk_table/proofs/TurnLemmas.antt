@@ -1,16 +1,16 @@
 -- The turns of a table's places, and the index where one place changed.
-use Rattle.std.proofs.Common.{◌≡◌, ◌+◌, ℕ, zero, suc, ◌<◌, ◌≤◌, List, [], ◌∷◌, ◌++◌, length, slice_get, Option, None, Some, is_some, refl, sym, ap, subst, ◌∙◌, arith, ⊎_elim, get_or, ◌*◌, false}
+use Rattle.std.proofs.Common.{◌≡◌, ◌+◌, ℕ, zero, suc, ◌≤◌, List, [], ◌∷◌, ◌++◌, length, slice_get, Option, None, Some, refl, sym, ap, subst, ◌∙◌, arith, ⊎_elim, get_or, ◌*◌, false}
 use Rattle.std.specs.List.{cons_option}
 use Rattle.std.specs.Option.{option_map, option_and_then}
 use Rattle.std.proofs.Math.ListN.{set}
 use Rattle.std.proofs.lemmas.Bool.{cases_eq, cases_lt}
 use Rattle.zk_base.specs.declared.time.Moment.{Moment}
 use Rattle.zk_tree.specs.Table.{earlier, first_due, is_before, turn_of}
-use Rattle.zk_tree.proofs.TurnLaws.{AtMost, at_most-trans, at_most-refl, earlier-left, earlier-right, earlier-among, one_turn}
+use Rattle.zk_tree.proofs.TurnLaws.{AtMost, at_most-trans, earlier-left, earlier-right, earlier-among, one_turn}
 use Rattle.zk_table.specs.declared.slot.Slot.{Slot}
 use Rattle.zk_table.specs.declared.slot.Stored.{Stored}
-use Rattle.zk_table.specs.Index.{first_at, IsNode, AllBut, IsTree}
-use Rattle.zk_table.specs.Slots.{entries_in, entry_in, entry_of, turn_at, occupied, hole}
+use Rattle.zk_table.specs.Index.{first_at, AllBut, IsTree}
+use Rattle.zk_table.specs.Slots.{entries_in, entry_in, entry_of, turn_at}
 use Rattle.zk_table.proofs.IndexLemmas.{top-least, top-turn}
 
 -- Places -----------------------------------------------------------------------------------------------------------

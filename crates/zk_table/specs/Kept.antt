@@ -1,12 +1,10 @@
 -- What belongs together in the entries of a table.
 use Rattle.std.specs.Prelude.{◌≡◌, ℕ, ◌+◌, ◌<◌, ◌≤◌, List, [], ◌∷◌, ◌++◌, length, if◌then◌else◌, slice_get, slice_set, Option, Some, None, is_some, IsSome}
 use Rattle.indexmap.specs.IndexMap as keyed
-use Rattle.zk_base.specs.declared.time.Moment.{Moment}
 use Rattle.zk_tree.specs.Table as plain
 use Rattle.zk_value.specs.contracts.key.KeyPartialEq.TheImpl as key_eq
 use Rattle.zk_value.specs.declared.value.Value.{Value}
 use Rattle.zk_table.specs.declared.entries.Entries.{Entries}
-use Rattle.zk_table.specs.declared.slot.Slot.{Slot}
 use Rattle.zk_table.specs.declared.slot.Stored.{Stored}
 use Rattle.zk_table.specs.Slots.{Ascends, entries_in, stored_numbered, occupied, hole}
 use Rattle.zk_table.specs.Index.{IsTree}

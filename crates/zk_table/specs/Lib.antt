@@ -1,3 +1,5 @@
+pub mod Heap
 pub mod Index
 pub mod Kept
+pub mod Lent
 pub mod Slots

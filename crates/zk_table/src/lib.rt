@@ -3,10 +3,12 @@
 #![tactic(auto)]
 
 mod entries;
+mod heap;
 mod index;
 mod slot;
 mod table;
 
+pub use heap::{Heap, Lent};
 pub use table::Table;
 pub use zk_tree::Expiry;
 

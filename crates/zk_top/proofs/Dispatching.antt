@@ -6,7 +6,7 @@ use Rattle.std.proofs.lemmas.List.Elements.{filter_map-append}
 use Rattle.std.proofs.lemmas.Option.{slice_get_cases}
 use Rattle.zk_base.specs.declared.numbers.HandlerNo.{HandlerNo}
 use Rattle.zk_typed.specs.declared.program.Handler.{Handler}
-use Rattle.zk_machine.specs.Lowered.{handler_code}
+use Rattle.zk_first_machine.specs.Lowered.{handler_code}
 use Rattle.zk_value.specs.declared.code.HandlerCode.{HandlerCode}
 
 -- a handler, by its number and by its code

@@ -9,7 +9,7 @@ use Rattle.zk_top.specs.declared.found.Found.{Found}
 use Rattle.zk_top.specs.declared.found.Found.TheVariants.{Accepted, Refused}
 use Rattle.zk_top.specs.declared.stop.Stop.{Stop}
 use Rattle.zk_value.specs.declared.code.Code.{Code}
-use Rattle.zk_machine.specs.Lowered.{lowered}
+use Rattle.zk_first_machine.specs.Lowered.{lowered}
 use Rattle.zk_top.specs.Lowering.{code_found}
 use Rattle.zk_top.specs.Outcome.{Outcome, Report, over_capture, opened, loaded, run_report, running}
 use Rattle.zk_top.specs.Parts.{DoesPart, Finds, Fulfils, BreaksOff}

@@ -8,8 +8,8 @@ use Rattle.std.proofs.lemmas.Option.{slice_get_cases}
 use Rattle.zk_base.specs.declared.numbers.HandlerNo.{HandlerNo}
 use Rattle.zk_base.specs.Shelf.{Outside}
 use Rattle.zk_base.specs.declared.time.Moment.{Moment}
-use Rattle.zk_machine.specs.Lowered.{handler_code, lowered}
-use Rattle.zk_machine.specs.Standing.{StandsFor}
+use Rattle.zk_first_machine.specs.Lowered.{handler_code, lowered}
+use Rattle.zk_first_machine.specs.Standing.{StandsFor}
 use Rattle.zk_value.specs.declared.code.Code.{Code}
 use Rattle.zk_typed.specs.declared.program.Program.{Program}
 use Rattle.zk_typed.specs.declared.program.Handler.{Handler}

@@ -1,7 +1,7 @@
 -- The code of a program that is found in an input.
 use Rattle.std.specs.Prelude.{◌≡◌, ℕ, List}
 use Rattle.zk_base.specs.Shelf.{Outside}
-use Rattle.zk_machine.specs.Lowered.{lowered}
+use Rattle.zk_first_machine.specs.Lowered.{lowered}
 use Rattle.zk_typed.specs.declared.program.Program.{Program}
 use Rattle.zk_value.specs.declared.code.Code.{Code}
 use Rattle.zk_top.specs.declared.found.Found.{Found}

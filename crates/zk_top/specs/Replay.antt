@@ -1,7 +1,7 @@
 -- How far a replay of a capture to a program has come.
 use Rattle.std.specs.Prelude.{◌≡◌, ℕ, List, Option, [], ◌++◌, fold}
 use Rattle.zk_base.specs.Shelf.{Outside}
-use Rattle.zk_machine.specs.Standing.{StandsFor}
+use Rattle.zk_first_machine.specs.Standing.{StandsFor}
 use Rattle.zk_typed.specs.declared.program.Handler.{Handler}
 use Rattle.zk_typed.specs.declared.program.Program.{Program}
 use Rattle.zk_typed.specs.Run.{bodies}

@@ -1,5 +1,5 @@
 ghost use Rattle.std.specs.Prelude.{◌≡◌, IfOk};
-ghost use Rattle.zk_machine.specs.Lowered.{operand_of, print_of, handler_code, lowered};
+ghost use Rattle.zk_first_machine.specs.Lowered.{operand_of, print_of, handler_code, lowered};
 
 use crate::mapping::map_all;
 use std::alloc::Global;

@@ -1,7 +1,7 @@
 ghost use Rattle.std.specs.Prelude.{◌≡◌, ◌<◌, ℕ, List, Option, [], ◌∷◌, map, length, IfOk, OnOk, IfErr};
 ghost use Rattle.zk_base.specs.Shelf.{Outside};
-ghost use Rattle.zk_machine.specs.Lowered.{lowered};
-ghost use Rattle.zk_machine.specs.Standing.{code_of};
+ghost use Rattle.zk_first_machine.specs.Lowered.{lowered};
+ghost use Rattle.zk_first_machine.specs.Standing.{code_of};
 ghost use Rattle.zk_pcap.specs.View.{packet_of};
 ghost use Rattle.zk_typed.specs.declared.program.Program.{Program};
 ghost use Rattle.zk_typed.specs.Run.{handlers_of, bodies};
@@ -19,7 +19,7 @@ use crate::output::{PIECE, push_line, say};
 use crate::stop::Stop;
 use std::alloc::Global;
 use zk_base::{EventNo, HandlerNo, Mem, Moment, Shelf};
-use zk_machine::Machine;
+use zk_first_machine::Machine;
 use zk_pcap::PacketView;
 use zk_typed::{PACKET_SEEN, ZEEK_DONE, ZEEK_INIT};
 use zk_value::{Code, Out, Value};

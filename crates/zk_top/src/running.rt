@@ -1,5 +1,5 @@
 ghost use Rattle.std.specs.Prelude.{◌≡◌, ◌<◌, ◌≤◌, [], ◌∷◌, length, IfOk, IfErr};
-ghost use Rattle.zk_machine.specs.Lowered.{lowered};
+ghost use Rattle.zk_first_machine.specs.Lowered.{lowered};
 ghost use Rattle.zk_typed.specs.declared.program.Program.{Program};
 ghost use Rattle.zk_top.specs.Outcome.{over_capture, opened, loaded, run_report, running};
 ghost use Rattle.zk_top.specs.Parts.{Fulfils, BreaksOff, IsOfCommand};

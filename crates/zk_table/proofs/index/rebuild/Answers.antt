@@ -1,4 +1,4 @@
-use Rattle.std.proofs.Common.{length, ◌-◌, ◌<◌, ◌≤◌, subst, arith}
+use Rattle.std.proofs.Common.{length, ◌-◌, ◌<◌, subst, arith}
 use Rattle.zk_table.proofs.IndexLemmas.{refreshed_down, same_length}
 use Rattle.zk_table.proofs.index.rebuild.Goals as goal
 

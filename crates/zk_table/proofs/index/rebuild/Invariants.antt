@@ -1,4 +1,4 @@
-use Rattle.std.proofs.Common.{◌≡◌, ℕ, ◌<◌, ◌≤◌, length}
+use Rattle.std.proofs.Common.{ℕ, ◌<◌, ◌≤◌, length}
 use Rattle.zk_table.specs.Index.{IsNode}
 use Rattle.zk_table.proofs.index.rebuild.Given as goal
 

@@ -1,4 +1,4 @@
-use Rattle.std.proofs.Common.{◌≡◌, ◌∙◌, ◌-◌, ◌^◌, ℤ, pos, negsuc, ◌+ℤ◌, ◌≤ℤ◌, to_z, of_z, w64, ap, arith}
+use Rattle.std.proofs.Common.{◌≡◌, ◌∙◌, ◌-◌, ◌^◌, pos, negsuc, ◌+ℤ◌, ◌≤ℤ◌, to_z, of_z, w64, ap, arith}
 use Rattle.std.specs.Int.{int_min, int_max, saturate_to_bits}
 use Rattle.std.proofs.lemmas.Int.{ints, to_z-of_z}
 use Rattle.zk_table.proofs.MomentLemmas.{saturated}

@@ -1,5 +1,5 @@
 use Rattle.std.proofs.Common.{◌≡◌, filter, ◌==◌, ◌++◌, drop}
-use Rattle.zk_machine.specs.Lowered.{lowered}
+use Rattle.zk_first_machine.specs.Lowered.{lowered}
 use Rattle.zk_typed.specs.declared.program.Program.{Program}
 use Rattle.zk_typed.specs.Run.{handlers_of}
 use Rattle.zk_top.specs.Named.{AreIn}

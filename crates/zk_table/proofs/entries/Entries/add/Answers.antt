@@ -1,12 +1,10 @@
-use Rattle.std.proofs.Common.{◌≡◌, ◌++◌, ◌∷◌, [], ◌+◌, cond, Some, Result, Ok, Err, refl, sym, ap, subst, ◌∙◌, arith, length}
+use Rattle.std.proofs.Common.{◌≡◌, ◌++◌, ◌∷◌, [], cond, Some, Result, Ok, Err, refl, ap, subst, ◌∙◌, arith, length}
 use Rattle.std.specs.Prelude.{OnErr}
 use Rattle.std.specs.Map.{lookup}
 use Rattle.std.proofs.lemmas.List.{with_items_is}
 use Rattle.indexmap.specs.IndexMap as keyed
 use Rattle.zk_tree.specs.Table.{due_from}
 use Rattle.zk_value.specs.contracts.key.KeyPartialEq.TheImpl as key_eq
-use Rattle.zk_value.specs.declared.value.Value.{Value}
-use Rattle.zk_table.specs.declared.slot.Slot.{Slot}
 use Rattle.zk_table.specs.declared.slot.Stored.{Stored}
 use Rattle.zk_table.specs.Index.{AllBut}
 use Rattle.zk_table.specs.Kept.{order_at}

@@ -1,9 +1,7 @@
-use Rattle.std.proofs.Common.{◌≡◌, filter, is_some, min, refl, sym, ap, subst, ◌∙◌, arith, length, rules}
-use Rattle.std.specs.Vec.{with_items}
+use Rattle.std.proofs.Common.{◌≡◌, is_some, min, refl, ap, ◌∙◌, arith, length, rules}
 use Rattle.std.proofs.lemmas.Fn.{filter_same}
 use Rattle.std.proofs.lemmas.List.{with_items_is}
 use Rattle.zk_table.specs.declared.slot.Slot.{Slot}
-use Rattle.zk_table.specs.Index.{IsTree}
 use Rattle.zk_table.specs.Slots.{without_holes}
 use Rattle.zk_table.proofs.ChangeLemmas.{tree_rebuilt}
 use Rattle.zk_table.proofs.OperationLemmas.{closed}

@@ -1,5 +1,4 @@
 use Rattle.std.proofs.Common.{◌≡◌, ap, ◌∙◌, arith}
-use Rattle.std.specs.Option.{option_map}
 use Rattle.zk_table.specs.Slots.{occupied, with_moment}
 use Rattle.zk_table.proofs.ChangeLemmas.{changed, lent_slot, rewrites_reordered, is_some-due_from}
 use Rattle.zk_table.proofs.entries.Entries.renew.Goals as goal

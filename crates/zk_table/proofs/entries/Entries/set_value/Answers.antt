@@ -1,5 +1,4 @@
 use Rattle.std.proofs.Common.{◌≡◌, refl, ap, ◌∙◌}
-use Rattle.std.specs.Option.{option_map}
 use Rattle.zk_table.specs.Slots.{occupied, with_value}
 use Rattle.zk_table.proofs.ChangeLemmas.{changed, lent_slot, rewrites_same}
 use Rattle.zk_table.proofs.entries.Entries.set_value.Goals as goal

@@ -1,4 +1,4 @@
-use Rattle.std.proofs.Common.{◌≡◌, ◌++◌, ◌∷◌, [], None, ◌∙◌, refl, sym, ap, subst, arith, length}
+use Rattle.std.proofs.Common.{◌∷◌, [], None, ◌∙◌, refl, sym, ap, subst, arith, length}
 use Rattle.std.proofs.Common.{length-append}
 use Rattle.zk_table.specs.Index.{IsTree}
 use Rattle.zk_table.proofs.TurnLemmas.{tree-longer}

@@ -2,7 +2,7 @@ use Rattle.std.proofs.Common.{is_some, sym, ap, ◌∙◌}
 use Rattle.zk_tree.specs.Table as plain
 use Rattle.zk_tree.specs.Table.{entry_at}
 use Rattle.zk_value.specs.Plain.{key_of}
-use Rattle.zk_table.proofs.TableLemmas.{found-entry, found-within, removed-found}
+use Rattle.zk_table.proofs.TableLemmas.{found-entry, removed-found}
 use Rattle.zk_table.proofs.table.Table.remove.Goals as goal
 
 pub invariant_of-self : goal.invariant_of-self

@@ -1,6 +1,6 @@
 use Rattle.std.proofs.Common.{◌≡◌, map, drop}
 use Rattle.zk_base.specs.Shelf.{Outside}
-use Rattle.zk_machine.specs.Standing.{code_of}
+use Rattle.zk_first_machine.specs.Standing.{code_of}
 use Rattle.zk_typed.specs.declared.program.Program.{Program}
 use Rattle.zk_typed.specs.Run.{bodies}
 use Rattle.zk_typed.specs.World.{World}

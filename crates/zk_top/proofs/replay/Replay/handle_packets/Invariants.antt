@@ -1,5 +1,5 @@
 use Rattle.std.proofs.Common.{◌≡◌, ◌-◌, ◌^◌, ℕ, List, [], Option, fold}
-use Rattle.zk_machine.specs.Standing.{code_of}
+use Rattle.zk_first_machine.specs.Standing.{code_of}
 use Rattle.zk_pcap.specs.declared.headers.Header.{Header}
 use Rattle.zk_pcap.specs.declared.records.Packet.{Packet}
 use Rattle.zk_pcap.specs.NetworkTime.{now}

@@ -1,6 +1,6 @@
 use Rattle.std.proofs.Common.{[], ◌∷◌, ◌++◌, subst, sym, refl, ◌∙◌}
 use Rattle.std.proofs.lemmas.Result.{err_from_is_err_and}
-use Rattle.zk_machine.specs.Standing.{StandsFor}
+use Rattle.zk_first_machine.specs.Standing.{StandsFor}
 use Rattle.zk_top.specs.declared.replay.Replay.{Replay}
 use Rattle.zk_top.specs.Printed.{with_line_ends}
 use Rattle.zk_top.proofs.ReplayLemmas.{stopped_in, line_taken, taken_prefix, all_taken}

@@ -1,6 +1,6 @@
 use Rattle.std.proofs.Common.{◌≡◌, ℕ, List}
 use Rattle.zk_base.specs.Shelf.{Outside}
-use Rattle.zk_machine.specs.Standing.{code_of, waiting}
+use Rattle.zk_first_machine.specs.Standing.{code_of, waiting}
 use Rattle.zk_typed.specs.declared.program.Program.{Program}
 use Rattle.zk_typed.specs.World.{World}
 use Rattle.zk_top.specs.Reading.{SameInput}

@@ -1,0 +1,4 @@
+pub mod Lowered
+pub mod Meant
+pub mod Steps
+pub mod Standing

@@ -1,0 +1,81 @@
+ghost use Rattle.std.specs.Prelude.{◌≡◌, map};
+ghost use Rattle.zk_typed.specs.State.{first_world};
+ghost use Rattle.zk_value.specs.Plain.{field_of};
+
+use std::alloc::Global;
+use std::collections::VecDeque;
+use zk_base::{Bytes, EventNo, Moment, ObjectNo};
+use zk_streams::Streams;
+use zk_table::Heap;
+use zk_typed::script::DefaultValue;
+use zk_value::Value;
+
+/// An event with its arguments.
+#[derive(Debug, Drop)]
+pub struct Queued {
+    pub event: EventNo,
+    pub args: Vec<Value>,
+}
+
+/// An event that is due at a moment, and which of those that were scheduled it is.
+#[derive(Debug, Drop)]
+pub struct Scheduled {
+    pub due: Moment,
+    pub order: u64,
+    pub what: Queued,
+}
+
+/// A table's `&default`, and the number of the table's object.
+#[derive(Debug, Drop)]
+pub struct TableDefault {
+    pub object: ObjectNo,
+    pub default: DefaultValue,
+}
+
+/// The world that scripts run in. Lines are those that were not yet given out.
+#[derive(Debug, Drop)]
+pub struct World {
+    pub alloc: Global,
+    /// Network time.
+    pub time: Moment,
+    /// Whether the end has begun: then nothing expires, and nothing more is scheduled.
+    pub is_ending: bool,
+    /// The objects by their numbers.
+    pub heap: Heap,
+    /// The tables that have a `&default`.
+    pub defaults: Vec<TableDefault>,
+    /// The values of globals and constants by their numbers, each where it has one.
+    pub globals: Vec<Option<Value>>,
+    /// The events that wait to be dispatched, first in, first out.
+    pub queue: VecDeque<Queued>,
+    /// The events that wait for their moments, and how many were scheduled so far.
+    pub scheduled: Vec<Scheduled>,
+    pub schedulings: u64,
+    /// The log streams with their filters.
+    pub streams: Streams,
+    /// The printed lines that were not yet given out, without their ends.
+    pub lines: VecDeque<Bytes>,
+}
+
+impl World {
+    ghost use Rattle.zk_machine.specs.State.{world_of};
+
+    /// The world at the beginning, with these values of globals and constants. No memory is taken.
+    pub fn new(alloc: Global, globals: Vec<Option<Value>>) -> World
+        ensures { world_of result ≡ first_world (map field_of globals.items) }
+    {
+        World {
+            alloc,
+            time: Moment(0),
+            is_ending: false,
+            heap: Heap::new(alloc),
+            defaults: Vec::new(alloc),
+            globals,
+            queue: VecDeque::new(alloc),
+            scheduled: Vec::new(alloc),
+            schedulings: 0,
+            streams: Streams::new(alloc),
+            lines: VecDeque::new(alloc),
+        }
+    }
+}

@@ -6,7 +6,9 @@ use Rattle.zk_typed.specs.Checked.{Checked, ◌>>=◌}
 use Rattle.zk_typed.specs.Tells.{Tells}
 use Rattle.zk_operator.specs.declared.operands.Typed.{Typed as RustTyped}
 use Rattle.zk_operator.specs.Views.{typed_of, pair_of, all_typed}
+use Rattle.zk_typed.specs.Types.{ValueType}
 use Rattle.zk_typed.specs.Typing.{Typed}
+use Rattle.zk_typed.specs.View.{type_of}
 
 pub passed : {A A' B B' : Type 0} (va : A → A') (vb : B → B') (ca : Checked A') (k : A' → Checked B') (refusal : Refusal) →
     Tells va (Err refusal) ca → Tells vb (Err refusal) (ca >>= k)
@@ -27,3 +29,8 @@ pub all_passed : {B B' : Type 0} (vb : B → B') (ca : Checked (List Typed)) (k 
     Tells all_typed (Err refusal) ca → Tells vb (Err refusal) (ca >>= k)
 all_passed vb ca k (Broken rules) h = rw h refl
 all_passed vb ca k NoMemory h = tt
+
+pub type_passed : {B B' : Type 0} (vb : B → B') (ca : Checked ValueType) (k : ValueType → Checked B') (refusal : Refusal) →
+    Tells type_of (Err refusal) ca → Tells vb (Err refusal) (ca >>= k)
+type_passed vb ca k (Broken rules) h = rw h refl
+type_passed vb ca k NoMemory h = tt

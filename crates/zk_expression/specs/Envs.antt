@@ -1,21 +1,31 @@
 -- Where an expression stands, and what the Rust types of typed forms stand for.
-use Rattle.std.specs.Prelude.{List, ℕ, map, slice_get, Option, Some, None, Ok}
+use Rattle.std.specs.Prelude.{List, [], ℕ, false, map, slice_get, Option, Some, None, Ok, if◌then◌else◌}
 use Rattle.std.specs.Borrow.{Bor}
 use Rattle.std.specs.Option.{option_map}
-use Rattle.zk_names.specs.Lent.{home_of}
+use Rattle.zk_tree.specs.declared.decl.Lasting.TheVariants as lasting
+use Rattle.zk_tree.specs.declared.expr.Item.{Item}
+use Rattle.zk_tree.specs.declared.expr.Part.{Part}
+use Rattle.zk_tree.specs.declared.name.Name.{Name}
+use Rattle.zk_names.specs.Lent.{home_of, declared_of}
 use Rattle.zk_names.specs.Scripted.{scripts_in}
 use Rattle.zk_operator.specs.Views.{typed_of, typed_all}
-use Rattle.zk_typed.specs.declared.script.types.ValueType as declared
 use Rattle.zk_typed.specs.Checked.{Checked, elsewhere}
+use Rattle.zk_typed.specs.Declarations.{circular}
 use Rattle.zk_typed.specs.Expressions.{Side}
 use Rattle.zk_typed.specs.Making.{Called, Gives, Performs}
+use Rattle.zk_typed.specs.Names.{Declared, Variable}
 use Rattle.zk_typed.specs.Types.{ValueType}
 use Rattle.zk_typed.specs.Typing.{LocalName, Env}
 use Rattle.zk_typed.specs.View.{type_of, all_of}
 use Rattle.zk_expression.specs.declared.called.Called.{Called as RustCalled}
 use Rattle.zk_expression.specs.declared.called.Called.TheVariants as called
 use Rattle.zk_expression.specs.declared.env.Env.{Env as LentEnv}
+use Rattle.zk_expression.specs.declared.env.GlobalType.{GlobalType as RustGlobal}
+use Rattle.zk_expression.specs.declared.env.GlobalType.TheVariants as global
+use Rattle.zk_expression.specs.declared.env.Globals.{Globals as LentGlobals}
 use Rattle.zk_expression.specs.declared.env.LocalName.{LocalName as LentLocal}
+use Rattle.zk_expression.specs.declared.found.Found.{Found as LentFound}
+use Rattle.zk_expression.specs.declared.found.Found.TheVariants as found
 use Rattle.zk_expression.specs.declared.side.Side.{Side as RustSide}
 
 -- a type that isn't there is broken elsewhere
@@ -32,20 +42,25 @@ local_found one = (one.0, (local_of one.1.now).type)
 abbrev pub locals_of : List LentLocal → List LocalName
 locals_of locals = map local_of locals
 
--- the type of a global by its number, among those that are known
-abbrev pub known_at : List (Option declared.ValueType) → ℕ → Checked ValueType
-known_at types number = of_one (slice_get types number)
+abbrev pub global_of : RustGlobal → Checked ValueType
+global_of (global.Known one) = Ok (type_of one)
+global_of global.Unknown = elsewhere
+global_of global.Circular = circular
+
+-- the type of a global by its number
+abbrev pub globals_at : LentGlobals → ℕ → Checked ValueType
+globals_at globals number = of_one (slice_get globals.types.now number)
   where
-    of_one : Option (Option declared.ValueType) → Checked ValueType
-    of_one None = elsewhere
-    of_one (Some one) = known_or (option_map type_of one)
+    of_one : Option RustGlobal → Checked ValueType
+    of_one None = if globals.circular then circular else elsewhere
+    of_one (Some one) = global_of one
 
 abbrev pub env_of : LentEnv → Env
 env_of env = record {
   scripts = scripts_in env.names.now;
   home = home_of env.home;
   locals = locals_of env.locals.now;
-  global_type = known_at env.global_types.now;
+  global_type = globals_at env.globals;
 }
 
 abbrev pub side_of : RustSide → Side
@@ -60,3 +75,13 @@ side_of one = record {
 abbrev pub called_of : RustCalled → Called
 called_of (called.Gives one) = Gives (typed_of one)
 called_of (called.Performs function args) = Performs function (typed_all args.items)
+
+-- what a name means; a local hides what else has its name, and is a variable
+abbrev pub found_of : Env → Name → LentFound → Option Declared
+found_of env name found.Local = Some (record { name = name.text; exported = false; meant = Variable env.home lasting.Global None None [] })
+found_of env name (found.Declared one) = Some (declared_of one.now)
+found_of env name found.Nothing = None
+
+-- a call of a name at the front of an expression, with the parts behind it
+abbrev pub call_in : Bor Name × Bor (List Item) × Bor (List Part) → Name × List Item × List Part
+call_in call = (call.0.now, call.1.now, call.2.now)

@@ -12,6 +12,24 @@ pub struct LocalName<'a> {
     pub value_type: Option<ValueType>,
 }
 
+/// What is known of the type of a global or a constant.
+#[derive(Debug, Drop)]
+pub enum GlobalType {
+    Known(ValueType),
+    /// Its declaration is broken.
+    Unknown,
+    /// It rests on its own initial value.
+    Circular,
+}
+
+/// The types of globals and constants, by their numbers.
+#[derive(Clone, Copy)]
+pub struct Globals<'a> {
+    pub types: &'a [GlobalType],
+    /// Whether one with a number past these rests on its own initial value. Else its type isn't known.
+    pub circular: bool,
+}
+
 /// Where an expression stands.
 #[derive(Clone, Copy)]
 pub struct Env<'a> {
@@ -19,8 +37,7 @@ pub struct Env<'a> {
     pub home: Home<'a>,
     /// The parameters and locals that are visible, by their numbers.
     pub locals: &'a [LocalName<'a>],
-    /// The types of the globals and constants, by their numbers; None where one is broken.
-    pub global_types: &'a [Option<ValueType>],
+    pub globals: Globals<'a>,
 }
 
 impl Env<'_> {

@@ -2,14 +2,15 @@ ghost use Rattle.std.specs.Prelude.{◌≡◌, IfOk, Ok};
 ghost use Rattle.std.specs.Option.{option_map};
 ghost use Rattle.zk_names.specs.Lent.{declared_of};
 ghost use Rattle.zk_operator.specs.Views.{typed_of};
+ghost use Rattle.zk_typed.specs.Declarations.{circular};
 ghost use Rattle.zk_typed.specs.Forms as form;
 ghost use Rattle.zk_typed.specs.Tells.{Tells};
 ghost use Rattle.zk_typed.specs.Typing as spec;
 ghost use Rattle.zk_typed.specs.View.{type_of};
-ghost use Rattle.zk_expression.specs.Envs.{env_of, local_found, locals_of, known_at, known_or};
+ghost use Rattle.zk_expression.specs.Envs.{env_of, local_found, locals_of, global_of, globals_at, known_or};
 ghost use Rattle.zk_expression.specs.Parts.{and_then};
 
-use crate::env::{Env, LocalName};
+use crate::env::{Env, GlobalType, Globals, LocalName};
 use sqlite_items::{Items, at};
 use std::alloc::Global;
 use zk_base::{Bytes, Mem};
@@ -53,26 +54,52 @@ fn local_value(alloc: Global, number: u32, value_type: &Option<ValueType>) -> Re
     }
 }
 
-/// The value of a global or a constant, of those whose types are known.
-fn global_value(
-    alloc: Global,
-    global_types: &[Option<ValueType>],
-    number: u32,
-) -> Result<Typed, Refusal>
-    ensures { Tells typed_of result (and_then (known_at global_types.now number) (λ type. Ok (spec.typed type (form.Global number)))) }
+/// The type of what rests on its own initial value, which is marked.
+fn circular(alloc: Global) -> Result<ValueType, Refusal>
+    ensures { Tells type_of result circular }
 {
-    match at(global_types, number as usize) {
-        None => Err(Refusal::Broken(Items::new(alloc))),
-        Some(one) => match one {
-            None => Err(Refusal::Broken(Items::new(alloc))),
-            Some(value_type) => {
-                let value_type = copied_type(alloc, value_type)?;
-                Ok(Typed {
-                    value_type,
-                    expr: Expr::Global(number),
-                })
+    let nowhere = Place { file: 0, byte: 0 };
+    Err(Refusal::Broken(one_broken(alloc, Rule::Recursive, nowhere)?))
+}
+
+/// What is known of the type of a global or a constant.
+fn known_global(alloc: Global, one: &GlobalType) -> Result<ValueType, Refusal>
+    ensures { Tells type_of result (global_of one.now) }
+{
+    match one {
+        GlobalType::Known(value_type) => Ok(copied_type(alloc, value_type)?),
+        GlobalType::Unknown => Err(Refusal::Broken(Items::new(alloc))),
+        GlobalType::Circular => circular(alloc),
+    }
+}
+
+/// The type of a global or a constant, by its number.
+pub fn global_type(alloc: Global, globals: Globals<'_>, number: u32) -> Result<ValueType, Refusal>
+    ensures { Tells type_of result (globals_at globals.entry number) }
+{
+    match at(globals.types, number as usize) {
+        Some(one) => known_global(alloc, one),
+        None => {
+            if globals.circular {
+                circular(alloc)
+            } else {
+                Err(Refusal::Broken(Items::new(alloc)))
             }
-        },
+        }
+    }
+}
+
+/// The value of a global or a constant.
+#[tactic(auto, using(crate::proofs::Steps::type_passed))]
+fn global_value(alloc: Global, globals: Globals<'_>, number: u32) -> Result<Typed, Refusal>
+    ensures { Tells typed_of result (and_then (globals_at globals.entry number) (λ type. Ok (spec.typed type (form.Global number)))) }
+{
+    match global_type(alloc, globals, number) {
+        Ok(value_type) => Ok(Typed {
+            value_type,
+            expr: Expr::Global(number),
+        }),
+        Err(refusal) => Err(refusal),
     }
 }
 
@@ -95,7 +122,7 @@ fn declared_value(
         }
         Meant::Variable { .. } => {
             let number = env.names.number_among(Kind::Variable, one)?;
-            global_value(alloc, env.global_types, number)
+            global_value(alloc, env.globals, number)
         }
         Meant::KnownType { .. }
         | Meant::WrittenType { .. }

@@ -10,3 +10,4 @@ pub mod NestLaws
 pub mod SoonerLaws
 pub mod AddedLaws
 pub mod ListLaws
+pub mod HeadLaws

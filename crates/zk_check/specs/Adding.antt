@@ -5,7 +5,7 @@ use Rattle.zk_tree.specs.declared.types.Field.{Field, out-Field}
 use Rattle.zk_typed.specs.Checked.{Checked, both}
 use Rattle.zk_typed.specs.Declarations.{field_rules, is_one_of, nothing, parts_rules}
 use Rattle.zk_typed.specs.Errors.{added_rules, field_names}
-use Rattle.zk_typed.specs.LoadOrder.{Home, Stated}
+use Rattle.zk_typed.specs.LoadOrder.{Home}
 use Rattle.zk_typed.specs.Making.{is_container}
 use Rattle.zk_typed.specs.Resolving.{Scripts, deeper, fields_of, has_attr, type_of}
 use Rattle.zk_check.specs.declared.rules.records.FieldNames.{FieldNames}
@@ -19,9 +19,9 @@ has_field known number name = list_any (λ other. other == number) (group_at kno
 pub record HasFields (number : ℕ) (known : FieldNames) (names : List (List ℕ)) : Type 0 where
   pub has : (name : List ℕ) → has_field known number name ≡ is_one_of names name
 
--- each record type has the fields of its own text, and those that these declarations add
-pub record KnowsFields (known : FieldNames) (scripts : Scripts) (earlier : List Stated) : Type 0 where
-  pub knows : (number : ℕ) → HasFields number known (field_names (fields_of (record scripts { stated = earlier }) number))
+-- each record type has the fields that it has in scripts
+pub record KnowsAll (known : FieldNames) (scripts : Scripts) : Type 0 where
+  pub knows : (number : ℕ) → HasFields number known (field_names (fields_of scripts number))
 
 abbrev pub field_texts : List Field → List (List ℕ)
 field_texts fields = map (λ field. (out-Field field).name.text) fields

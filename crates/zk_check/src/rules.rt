@@ -4,6 +4,7 @@ mod edges;
 mod fields;
 mod globals;
 mod ground;
+mod heads;
 mod heights;
 mod least;
 mod naming;

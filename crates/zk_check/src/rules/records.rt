@@ -1,7 +1,8 @@
-ghost use Rattle.std.specs.Prelude.{◌≡◌, ◌||◌, ◌&&◌, ◌==◌, ℕ, List, false, OnOk, IfOk};
+ghost use Rattle.std.specs.Prelude.{◌≡◌, ◌||◌, ◌&&◌, ◌==◌, ℕ, List, false, Ok, OnOk, IfOk};
 ghost use Rattle.std.specs.Str.{bytes_eq};
 ghost use Rattle.zk_tree.specs.declared.types.Field.{out-Field};
-ghost use Rattle.zk_typed.specs.Checked.{Checked};
+ghost use Rattle.zk_typed.specs.Checked.{Checked, broken};
+ghost use Rattle.zk_typed.specs.declared.rule.Rule.TheVariants as rule;
 ghost use Rattle.zk_typed.specs.Declarations.{fields_rules, is_one_of};
 ghost use Rattle.zk_typed.specs.Errors as spec;
 ghost use Rattle.zk_typed.specs.Making.{is_container};
@@ -13,7 +14,7 @@ ghost use Rattle.zk_names.specs.Fields.{fields_lent};
 ghost use Rattle.zk_names.specs.Lent.{home_of};
 ghost use Rattle.zk_names.specs.Scripted.{scripts_in};
 ghost use Rattle.zk_operator.specs.Gather.{Told};
-ghost use Rattle.zk_check.specs.Adding.{HasFields, added_field, field_texts, has_field, is_free};
+ghost use Rattle.zk_check.specs.Adding.{HasFields, KnowsAll, added_field, field_texts, has_field, is_free};
 ghost use Rattle.zk_check.specs.Grounds.{IsGround};
 
 use crate::groups::Groups;
@@ -26,9 +27,9 @@ use std::alloc::Global;
 use zk_base::{Mem, RecordNo};
 use zk_names::{FieldInfo, Home, Names, has_attr, place_in};
 use zk_operator::also;
-use zk_tree::Field;
-use zk_typed::script::ValueType;
-use zk_typed::{Refusal, Rule};
+use zk_tree::{Field, Name};
+use zk_typed::script::{SimpleType, ValueType};
+use zk_typed::{Refusal, Rule, one_broken};
 
 /// How many record types are predefined.
 const PREDEFINED: u32 = 8;
@@ -176,5 +177,71 @@ impl Ground<'_> {
             rules = also(rules, one);
         }
         rules
+    }
+}
+
+impl Ground<'_> {
+    /// The rule that the name behind `redef record` or `redef enum` names another type.
+    fn wrong_named(&self, home: Home<'_>, name: &Name) -> Result<(), Refusal>
+        ensures { Tells (λ done. done) result (broken rule.WrongType (resolving.place_in (home_of home.entry) name.now.place)) }
+    {
+        let place = place_in(home, name.place);
+        Err(Refusal::Broken(one_broken(self.alloc, Rule::WrongType, place)?))
+    }
+
+    /// The rules of `redef record` of a type. The fields are known besides.
+    fn redef_type(
+        &self,
+        home: Home<'_>,
+        name: &Name,
+        fields: &[Field],
+        one: &ValueType,
+        known: &mut FieldNames,
+    ) -> Result<(), Refusal>
+        requires { IsGround self.now }
+        ensures rules { (before : resolving.Scripts) → KnowsAll known.old before → Tells (λ done. done) result (spec.redef_record_rules (scripts_in self.now.names.now) before (home_of home.entry) name.now fields.now (Ok (type_of one.now))) }
+        ensures known { Told result → (number : ℕ) (text : List ℕ) → has_field known.new number text ≡ has_field known.old number text || (resolving.is_that number (Ok (type_of one.now)) && is_one_of (field_texts fields.now) text) }
+    {
+        match one {
+            ValueType::Record(owner) => self.added_fields(home, owner.0, fields, known),
+            ValueType::Simple(_)
+            | ValueType::Table { .. }
+            | ValueType::Set { .. }
+            | ValueType::Vector { .. } => self.wrong_named(home, name),
+        }
+    }
+
+    /// The rules of `redef record`. The fields are known besides.
+    pub fn redef_record(
+        &self,
+        home: Home<'_>,
+        name: &Name,
+        fields: &[Field],
+        known: &mut FieldNames,
+    ) -> Result<(), Refusal>
+        requires { IsGround self.now }
+        ensures rules { (before : resolving.Scripts) → KnowsAll known.old before → Tells (λ done. done) result (spec.redef_record_rules (scripts_in self.now.names.now) before (home_of home.entry) name.now fields.now (resolving.type_named (scripts_in self.now.names.now) (home_of home.entry) name.now)) }
+        ensures known { Told result → (number : ℕ) (text : List ℕ) → has_field known.new number text ≡ has_field known.old number text || (resolving.is_that number (resolving.type_named (scripts_in self.now.names.now) (home_of home.entry) name.now) && is_one_of (field_texts fields.now) text) }
+    {
+        match self.names.type_named(self.alloc, home, name) {
+            Ok(one) => self.redef_type(home, name, fields, &one, known),
+            Err(refusal) => Err(refusal),
+        }
+    }
+
+    /// The rules of `redef enum`.
+    #[tactic(auto, using(crate::proofs::RuleLaws::type_passed))]
+    pub fn redef_enum(&self, home: Home<'_>, name: &Name) -> Result<(), Refusal>
+        ensures { Tells (λ done. done) result (spec.redef_enum_rules (scripts_in self.now.names.now) (home_of home.entry) name.now) }
+    {
+        match self.names.type_named(self.alloc, home, name) {
+            Ok(ValueType::Simple(SimpleType::Enum(_))) => Ok(()),
+            Ok(ValueType::Simple(_))
+            | Ok(ValueType::Record(_))
+            | Ok(ValueType::Table { .. })
+            | Ok(ValueType::Set { .. })
+            | Ok(ValueType::Vector { .. }) => self.wrong_named(home, name),
+            Err(refusal) => Err(refusal),
+        }
     }
 }

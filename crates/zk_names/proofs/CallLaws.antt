@@ -1,5 +1,5 @@
 -- The calls in an expression, by its parts.
-use Rattle.std.proofs.Common.{◌≡◌, true, ℕ, zero, suc, List, [], ◌∷◌, ◌++◌, refl, ap, sym, ◌∙◌, append-nil, append_assoc}
+use Rattle.std.proofs.Common.{◌≡◌, true, ℕ, zero, suc, List, [], ◌∷◌, ◌++◌, refl, ap, ◌∙◌, append-nil}
 use Rattle.zk_tree.specs.declared.expr.Expr.{Expr, out-Expr}
 use Rattle.zk_tree.specs.declared.expr.Expr.TheOpen as written
 use Rattle.zk_tree.specs.declared.expr.Expr.TheVariants as expr

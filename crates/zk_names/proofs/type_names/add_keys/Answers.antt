@@ -1,5 +1,4 @@
-use Rattle.std.proofs.Common.{◌≡◌, List, ◌∷◌, ◌++◌, ap, sym, ◌∙◌}
-use Rattle.zk_typed.specs.declared.script.types.SimpleType.{SimpleType}
+use Rattle.std.proofs.Common.{◌≡◌, ◌∷◌, ◌++◌, ap, ◌∙◌}
 use Rattle.zk_names.proofs.TypeNameLaws.{all_joined}
 use Rattle.zk_names.proofs.type_names.add_keys.Goals as goal
 

@@ -16,3 +16,8 @@ abbrev pub GivesText : Result Value BuiltinFault → List ℕ → Type 0
 GivesText (Ok value) text = (value_of value ≡ plain.String text) × (length text ≤ longest)
 GivesText (Err TooLong) text = longest < length text
 GivesText (Err NoMemory) text = Unit {0}
+
+-- It is the string of this text, whatever its length. Only want of memory is free.
+abbrev pub IsText : Result Value BuiltinFault → List ℕ → Type 0
+IsText (Ok value) text = value_of value ≡ plain.String text
+IsText (Err fault) text = fault ≡ NoMemory

@@ -2,22 +2,20 @@ ghost use Rattle.std.specs.Prelude.{◌≡◌, map, nat_eq, Ok};
 ghost use Rattle.std.specs.Char.{to_ascii_lowercase, to_ascii_uppercase};
 ghost use Rattle.std.specs.List.{starts_with};
 ghost use Rattle.zk_typed.specs.BuiltIns.{strstr, sub_bytes};
-ghost use Rattle.zk_builtin.specs.Given.{GivesText};
+ghost use Rattle.zk_builtin.specs.Given.{IsText};
 
 use crate::fault::BuiltinFault;
-use crate::texts::{is_too_long, string_of};
+use crate::texts::as_string;
 use memchr::memmem;
 use std::alloc::Global;
 use zk_value::Value;
 
-/// The string with its ASCII capitals made small (Zeek manual, Built-in functions, to_lower).
+/// The string with its ASCII capitals made small (Zeek manual, Built-in functions, to_lower). `TooLong`
+/// never comes.
 pub fn to_lower(alloc: Global, s: &[u8]) -> Result<Value, BuiltinFault>
-    ensures { GivesText result (map to_ascii_lowercase s.now) }
+    ensures { IsText result (map to_ascii_lowercase s.now) }
 {
-    if is_too_long(s) {
-        return Err(BuiltinFault::TooLong);
-    }
-    string_of(
+    as_string(
         s.iter()
             .map(|byte| byte.to_ascii_lowercase())
             .collect(alloc)?,
@@ -25,13 +23,11 @@ pub fn to_lower(alloc: Global, s: &[u8]) -> Result<Value, BuiltinFault>
 }
 
 /// The string with its small ASCII letters made capitals (Zeek manual, Built-in functions, to_upper).
+/// `TooLong` never comes.
 pub fn to_upper(alloc: Global, s: &[u8]) -> Result<Value, BuiltinFault>
-    ensures { GivesText result (map to_ascii_uppercase s.now) }
+    ensures { IsText result (map to_ascii_uppercase s.now) }
 {
-    if is_too_long(s) {
-        return Err(BuiltinFault::TooLong);
-    }
-    string_of(
+    as_string(
         s.iter()
             .map(|byte| byte.to_ascii_uppercase())
             .collect(alloc)?,
@@ -39,9 +35,9 @@ pub fn to_upper(alloc: Global, s: &[u8]) -> Result<Value, BuiltinFault>
 }
 
 /// At most `n` bytes from a place on, which is counted from 1; the place 0 counts as 1, and an `n`
-/// below 0 as 0 (Zeek manual, Built-in functions, sub_bytes).
+/// below 0 as 0 (Zeek manual, Built-in functions, sub_bytes). `TooLong` never comes.
 pub fn sub_bytes(alloc: Global, s: &[u8], start: u64, n: i64) -> Result<Value, BuiltinFault>
-    ensures { GivesText result (sub_bytes s.now start n) }
+    ensures { IsText result (sub_bytes s.now start n) }
 {
     let from = start.saturating_sub(1).min(s.len() as u64) as usize;
     let rest = &s[from..];
@@ -50,11 +46,7 @@ pub fn sub_bytes(alloc: Global, s: &[u8], start: u64, n: i64) -> Result<Value, B
     } else {
         (n as u64).min(rest.len() as u64) as usize
     };
-    let part = &rest[..count];
-    if is_too_long(part) {
-        return Err(BuiltinFault::TooLong);
-    }
-    string_of(Vec::from_slice(alloc, part)?)
+    as_string(Vec::from_slice(alloc, &rest[..count])?)
 }
 
 /// The place of the first occurrence of `little` in `big`, counted from 1, and 0 where there is none.

@@ -1,7 +1,7 @@
 ghost use Rattle.std.specs.Prelude.{◌≡◌, ◌++◌, length, nat_lt, OnErr, OnOk};
 ghost use Rattle.zk_typed.specs.Text.{text_of};
 ghost use Rattle.zk_value.specs.Plain.{value_of};
-ghost use Rattle.zk_builtin.specs.Given.{GivesText, longest};
+ghost use Rattle.zk_builtin.specs.Given.{GivesText, IsText, longest};
 
 use crate::fault::{BuiltinFault, STRING_LENGTH_MAX};
 use std::alloc::AllocError;
@@ -45,5 +45,12 @@ pub fn string_of(text: Vec<u8>) -> Result<Value, BuiltinFault>
     if is_too_long(&text) {
         return Err(BuiltinFault::TooLong);
     }
+    as_string(text)
+}
+
+/// The string of a text of any length, none of whose bytes is copied.
+pub fn as_string(text: Vec<u8>) -> Result<Value, BuiltinFault>
+    ensures { IsText result text.items }
+{
     Ok(Value::String(SharedBytes::of(Bytes::from(text))?))
 }

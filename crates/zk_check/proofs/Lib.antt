@@ -1,3 +1,13 @@
 pub mod Views
 pub mod Stated
 mod KindRows
+pub mod RuleLaws
+pub mod StatedLaws
+pub mod EdgeLaws
+pub mod HeightLaws
+pub mod SameLaws
+pub mod NestLaws
+pub mod SoonerLaws
+pub mod AddedLaws
+pub mod ListLaws
+pub mod HeadLaws

@@ -1,2 +1,16 @@
 pub mod Givens
 pub mod Steps
+pub mod Adding
+pub mod Attributing
+pub mod Edges
+pub mod Faults
+pub mod Grounds
+pub mod Grouping
+pub mod Heights
+pub mod Naming
+pub mod Nesting
+pub mod Seeing
+pub mod Signing
+pub mod Sooner
+pub mod Telling
+pub mod Valuing

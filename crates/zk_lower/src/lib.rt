@@ -15,6 +15,7 @@ mod types;
 mod ways;
 
 pub use code::{BodyCode, Code, GlobalCode, HandlerCode};
+pub use copies::{default_copy, literal_value};
 pub use laws::{code_ends, code_means, told_stays};
 pub use op::Op;
 pub use program::lower;

@@ -1,2 +1,14 @@
 pub mod ObjectLemmas
 pub mod LineLemmas
+pub mod Stack
+pub mod Steps
+pub mod ThenLemmas
+pub mod TableLemmas
+pub mod SetLemmas
+pub mod StreamLemmas
+pub mod CopyLemmas
+pub mod VectorLemmas
+pub mod OutLemmas
+pub mod MachineLemmas
+pub mod ListLemmas
+pub mod FilterLemmas

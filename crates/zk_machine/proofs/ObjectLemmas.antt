@@ -11,14 +11,11 @@ use Rattle.zk_tree.specs.Value.{Value}
 use Rattle.zk_typed.specs.declared.ends.FaultKind.TheVariants.{Unset}
 use Rattle.zk_typed.specs.Does.{Gives, and_then, or_fault, set_object}
 use Rattle.zk_typed.specs.Objects.{set_field, with_field, change_table, table_in, set_table}
-use Rattle.zk_typed.specs.State.{State, with_store}
+use Rattle.zk_typed.specs.State.{State}
 use Rattle.zk_value.specs.Objects as kept
 use Rattle.zk_table.specs.Heap.{changed, in_table}
 use Rattle.zk_table.proofs.HeapLemmas.{changed-there}
-
--- the state with these objects
-abbrev pub storing : Store → State → State
-storing store state = record state { world = with_store store state.world }
+use Rattle.zk_machine.specs.State.{storing}
 
 with_field-kept : (number : ℕ) (value : Value) (one : Object) → kept.with_field number (Some value) one ≡ with_field number value one
 with_field-kept number value (object.Record of fields) = refl

@@ -1,3 +1,15 @@
 pub mod Comes
 pub mod Halted
 pub mod State
+pub mod Running
+pub mod Leads
+pub mod Found
+pub mod Flows
+pub mod Finding
+pub mod Copied
+pub mod Rows
+pub mod Onwards
+pub mod Standing
+pub mod Called
+pub mod Reports
+pub mod Expiring

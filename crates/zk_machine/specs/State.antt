@@ -1,8 +1,18 @@
--- The state that scripts run in, as the machine holds it: lines that were given out are no longer there.
-use Rattle.std.specs.Prelude.{[], map}
+-- The state that scripts run in, as the machine holds it: lines and rows that were given out are no longer there.
+use Rattle.std.specs.Prelude.{ℕ, List, map, Option, Some, None}
+use Rattle.std.specs.List.{filter_map}
+use Rattle.zk_tree.specs.Store.{Store}
+use Rattle.zk_typed.specs.Log as log
 use Rattle.zk_typed.specs.State as typed
 use Rattle.zk_typed.specs.World.{Queued, Scheduled}
 use Rattle.zk_value.specs.Plain.{key_of, field_of}
+use Rattle.zk_value.specs.declared.cell.Atom.{Atom}
+use Rattle.zk_value.specs.declared.cell.Atom.TheVariants as atom
+use Rattle.zk_value.specs.declared.cell.Cell.{Cell}
+use Rattle.zk_value.specs.declared.cell.Cell.TheVariants as cell
+use Rattle.zk_value.specs.declared.cell.Column.{Column}
+use Rattle.zk_value.specs.declared.out.Out.{Out}
+use Rattle.zk_value.specs.declared.out.Out.TheVariants as out
 use Rattle.zk_machine.specs.declared.state.State.{State}
 use Rattle.zk_machine.specs.declared.world.Queued as rust_queued
 use Rattle.zk_machine.specs.declared.world.Scheduled as rust_scheduled
@@ -18,6 +28,30 @@ scheduled_of one = record { due = one.due; order = one.order; what = queued_of o
 abbrev pub default_of : rust_default.TableDefault → typed.TableDefault
 default_of one = record { object = one.object.0; default = one.default }
 
+-- Lines and rows ---------------------------------------------------------------------------------------------------
+
+abbrev pub atom_of : Atom → log.Atom
+atom_of (atom.Text bytes) = log.Text bytes
+atom_of (atom.Plain bytes) = log.Plain bytes
+
+abbrev pub cell_of : Cell → log.Cell
+cell_of cell.Unset = log.Unset
+cell_of (cell.One atom) = log.One (atom_of atom)
+cell_of (cell.Many atoms) = log.Many (map atom_of atoms)
+
+abbrev pub column_of : Column → log.Column
+column_of column = record { name = column.name; kind = column.kind; wire = column.wire }
+
+abbrev pub line_in : Out → Option (List ℕ)
+line_in (out.Line line) = Some line
+line_in (out.Row path columns cells at) = None
+
+abbrev pub row_in : Out → Option log.Row
+row_in (out.Line line) = None
+row_in (out.Row path columns cells at) = Some (record { path = path; columns = map column_of columns; cells = map cell_of cells; at = at })
+
+-- The world --------------------------------------------------------------------------------------------------------
+
 abbrev pub world_of : World → typed.World
 world_of world = record {
   time = world.time;
@@ -29,8 +63,8 @@ world_of world = record {
   scheduled = map scheduled_of world.scheduled.items;
   schedulings = world.schedulings;
   streams = world.streams;
-  rows = [];
-  lines = world.lines.items;
+  rows = filter_map row_in world.out.items;
+  lines = filter_map line_in world.out.items;
 }
 
 abbrev pub state_of : State → typed.State
@@ -39,3 +73,7 @@ state_of state = record {
   locals = map field_of state.locals.items;
   units = state.units;
 }
+
+-- the state with these objects
+abbrev pub storing : Store → typed.State → typed.State
+storing store state = record state { world = typed.with_store store state.world }

@@ -19,7 +19,8 @@ use zk_table::Lent;
 use zk_typed::FaultKind;
 use zk_value::{Key, Value};
 
-const UNFIT: Halt = Halt::Fault(FaultKind::Unset);
+/// Values of other types, which no typed program comes to.
+pub const UNFIT: Halt = Halt::Fault(FaultKind::Unset);
 
 /// A field's value, where it has one.
 fn field_value(fields: &[Option<Value>], number: u32) -> Option<&Value>
@@ -211,13 +212,20 @@ impl State {
         ensures { (place : At) → Comes value_of place result (does.new_object (object.Vector (key_of items.now)) (state_of self.old)) (state_of self.new) }
     {
         let items = handles(self.world.alloc, items)?;
+        self.made_vector(items)
+    }
+
+    /// A new vector of these items, of which none is copied.
+    pub fn made_vector(&mut self, items: Vec<Value>) -> Result<Value, Halt>
+        ensures { (place : At) → Comes value_of place result (does.new_object (object.Vector (key_of items.items)) (state_of self.old)) (state_of self.new) }
+    {
         let number = self.world.heap.add_vector(items)?;
         Ok(Value::Object(number))
     }
 }
 
 /// The key of these values.
-fn key_from(alloc: Global, values: &[Value]) -> Result<Key, Mem>
+pub fn key_from(alloc: Global, values: &[Value]) -> Result<Key, Mem>
     ensures { IfOk result (λ key. key ≡ values.now) }
 {
     Key::of(handles(alloc, values)?)

@@ -16,7 +16,7 @@ use std::alloc::{AllocError, Global};
 use zk_base::{Bytes, EventNo, Mem};
 use zk_builtin::push_value;
 use zk_typed::FaultKind;
-use zk_value::Value;
+use zk_value::{Out, Value};
 
 /// What code runs in: the world, the names of the body under way, and the units that are left to it.
 #[derive(Debug, Drop)]
@@ -97,7 +97,7 @@ impl State {
         ensures { (place : At) → Comes (λ _. tt) place result (act place Print (key_of values.now) (state_of self.old)) (state_of self.new) }
     {
         let line = line_of(self.world.alloc, values)?;
-        self.world.lines.push_back(line)?;
+        self.world.out.push_back(Out::Line(line))?;
         Ok(())
     }
 

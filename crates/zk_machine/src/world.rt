@@ -4,11 +4,11 @@ ghost use Rattle.zk_value.specs.Plain.{field_of};
 
 use std::alloc::Global;
 use std::collections::VecDeque;
-use zk_base::{Bytes, EventNo, Moment, ObjectNo};
+use zk_base::{EventNo, Moment, ObjectNo};
 use zk_streams::Streams;
 use zk_table::Heap;
 use zk_typed::script::DefaultValue;
-use zk_value::Value;
+use zk_value::{Out, Value};
 
 /// An event with its arguments.
 #[derive(Debug, Drop)]
@@ -32,7 +32,7 @@ pub struct TableDefault {
     pub default: DefaultValue,
 }
 
-/// The world that scripts run in. Lines are those that were not yet given out.
+/// The world that scripts run in. Lines and rows are those that were not yet given out.
 #[derive(Debug, Drop)]
 pub struct World {
     pub alloc: Global,
@@ -53,8 +53,8 @@ pub struct World {
     pub schedulings: u64,
     /// The log streams with their filters.
     pub streams: Streams,
-    /// The printed lines that were not yet given out, without their ends.
-    pub lines: VecDeque<Bytes>,
+    /// The printed lines and the rows that were not yet given out.
+    pub out: VecDeque<Out>,
 }
 
 impl World {
@@ -75,7 +75,7 @@ impl World {
             scheduled: Vec::new(alloc),
             schedulings: 0,
             streams: Streams::new(alloc),
-            lines: VecDeque::new(alloc),
+            out: VecDeque::new(alloc),
         }
     }
 }

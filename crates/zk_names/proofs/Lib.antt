@@ -13,3 +13,7 @@ pub mod FieldLaws
 pub mod AddLaws
 pub mod BodyLaws
 pub mod ScriptLaws
+pub mod CallLaws
+pub mod StatementCallLaws
+pub mod StreamLaws
+pub mod TypeNameLaws

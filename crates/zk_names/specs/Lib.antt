@@ -9,3 +9,6 @@ pub mod Lent
 pub mod Same
 pub mod Scripted
 pub mod Words
+pub mod Streams
+pub mod Calls
+pub mod Leaves

@@ -243,6 +243,15 @@ impl<'a> Names<'a> {
         record_node(&self.nodes, number)
     }
 
+    /// The fields that stand in a record type's own text.
+    pub fn own_fields(&self, alloc: Global, number: RecordNo) -> Result<Vec<FieldInfo<'a>>, Mem>
+        ensures { IfOk result (λ fields. fields_lent fields.items ≡ spec.own_fields (scripts_in self.now) number.0) }
+    {
+        let mut all = Vec::new(alloc);
+        add_own(alloc, self, number.0, &mut all)?;
+        Ok(all)
+    }
+
     /// The fields of a record type, those of `redef record` last.
     pub fn fields_of(&self, alloc: Global, number: RecordNo) -> Result<Vec<FieldInfo<'a>>, Mem>
         ensures { IfOk result (λ fields. fields_lent fields.items ≡ spec.fields_of (scripts_in self.now) number.0) }

@@ -1,9 +1,12 @@
 //! The names that scripts declare, found by module.
 #![tactic(auto)]
 
+mod arguing;
 mod bodies;
+mod calls;
 mod copying;
 mod counting;
+mod created;
 mod declared;
 mod field;
 mod fielding;
@@ -15,6 +18,7 @@ mod inner;
 mod kind;
 mod known;
 mod leading;
+mod leaves;
 mod making;
 mod name;
 mod node;
@@ -23,22 +27,34 @@ mod order;
 mod outright;
 mod predefined;
 mod resolve;
+mod scripts;
 mod signing;
+mod statement_calls;
 mod table;
-#[cfg(test)]
-mod tests;
+mod type_names;
 mod types;
 mod typing;
 mod whole;
 mod words;
 
+pub use arguing::{columns_type, setting, settings};
+pub use calls::{Call, item_expr};
+pub use created::Created;
 pub use declared::{Declared, LogFunction, Meant, Signature};
 pub use field::FieldInfo;
 pub use fielding::{attr_value, has_attr};
 pub use home::{Home, Stated};
+pub use inner::within;
 pub use kind::Kind;
 pub use known::Names;
+pub use leaves::Leaf;
 pub use making::names;
-pub use node::Node;
-pub use outright::outright_name;
+pub use name::whole_name;
+pub use node::{Node, add_decl_nodes};
+pub use outright::{outright_name, written};
+pub use scripts::Scripts;
+pub use statement_calls::decl_calls;
 pub use table::Table;
+pub use types::add_local_types;
+pub use typing::place_in;
+pub use whole::Whole;

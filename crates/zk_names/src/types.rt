@@ -120,7 +120,7 @@ fn add_param_types<'a>(params: &'a [Param], types: &mut Vec<&'a Type>) -> Result
 }
 
 /// Adds the types of the locals of a body.
-fn add_local_types<'a>(body: &'a Block, types: &mut Vec<&'a Type>) -> Result<(), Mem>
+pub fn add_local_types<'a>(body: &'a Block, types: &mut Vec<&'a Type>) -> Result<(), Mem>
     ensures { OnOk result (types_lent types.new.items ≡ types_lent types.old.items ++ local_types body.now) }
 {
     stmts_locals(body.stmts.as_slice(), types)?;

@@ -2,4 +2,5 @@ pub mod Heap
 pub mod Index
 pub mod Kept
 pub mod Lent
+pub mod Pairs
 pub mod Slots

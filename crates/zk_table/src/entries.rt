@@ -8,9 +8,10 @@ ghost use Rattle.zk_table.specs.declared.slot.Slot.{Slot};
 ghost use Rattle.zk_table.specs.declared.slot.Stored.{Stored};
 ghost use Rattle.zk_table.specs.Slots.{Ascends, stored_numbered, occupied, with_value, with_moment, later_due};
 ghost use Rattle.zk_table.specs.Index.{IsTree};
+ghost use Rattle.zk_table.specs.Pairs.{pair_of, pair_in};
 
 use crate::index::{Turn, below, rebuild, reorder};
-use crate::slot::{Slot, Stored, moment_after};
+use crate::slot::{Pair, Slot, Stored, moment_after};
 use indexmap::IndexMap;
 use std::alloc::Global;
 use zk_base::{Mem, Moment, Span};
@@ -81,6 +82,13 @@ impl Entries {
         }
     }
 
+    /// When the entries expire, where they do.
+    pub fn expiry(&self) -> Option<Expiry>
+        ensures { result ≡ (table_in self.now).expiry }
+    {
+        self.expiry
+    }
+
     /// How many entries there are.
     pub fn len(&self) -> usize
         ensures { result ≡ self.now.live }
@@ -139,6 +147,20 @@ impl Entries {
             }
         }
         Ok(keys)
+    }
+
+    /// The keys with their values, in the order of insertion.
+    pub fn pairs(&self) -> Result<Vec<Pair>, Mem>
+        ensures { IfOk result (λ pairs. map pair_of pairs.items ≡ map pair_in (table_in self.now).entries) }
+    {
+        let mut pairs = Vec::new(self.alloc);
+        pairs.reserve(self.live)?;
+        for slot in &self.slots {
+            if let Some(stored) = &slot.entry {
+                pairs.push(stored.pair()?)?;
+            }
+        }
+        Ok(pairs)
     }
 
     /// Makes the entry in a place one of this moment.

@@ -9,6 +9,7 @@ mod slot;
 mod table;
 
 pub use heap::{Heap, Lent};
+pub use slot::{Pair, moment_after};
 pub use table::Table;
 pub use zk_tree::Expiry;
 

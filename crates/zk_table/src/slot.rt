@@ -1,9 +1,9 @@
-ghost use Rattle.std.specs.Prelude.{◌≡◌, None, pos, ◌+ℤ◌};
+ghost use Rattle.std.specs.Prelude.{◌≡◌, None, pos, ◌+ℤ◌, IfOk};
 ghost use Rattle.std.specs.Int.{int_min, int_max};
 ghost use Rattle.std.specs.Option.{option_map};
 ghost use Rattle.zk_tree.specs.Table.{last_moment, moment_after};
 
-use zk_base::{Moment, Span};
+use zk_base::{Mem, Moment, Span};
 use zk_value::{Key, Value};
 
 /// So many microseconds after a moment, or the last moment that there is; a number below 0 counts as 0.
@@ -31,6 +31,13 @@ fn put_off(due: Option<Moment>, since: Moment, wait: Span) -> Option<Moment>
     }
 }
 
+/// A key with its value, as handles to them.
+#[derive(Debug, Drop)]
+pub struct Pair {
+    pub key: Key,
+    pub value: Value,
+}
+
 /// What a table keeps of an entry.
 #[derive(Debug, Drop)]
 pub struct Stored {
@@ -48,6 +55,16 @@ impl Stored {
         ensures { result.now ≡ self.now.key }
     {
         &self.key
+    }
+
+    /// Its key and its value.
+    pub fn pair(&self) -> Result<Pair, Mem>
+        ensures { IfOk result (λ pair. pair ≡ record { key = self.now.key; value = self.now.value }) }
+    {
+        Ok(Pair {
+            key: self.key.clone()?,
+            value: self.value.clone()?,
+        })
     }
 
     /// The value, lent.

@@ -3,8 +3,10 @@ ghost use Rattle.std.specs.Option.{option_map};
 ghost use Rattle.zk_tree.specs.Table as plain;
 ghost use Rattle.zk_tree.specs.Table.{entry_at, entry_numbered, first_due};
 ghost use Rattle.zk_value.specs.Plain.{value_of, key_of};
+ghost use Rattle.zk_table.specs.Pairs.{pair_of, pair_in};
 
 use crate::entries::Entries;
+use crate::slot::Pair;
 use std::alloc::Global;
 use std::marker::Model;
 use zk_base::{Mem, Moment, Span};
@@ -15,7 +17,7 @@ use zk_value::{Key, Value};
 /// there were, and the list of its entries in the order of insertion, each with its order number, its
 /// key and value, the moment of its insertion or last renewal, and its due.
 ///
-/// Only `insert` of a key that is not there and `keys` take memory.
+/// Only `insert` of a key that is not there, `keys` and `pairs` take memory.
 #[derive(Debug, Drop)]
 pub struct Table {
     entries: Entries,
@@ -40,6 +42,13 @@ impl Table {
         Table {
             entries: Entries::new(alloc, expiry),
         }
+    }
+
+    /// When the entries expire, where they do.
+    pub fn expiry(&self) -> Option<Expiry>
+        ensures { result ≡ self.now.expiry }
+    {
+        self.entries.expiry()
     }
 
     /// How many entries there are.
@@ -108,6 +117,13 @@ impl Table {
         ensures { IfOk result (λ keys. map key_of keys.items ≡ map (λ entry. entry.key) self.now.entries) }
     {
         self.entries.keys()
+    }
+
+    /// The keys with their values, in the order of insertion.
+    pub fn pairs(&self) -> Result<Vec<Pair>, Mem>
+        ensures { IfOk result (λ pairs. map pair_of pairs.items ≡ map pair_in self.now.entries) }
+    {
+        self.entries.pairs()
     }
 
     /// Makes a key's entry one of this moment, with a due to match. Nothing is changed where the key

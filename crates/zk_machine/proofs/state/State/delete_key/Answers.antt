@@ -7,7 +7,8 @@ use Rattle.zk_value.specs.Plain.{value_of, key_of}
 use Rattle.zk_value.specs.declared.value.Value.{Value}
 use Rattle.zk_table.specs.Heap.{changed, in_table}
 use Rattle.zk_machine.specs.State.{state_of}
-use Rattle.zk_machine.proofs.ObjectLemmas.{storing, change_table-there}
+use Rattle.zk_machine.specs.State.{storing}
+use Rattle.zk_machine.proofs.ObjectLemmas.{change_table-there}
 use Rattle.zk_machine.proofs.state.State.delete_key.Goals as goal
 
 pub returns-in_ok-key-in-Table : goal.returns-in_ok-key-in-Table

@@ -5,7 +5,8 @@ use Rattle.zk_typed.specs.Objects as meant
 use Rattle.zk_value.specs.Plain.{value_of}
 use Rattle.zk_value.specs.declared.value.Value.{Value}
 use Rattle.zk_machine.specs.State.{state_of}
-use Rattle.zk_machine.proofs.ObjectLemmas.{storing, set_field-there}
+use Rattle.zk_machine.specs.State.{storing}
+use Rattle.zk_machine.proofs.ObjectLemmas.{set_field-there}
 use Rattle.zk_machine.proofs.state.State.set_field.Goals as goal
 
 pub returns-in-Some : goal.returns-in-Some

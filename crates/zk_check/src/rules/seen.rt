@@ -1,0 +1,44 @@
+ghost use Rattle.std.specs.Prelude.{◌≡◌, List, ℕ, [], ◌∷◌, IfOk};
+ghost use Rattle.zk_typed.specs.Declarations.{is_one_of};
+
+use indexmap::IndexSet;
+use std::alloc::Global;
+use zk_base::Mem;
+use zk_names::Whole;
+
+/// Names that were met.
+#[derive(Drop)]
+pub struct Seen {
+    names: IndexSet<Whole>,
+}
+
+impl Seen {
+    ghost use Rattle.zk_check.specs.Seeing.{Sees};
+
+    /// No names.
+    pub fn new(alloc: Global) -> Seen
+        ensures { Sees result [] }
+    {
+        Seen {
+            names: IndexSet::new(alloc),
+        }
+    }
+
+    /// Whether a name was met.
+    pub fn has(&self, alloc: Global, name: &[u8]) -> Result<bool, Mem>
+        ensures { IfOk result (λ was. (before : List (List ℕ)) → Sees self.now before → was ≡ is_one_of before name.now) }
+    {
+        let name = Whole::copy_of(alloc, name)?;
+        Ok(self.names.contains(&name))
+    }
+
+    /// Meets a name, and says whether it was met before.
+    pub fn add(&mut self, alloc: Global, name: &[u8]) -> Result<bool, Mem>
+        ensures was { IfOk result (λ was. (before : List (List ℕ)) → Sees self.old before → was ≡ is_one_of before name.now) }
+        ensures met { IfOk result (λ was. (before : List (List ℕ)) → Sees self.old before → Sees self.new (name.now ∷ before)) }
+    {
+        let name = Whole::copy_of(alloc, name)?;
+        let added = self.names.insert(name)?;
+        Ok(!added)
+    }
+}

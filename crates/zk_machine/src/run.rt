@@ -1,0 +1,108 @@
+ghost use Rattle.std.specs.Prelude.{◌≡◌, IfOk};
+ghost use Rattle.zk_lower.specs.Run as run;
+ghost use Rattle.zk_lower.specs.Steps as steps;
+ghost use Rattle.zk_lower.specs.View.{code_of, op_of};
+ghost use Rattle.zk_machine.specs.Leads.{Leads, ran_of};
+ghost use Rattle.zk_machine.specs.Running.{held_of, machine_of};
+ghost use Rattle.zk_machine.specs.State.{state_of};
+
+use crate::ends::{Ending, Next, placed};
+use crate::frames::{Awaits, Flow};
+use crate::running::Running;
+use zk_base::Mem;
+use zk_lower::{Code, Op, code_ends};
+
+impl Running {
+    /// What an operation does.
+    fn operate(&mut self, code: &Code, op: &Op) -> Result<Next, Mem>
+        ensures { Leads result (steps.operate (code_of code.now) (op_of op.now) self.old.at (held_of self.old) (state_of self.old.state)) (machine_of self.new) }
+    {
+        match op {
+            Op::Push(value) => {
+                let value = value.clone()?;
+                self.push(value)?;
+                Ok(Next::Goes)
+            }
+            Op::Local { place, number } => placed(*place, self.local(*number)),
+            Op::Global { place, number } => placed(*place, self.global(*number)),
+            Op::Apply {
+                place,
+                primitive,
+                count,
+            } => placed(*place, self.apply(primitive, *count)),
+            Op::New {
+                place,
+                record,
+                fields,
+            } => placed(*place, self.make(code, *record, fields.as_slice())),
+            Op::Sum { place } => placed(*place, self.add()),
+            Op::Do {
+                place,
+                action,
+                count,
+            } => placed(*place, self.act(action, *count)),
+            Op::Drop => {
+                self.drop_value()?;
+                Ok(Next::Goes)
+            }
+            Op::Tick { place } => placed(*place, self.tick()),
+            Op::Jump { over } => {
+                self.jump(*over)?;
+                Ok(Next::Goes)
+            }
+            Op::Unless { place, over } => placed(*place, self.unless(*over)),
+            Op::Turn { place, back } => placed(*place, self.turn(*back)),
+            Op::BeginKeys { place } => placed(*place, self.begin_keys()),
+            Op::NextKey { place, names, back } => placed(*place, self.next_key(names, *back)),
+            Op::BeginIndexes { place } => placed(*place, self.begin_indexes()),
+            Op::NextIndex { place, names, back } => placed(*place, self.next_index(names, *back)),
+            Op::EndLoop => {
+                self.end_loop()?;
+                Ok(Next::Goes)
+            }
+            Op::Call {
+                place,
+                function,
+                count,
+            } => {
+                let awaits = Awaits::Result { place: *place };
+                placed(*place, self.call(code, *function, *count, awaits))
+            }
+            Op::Perform {
+                place,
+                function,
+                count,
+            } => placed(*place, self.call(code, *function, *count, Awaits::Return)),
+            Op::End => self.come_out(code, Flow::Normal),
+            Op::Give => self.give(code),
+            Op::Break => self.come_out(code, Flow::Broke),
+            Op::Hook { place, hook, count } => {
+                placed(*place, self.hook(code, *place, *hook, *count))
+            }
+            Op::Write { place, log } => placed(*place, self.write(code, *place, *log)),
+        }
+    }
+
+    /// Does the operation that is next. Past its end the code is done.
+    fn step(&mut self, code: &Code) -> Result<Next, Mem>
+        ensures { Leads result (steps.step (code_of code.now) (machine_of self.old)) (machine_of self.new) }
+    {
+        match code.ops.as_slice().get(self.at) {
+            Some(op) => self.operate(code, op),
+            None => Ok(Next::Ends(Ending::Done(None))),
+        }
+    }
+
+    /// Runs code to its end.
+    pub fn run(&mut self, code: &Code) -> Result<Ending, Mem>
+        ensures { IfOk result (λ ending. run.run (code_of code.now) (machine_of self.old) ≡ ran_of ending (state_of self.new.state)) }
+    {
+        'steps: loop {
+            code_ends();
+            match self.step(code)? {
+                Next::Goes => {}
+                Next::Ends(ending) => return Ok(ending),
+            }
+        }
+    }
+}

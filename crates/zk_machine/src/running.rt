@@ -1,0 +1,217 @@
+ghost use Rattle.std.specs.Prelude.{◌≡◌, ◌+◌, map, reverse, take, drop, IfSome, OnOk};
+ghost use Rattle.zk_lower.specs.Frames.{with_loops};
+ghost use Rattle.zk_lower.specs.Steps as steps;
+ghost use Rattle.zk_tree.specs.declared.place.Place.{Place as At};
+ghost use Rattle.zk_typed.specs.Does as does;
+ghost use Rattle.zk_typed.specs.Primitives.{perform, act};
+ghost use Rattle.zk_value.specs.Plain.{value_of};
+ghost use Rattle.zk_machine.specs.Comes.{Comes};
+ghost use Rattle.zk_machine.specs.Running.{held_of, machine_of, Moves};
+ghost use Rattle.zk_machine.specs.State.{state_of};
+
+use crate::frames::{Frame, Loop};
+use crate::halt::Halt;
+use crate::objects::UNFIT;
+use crate::state::State;
+use zk_base::Mem;
+use zk_typed::script::{Action, Primitive};
+use zk_value::Value;
+
+/// What code runs with: where it is, the operands, loops and waiting bodies, the innermost one last, and the
+/// state.
+#[derive(Debug, Drop)]
+pub struct Running {
+    pub at: usize,
+    pub stack: Vec<Value>,
+    pub loops: Vec<Loop>,
+    pub frames: Vec<Frame>,
+    pub state: State,
+}
+
+impl Running {
+    /// Goes on behind the next operation. No memory holds code in which that place has no number.
+    pub fn advance(&mut self) -> Result<(), Mem>
+        ensures { OnOk result (steps.goes (self.old.at + 1) (held_of self.old) (state_of self.old.state) ≡ steps.Goes (machine_of self.new)) }
+    {
+        match self.at.checked_add(1) {
+            Some(at) => {
+                self.at = at;
+                Ok(())
+            }
+            None => Err(Mem),
+        }
+    }
+
+    /// Pushes a value, and goes on.
+    pub fn push(&mut self, value: Value) -> Result<(), Mem>
+        ensures { OnOk result (steps.push self.old.at (held_of self.old) (value_of value) (state_of self.old.state) ≡ steps.Goes (machine_of self.new)) }
+    {
+        self.stack.push(value)?;
+        self.advance()
+    }
+
+    /// Pushes the value of a local.
+    pub fn local(&mut self, number: u32) -> Result<(), Halt>
+        ensures { (place : At) → Moves place result (steps.by (does.local place number (state_of self.old.state)) (steps.push self.old.at (held_of self.old))) (machine_of self.new) }
+    {
+        let value = self.state.local(number)?;
+        self.push(value)?;
+        Ok(())
+    }
+
+    /// Pushes the value of a global.
+    pub fn global(&mut self, number: u32) -> Result<(), Halt>
+        ensures { (place : At) → Moves place result (steps.by (does.global place number (state_of self.old.state)) (steps.push self.old.at (held_of self.old))) (machine_of self.new) }
+    {
+        let value = self.state.global(number)?;
+        self.push(value)?;
+        Ok(())
+    }
+
+    /// Takes a unit.
+    pub fn tick(&mut self) -> Result<(), Halt>
+        ensures { (place : At) → Moves place result (steps.by (does.tick place (state_of self.old.state)) (λ _. steps.goes (self.old.at + 1) (held_of self.old))) (machine_of self.new) }
+    {
+        self.state.tick()?;
+        self.advance()?;
+        Ok(())
+    }
+
+    /// Takes an operand, of which nothing is made.
+    pub fn drop_value(&mut self) -> Result<(), Mem>
+        ensures { OnOk result (steps.goes (self.old.at + 1) (steps.without 1 (held_of self.old)) (state_of self.old.state) ≡ steps.Goes (machine_of self.new)) }
+    {
+        self.stack.pop();
+        self.advance()
+    }
+
+    /// Ends the innermost loop.
+    pub fn end_loop(&mut self) -> Result<(), Mem>
+        ensures { OnOk result (steps.goes (self.old.at + 1) (with_loops (drop 1 (held_of self.old).loops) (held_of self.old)) (state_of self.old.state) ≡ steps.Goes (machine_of self.new)) }
+    {
+        self.loops.pop();
+        self.advance()
+    }
+
+    /// Pushes what a primitive gives for so many operands.
+    pub fn apply(&mut self, primitive: &Primitive, count: usize) -> Result<(), Halt>
+        ensures { (place : At) → Moves place result (steps.by (perform place primitive.now (steps.operands count (held_of self.old)) (state_of self.old.state)) (steps.push self.old.at (steps.without count (held_of self.old)))) (machine_of self.new) }
+    {
+        let value = perform_last(&mut self.state, &self.stack, primitive, count)?;
+        cut(&mut self.stack, count);
+        self.push(value)?;
+        Ok(())
+    }
+
+    /// Adds the last operand to the one before it.
+    pub fn add(&mut self) -> Result<(), Halt>
+        ensures { (place : At) → Moves place result (steps.add place self.old.at (held_of self.old) (state_of self.old.state)) (machine_of self.new) }
+    {
+        let Some(more) = self.stack.pop() else {
+            return Err(UNFIT);
+        };
+        let Some(before) = self.stack.pop() else {
+            return Err(UNFIT);
+        };
+        let value = self.state.add(&before, &more)?;
+        self.push(value)?;
+        Ok(())
+    }
+
+    /// Does what an action says with so many operands.
+    pub fn act(&mut self, action: &Action, count: usize) -> Result<(), Halt>
+        ensures { (place : At) → Moves place result (steps.by (act place action.now (steps.operands count (held_of self.old)) (state_of self.old.state)) (λ _. steps.goes (self.old.at + 1) (steps.without count (held_of self.old)))) (machine_of self.new) }
+    {
+        act_last(&mut self.state, &self.stack, action, count)?;
+        cut(&mut self.stack, count);
+        self.advance()?;
+        Ok(())
+    }
+
+    /// Goes on behind the next operations, so many of them.
+    pub fn jump(&mut self, over: usize) -> Result<(), Mem>
+        ensures { OnOk result (steps.goes (self.old.at + 1 + over) (held_of self.old) (state_of self.old.state) ≡ steps.Goes (machine_of self.new)) }
+    {
+        match behind(self.at, over) {
+            Some(at) => {
+                self.at = at;
+                Ok(())
+            }
+            None => Err(Mem),
+        }
+    }
+
+    /// Goes on behind so many operations where the value that it takes is `F`.
+    pub fn unless(&mut self, over: usize) -> Result<(), Halt>
+        ensures { (place : At) → Moves place result (steps.with_top place (held_of self.old) (state_of self.old.state) (steps.unless place over self.old.at (state_of self.old.state))) (machine_of self.new) }
+    {
+        match self.stack.pop() {
+            Some(Value::Bool(true)) => {
+                self.advance()?;
+                Ok(())
+            }
+            Some(Value::Bool(false)) => {
+                self.jump(over)?;
+                Ok(())
+            }
+            _ => Err(UNFIT),
+        }
+    }
+
+    /// Begins another turn so many operations before where the value that it takes is `T`.
+    pub fn turn(&mut self, back: usize) -> Result<(), Halt>
+        ensures { (place : At) → Moves place result (steps.with_top place (held_of self.old) (state_of self.old.state) (steps.turn place back self.old.at (state_of self.old.state))) (machine_of self.new) }
+    {
+        match self.stack.pop() {
+            Some(Value::Bool(true)) => {
+                self.state.tick()?;
+                self.at = self.at.saturating_sub(back);
+                Ok(())
+            }
+            Some(Value::Bool(false)) => {
+                self.advance()?;
+                Ok(())
+            }
+            _ => Err(UNFIT),
+        }
+    }
+}
+
+/// The place behind the next operations, so many of them, where it has a number.
+pub fn behind(at: usize, over: usize) -> Option<usize>
+    ensures { IfSome result (λ to. to ≡ at + 1 + over) }
+{
+    match at.checked_add(1) {
+        Some(next) => next.checked_add(over),
+        None => None,
+    }
+}
+
+/// What a primitive gives for the last operands, so many of them.
+fn perform_last(
+    state: &mut State,
+    stack: &[Value],
+    primitive: &Primitive,
+    count: usize,
+) -> Result<Value, Halt>
+    ensures { (place : At) → Comes value_of place result (perform place primitive.now (reverse (take count (map value_of (reverse stack.now)))) (state_of state.old)) (state_of state.new) }
+{
+    let from = stack.len().saturating_sub(count);
+    state.perform(primitive, &stack[from..])
+}
+
+/// What an action does with the last operands, so many of them.
+fn act_last(state: &mut State, stack: &[Value], action: &Action, count: usize) -> Result<(), Halt>
+    ensures { (place : At) → Comes (λ _. tt) place result (act place action.now (reverse (take count (map value_of (reverse stack.now)))) (state_of state.old)) (state_of state.new) }
+{
+    let from = stack.len().saturating_sub(count);
+    state.act(action, &stack[from..])
+}
+
+/// Takes the last operands away, so many of them.
+pub fn cut(stack: &mut Vec<Value>, count: usize)
+    ensures { map value_of (reverse stack.new.items) ≡ drop count (map value_of (reverse stack.old.items)) }
+{
+    let from = stack.len().saturating_sub(count);
+    stack.truncate(from);
+}

@@ -1,0 +1,98 @@
+-- What the calls of `create_stream` say of one log.
+use Rattle.std.proofs.Common.{◌≡◌, ℕ, Bool, true, false, List, [], ◌∷◌, ◌++◌, map, filter, flat_map, Option, Some, None, refl, ap, sym, ◌∙◌, if◌then◌else◌}
+use Rattle.std.specs.Prelude.{bytes_eq}
+use Rattle.std.proofs.lemmas.Grind.{flat_map-append}
+use Rattle.std.proofs.lemmas.List.Elements.{filter-append}
+use Rattle.std.proofs.lemmas.List.{map-append}
+use Rattle.zk_base.specs.declared.numbers.RecordNo.{RecordNo}
+use Rattle.zk_tree.specs.declared.decl.Decl.{out-Decl}
+use Rattle.zk_tree.specs.declared.expr.Expr.{Expr}
+use Rattle.zk_tree.specs.declared.expr.Item.{Item}
+use Rattle.zk_tree.specs.declared.name.Name.{Name}
+use Rattle.zk_typed.specs.LoadOrder.{Home, Stated}
+use Rattle.zk_typed.specs.LogCalls.{Call, item_expr, settings, creates, created_in, decl_calls, all_calls, log_type, one_type}
+use Rattle.zk_typed.specs.Names.{Declared}
+use Rattle.zk_typed.specs.Resolving.{Scripts}
+use Rattle.zk_names.specs.Streams.{word_in, others_type, items_created, call_created, created_by, stated_created, of_log, joined, so_far, with_stream}
+
+abbrev call_with : Home → Expr → Name → List Item → Call
+call_with home whole name items = record { home = home; whole = whole; name = name; items = items }
+
+-- One call ---------------------------------------------------------------------------------------------------------
+
+one_other : (scripts : Scripts) (word : List ℕ) (home : Home) (whole : Expr) (name : Name) (first one : Item) (declared : Declared) (found : Option (List Item)) →
+    settings (item_expr one) ≡ found → word_in scripts home (item_expr first) ≡ Some declared → bytes_eq declared.name word ≡ true →
+    created_in scripts word (call_with home whole name (first ∷ one ∷ [])) ≡ others_type scripts home (one ∷ []) ∷ []
+one_other scripts word home whole name first one declared None g h e = rw (h, e, g) refl
+one_other scripts word home whole name first one declared (Some items) g h e = rw (h, e, g) refl
+
+same_name : (scripts : Scripts) (word : List ℕ) (home : Home) (whole : Expr) (name : Name) (first : Item) (others : List Item) (declared : Declared) →
+    word_in scripts home (item_expr first) ≡ Some declared → bytes_eq declared.name word ≡ true →
+    created_in scripts word (call_with home whole name (first ∷ others)) ≡ others_type scripts home others ∷ []
+same_name scripts word home whole name first [] declared h e = rw (h, e) refl
+same_name scripts word home whole name first (one ∷ []) declared h e = one_other scripts word home whole name first one declared (settings (item_expr one)) refl h e
+same_name scripts word home whole name first (one ∷ two ∷ more) declared h e = rw (h, e) refl
+
+by_name : (scripts : Scripts) (word : List ℕ) (home : Home) (whole : Expr) (name : Name) (first : Item) (others : List Item) (declared : Declared) (same : Bool) →
+    word_in scripts home (item_expr first) ≡ Some declared → bytes_eq declared.name word ≡ same →
+    created_in scripts word (call_with home whole name (first ∷ others)) ≡ of_log word (items_created scripts home (first ∷ others))
+by_name scripts word home whole name first others declared true h e = same_name scripts word home whole name first others declared h e ∙ sym (rw (h, e) refl)
+by_name scripts word home whole name first others declared false h e = rw (h, e) refl
+
+by_word : (scripts : Scripts) (word : List ℕ) (home : Home) (whole : Expr) (name : Name) (first : Item) (others : List Item) (found : Option Declared) →
+    word_in scripts home (item_expr first) ≡ found →
+    created_in scripts word (call_with home whole name (first ∷ others)) ≡ of_log word (items_created scripts home (first ∷ others))
+by_word scripts word home whole name first others None h = rw h refl
+by_word scripts word home whole name first others (Some declared) h = by_name scripts word home whole name first others declared (bytes_eq declared.name word) h refl
+
+by_items : (scripts : Scripts) (word : List ℕ) (home : Home) (whole : Expr) (name : Name) (items : List Item) →
+    created_in scripts word (call_with home whole name items) ≡ of_log word (items_created scripts home items)
+by_items scripts word home whole name [] = refl
+by_items scripts word home whole name (first ∷ others) = by_word scripts word home whole name first others (word_in scripts home (item_expr first)) refl
+
+-- All calls --------------------------------------------------------------------------------------------------------
+
+log_append : (word : List ℕ) (xs ys : List (List ℕ × Option RecordNo)) → of_log word (xs ++ ys) ≡ of_log word xs ++ of_log word ys
+log_append word xs ys =
+    ap (map (λ (one : List ℕ × Option RecordNo). one.1)) (filter-append (λ (one : List ℕ × Option RecordNo). bytes_eq one.0 word) xs ys) ∙
+    map-append (λ (one : List ℕ × Option RecordNo). one.1) (filter (λ one. bytes_eq one.0 word) xs) (filter (λ one. bytes_eq one.0 word) ys)
+
+in_calls : (scripts : Scripts) (word : List ℕ) (calls : List Call) → flat_map (created_in scripts word) calls ≡ of_log word (flat_map (created_by scripts) calls)
+in_calls scripts word [] = refl
+in_calls scripts word (call ∷ calls) =
+    ap (λ x. x ++ flat_map (created_in scripts word) calls) (by_items scripts word call.home call.whole call.name call.items) ∙
+    ap (λ x. of_log word (created_by scripts call) ++ x) (in_calls scripts word calls) ∙
+    sym (log_append word (created_by scripts call) (flat_map (created_by scripts) calls))
+
+flat_flat : {A B C : Type 0} (g : B → List C) (f : A → List B) (xs : List A) → flat_map g (flat_map f xs) ≡ flat_map (λ x. flat_map g (f x)) xs
+flat_flat g f [] = refl
+flat_flat g f (x ∷ xs) = flat_map-append g (f x) (flat_map f xs) ∙ ap (λ y. flat_map g (f x) ++ y) (flat_flat g f xs)
+
+one_flat : {A B : Type 0} (p : A → Bool) (g : A → List B) (x : A) (xs : List A) (b : Bool) → p x ≡ b →
+    flat_map g (filter p xs) ≡ flat_map (λ x. if p x then g x else []) xs →
+    flat_map g (filter p (x ∷ xs)) ≡ flat_map (λ x. if p x then g x else []) (x ∷ xs)
+one_flat p g x xs true e others = rw e (ap (λ y. g x ++ y) others)
+one_flat p g x xs false e others = rw e others
+
+flat_filter : {A B : Type 0} (p : A → Bool) (g : A → List B) (xs : List A) → flat_map g (filter p xs) ≡ flat_map (λ x. if p x then g x else []) xs
+flat_filter p g [] = refl
+flat_filter p g (x ∷ xs) = one_flat p g x xs (p x) refl (flat_filter p g xs)
+
+-- a log has the type that what was said of it gives
+pub told_of_log : (scripts : Scripts) (word : List ℕ) → one_type (of_log word (flat_map (stated_created scripts) scripts.stated)) ≡ log_type scripts word
+told_of_log scripts word =
+    let calls : Stated → List Call = λ one. decl_calls one.home (out-Decl one.decl) in
+    sym (ap one_type (in_calls scripts word (filter (creates scripts) (all_calls scripts)) ∙
+    ap (of_log word) (flat_filter (creates scripts) (created_by scripts) (all_calls scripts) ∙
+    flat_flat (call_created scripts) calls scripts.stated)))
+
+-- One log ----------------------------------------------------------------------------------------------------------
+
+above : (first second : Option RecordNo) (more : List (Option RecordNo)) (told : Option (Option RecordNo)) → one_type (second ∷ more) ≡ told →
+    one_type (first ∷ second ∷ more) ≡ joined first told
+above first second more None h = rw h refl
+above first second more (Some other) h = rw h refl
+
+pub one_more : (first : Option RecordNo) (more : List (Option RecordNo)) → so_far (first ∷ more) ≡ Some (with_stream first (so_far more))
+one_more first [] = refl
+one_more first (second ∷ more) = ap Some (above first second more (one_type (second ∷ more)) refl)

@@ -1,5 +1,5 @@
 -- The parts of a list that are checked one after another.
-use Rattle.std.proofs.Common.{◌≡◌, ℕ, ◌+◌, ◌<◌, Result, Ok, Err, List, [], ◌∷◌, ◌++◌, length, take, get_or, refl, ap, sym, ◌∙◌, append_assoc, append-nil}
+use Rattle.std.proofs.Common.{◌≡◌, ℕ, ◌+◌, ◌<◌, Result, Ok, Err, List, [], ◌∷◌, ◌++◌, length, map, take, get_or, refl, ap, sym, ◌∙◌, append_assoc, append-nil}
 use Rattle.std.proofs.lemmas.List.{take_more}
 use Rattle.std.specs.declared.alloc.Global.{Global}
 use Rattle.std.specs.declared.vec.Vec.{Vec}
@@ -10,11 +10,13 @@ use Rattle.zk_typed.specs.Tells.{Tells}
 use Rattle.zk_operator.specs.declared.operands.Typed.{Typed as RustTyped}
 use Rattle.zk_operator.specs.Gathering.{IsNext}
 use Rattle.zk_operator.specs.Views.{typed_of, typed_all, all_typed}
+use Rattle.zk_typed.specs.declared.script.types.SimpleType.{SimpleType}
+use Rattle.zk_typed.specs.Making.{GivenField}
 use Rattle.zk_typed.specs.Typing.{Typed}
-
--- parts, and one more behind them
-abbrev pub with_last : {B : Type 0} → Checked (List B) → Checked B → Checked (List B)
-with_last all part = both all part >>= (λ parts. Ok (parts.0 ++ parts.1 ∷ []))
+use Rattle.zk_expression.specs.declared.records.GivenField.{GivenField as RustGiven}
+use Rattle.zk_expression.specs.Members.{all_members}
+use Rattle.zk_expression.specs.Parts.{with_last}
+use Rattle.zk_expression.specs.Records.{given_of, all_given_of}
 
 abbrev pub with_first : {B : Type 0} → Checked B → Checked (List B) → Checked (List B)
 with_first part all = both part all >>= (λ parts. Ok (parts.0 ∷ parts.1))
@@ -37,36 +39,72 @@ pub each_last : {A B : Type 0} (f : A → Checked B) (before : List A) (one : A)
 each_last f [] one = of_one (f one)
 each_last f (first ∷ before) one = ap (with_first (f first)) (each_last f before one) ∙ first_and_last (f first) (each f before) (f one)
 
-typed_last : (all : List RustTyped) (one : RustTyped) → typed_all (all ++ one ∷ []) ≡ typed_all all ++ typed_of one ∷ []
+-- what takes the items of a list to what they stand for, one by one
+abbrev pub OneByOne : {A B : Type 0} → (A → B) → (List A → List B) → Type 0
+OneByOne {A} view views = (before : List A) (one : A) → views (before ++ one ∷ []) ≡ views before ++ view one ∷ []
+
+pub typed_last : OneByOne typed_of typed_all
 typed_last [] one = refl
 typed_last (first ∷ all) one = ap (λ more. typed_of first ∷ more) (typed_last all one)
 
+pub map_last : {A B : Type 0} (view : A → B) → OneByOne view (map view)
+map_last view [] one = refl
+map_last view (first ∷ all) one = ap (λ more. view first ∷ more) (map_last view all one)
+
 -- what is made of parts and one more
+pub next_is : {A B : Type 0} (view : A → B) (views : List A → List B) → OneByOne view views →
+    (all : Result (Vec A Global) Refusal) (part : Result A Refusal) (next : Result (Vec A Global) Refusal) (wa : Checked (List B)) (wb : Checked B) →
+    Tells (λ (made : Vec A Global). views made.items) all wa → Tells view part wb → IsNext all part next → Tells (λ (made : Vec A Global). views made.items) next (with_last wa wb)
+next_is view views last (Ok v) (Ok one) (Ok n) wa wb h k e = let items : v.items ++ one ∷ [] ≡ n.items = cc in rw (h, k) (ap Ok (sym (last v.items one) ∙ ap views items))
+next_is view views last (Ok v) (Ok one) (Err (Broken rules)) wa wb h k e = absurd (cc)
+next_is view views last (Ok v) (Err (Broken more)) (Ok n) wa wb h k e = absurd (cc)
+next_is view views last (Ok v) (Err (Broken more)) (Err (Broken rules)) wa wb h k e = let same : more ≡ rules = cc in rw (h, k) (ap Err same)
+next_is view views last (Ok v) (Err NoMemory) (Ok n) wa wb h k e = absurd (cc)
+next_is view views last (Ok v) (Err NoMemory) (Err (Broken rules)) wa wb h k e = absurd (cc)
+next_is view views last (Err (Broken before)) (Ok one) (Ok n) wa wb h k e = absurd (cc)
+next_is view views last (Err (Broken before)) (Ok one) (Err (Broken rules)) wa wb h k e = let same : before ≡ rules = cc in rw (h, k) (ap Err (append-nil before ∙ same))
+next_is view views last (Err (Broken before)) (Err (Broken more)) (Ok n) wa wb h k e = absurd (cc)
+next_is view views last (Err (Broken before)) (Err (Broken more)) (Err (Broken rules)) wa wb h k e = let same : before ++ more ≡ rules = cc in rw (h, k) (ap Err same)
+next_is view views last (Err (Broken before)) (Err NoMemory) (Ok n) wa wb h k e = absurd (cc)
+next_is view views last (Err (Broken before)) (Err NoMemory) (Err (Broken rules)) wa wb h k e = absurd (cc)
+next_is view views last (Err NoMemory) part (Ok n) wa wb h k e = absurd (cc)
+next_is view views last (Err NoMemory) part (Err (Broken rules)) wa wb h k e = absurd (cc)
+next_is view views last all part (Err NoMemory) wa wb h k e = tt
+
 pub next_tells : (all : Result (Vec RustTyped Global) Refusal) (part : Result RustTyped Refusal) (next : Result (Vec RustTyped Global) Refusal)
     (wa : Checked (List Typed)) (wb : Checked Typed) → Tells all_typed all wa → Tells typed_of part wb → IsNext all part next → Tells all_typed next (with_last wa wb)
-next_tells (Ok v) (Ok one) (Ok n) wa wb h k e = let items : v.items ++ one ∷ [] ≡ n.items = cc in rw (h, k) (ap Ok (sym (typed_last v.items one) ∙ ap typed_all items))
-next_tells (Ok v) (Ok one) (Err (Broken rules)) wa wb h k e = absurd (cc)
-next_tells (Ok v) (Err (Broken more)) (Ok n) wa wb h k e = absurd (cc)
-next_tells (Ok v) (Err (Broken more)) (Err (Broken rules)) wa wb h k e = let same : more ≡ rules = cc in rw (h, k) (ap Err same)
-next_tells (Ok v) (Err NoMemory) (Ok n) wa wb h k e = absurd (cc)
-next_tells (Ok v) (Err NoMemory) (Err (Broken rules)) wa wb h k e = absurd (cc)
-next_tells (Err (Broken before)) (Ok one) (Ok n) wa wb h k e = absurd (cc)
-next_tells (Err (Broken before)) (Ok one) (Err (Broken rules)) wa wb h k e = let same : before ≡ rules = cc in rw (h, k) (ap Err (append-nil before ∙ same))
-next_tells (Err (Broken before)) (Err (Broken more)) (Ok n) wa wb h k e = absurd (cc)
-next_tells (Err (Broken before)) (Err (Broken more)) (Err (Broken rules)) wa wb h k e = let same : before ++ more ≡ rules = cc in rw (h, k) (ap Err same)
-next_tells (Err (Broken before)) (Err NoMemory) (Ok n) wa wb h k e = absurd (cc)
-next_tells (Err (Broken before)) (Err NoMemory) (Err (Broken rules)) wa wb h k e = absurd (cc)
-next_tells (Err NoMemory) part (Ok n) wa wb h k e = absurd (cc)
-next_tells (Err NoMemory) part (Err (Broken rules)) wa wb h k e = absurd (cc)
-next_tells all part (Err NoMemory) wa wb h k e = tt
+next_tells = next_is typed_of typed_all typed_last
 
 -- a turn of a loop over what is checked
-pub each_turn : {A : Type 0} (f : A → Checked Typed) (xs : List A) (i : ℕ) (one : A) (all : Result (Vec RustTyped Global) Refusal) (part : Result RustTyped Refusal) (next : Result (Vec RustTyped Global) Refusal) →
-    i < length xs → one ≡ get_or xs i one → Tells all_typed all (each f (take i xs)) → Tells typed_of part (f one) → IsNext all part next → Tells all_typed next (each f (take (i + 1) xs))
-each_turn f xs i one all part next within is h k e =
+turn_is : {A B X : Type 0} (view : A → B) (views : List A → List B) → OneByOne view views → (f : X → Checked B) (xs : List X) (i : ℕ) (one : X)
+    (all : Result (Vec A Global) Refusal) (part : Result A Refusal) (next : Result (Vec A Global) Refusal) →
+    i < length xs → one ≡ get_or xs i one → Tells (λ (made : Vec A Global). views made.items) all (each f (take i xs)) → Tells view part (f one) → IsNext all part next →
+    Tells (λ (made : Vec A Global). views made.items) next (each f (take (i + 1) xs))
+turn_is view views last_view f xs i one all part next within is h k e =
     let last : each f (take (i + 1) xs) ≡ with_last (each f (take i xs)) (f one) =
     ap (each f) (take_more xs i one within ∙ ap (λ x. take i xs ++ x ∷ []) (sym is)) ∙ each_last f (take i xs) one in
-    rw last (next_tells all part next (each f (take i xs)) (f one) h k e)
+    rw last (next_is view views last_view all part next (each f (take i xs)) (f one) h k e)
+
+pub each_turn : {A : Type 0} (f : A → Checked Typed) (xs : List A) (i : ℕ) (one : A) (all : Result (Vec RustTyped Global) Refusal) (part : Result RustTyped Refusal) (next : Result (Vec RustTyped Global) Refusal) →
+    i < length xs → one ≡ get_or xs i one → Tells all_typed all (each f (take i xs)) → Tells typed_of part (f one) → IsNext all part next → Tells all_typed next (each f (take (i + 1) xs))
+each_turn = turn_is typed_of typed_all typed_last
+
+pub member_turn : {A : Type 0} (f : A → Checked (List Typed)) (xs : List A) (i : ℕ) (one : A) (all : Result (Vec (Vec RustTyped Global) Global) Refusal) (part : Result (Vec RustTyped Global) Refusal) (next : Result (Vec (Vec RustTyped Global) Global) Refusal) →
+    i < length xs → one ≡ get_or xs i one → Tells all_members all (each f (take i xs)) → Tells all_typed part (f one) → IsNext all part next → Tells all_members next (each f (take (i + 1) xs))
+member_turn = turn_is all_typed (map all_typed) (map_last all_typed)
+
+pub given_turn : {A : Type 0} (f : A → Checked GivenField) (xs : List A) (i : ℕ) (one : A) (all : Result (Vec RustGiven Global) Refusal) (part : Result RustGiven Refusal) (next : Result (Vec RustGiven Global) Refusal) →
+    i < length xs → one ≡ get_or xs i one → Tells all_given_of all (each f (take i xs)) → Tells given_of part (f one) → IsNext all part next → Tells all_given_of next (each f (take (i + 1) xs))
+given_turn = turn_is given_of (map given_of) (map_last given_of)
+
+-- a value without parts is what it stands for
+abbrev same_keys : List SimpleType → List SimpleType
+same_keys keys = keys
+
+pub key_turn : {A : Type 0} (f : A → Checked SimpleType) (xs : List A) (i : ℕ) (one : A) (all : Result (Vec SimpleType Global) Refusal) (part : Result SimpleType Refusal) (next : Result (Vec SimpleType Global) Refusal) →
+    i < length xs → one ≡ get_or xs i one → Tells (λ (keys : Vec SimpleType Global). keys.items) all (each f (take i xs)) → Tells (λ (key : SimpleType). key) part (f one) → IsNext all part next →
+    Tells (λ (keys : Vec SimpleType Global). keys.items) next (each f (take (i + 1) xs))
+key_turn = turn_is (λ key. key) same_keys (λ before one. refl)
 
 -- parts, and others behind them
 abbrev pub with_rest : {B : Type 0} → Checked (List B) → Checked (List B) → Checked (List B)

@@ -15,13 +15,14 @@ use Rattle.zk_typed.specs.Tells.{Tells}
 use Rattle.zk_typed.specs.Types.{ValueType}
 use Rattle.zk_typed.specs.Typing.{Typed, Env, Check, Wants}
 use Rattle.zk_typed.specs.View.{type_of}
-use Rattle.zk_expression.proofs.Eaches.{with_first, with_last, with_rest, rest_turn, no_rest, next_tells}
+use Rattle.zk_expression.specs.Parts.{with_last}
+use Rattle.zk_expression.proofs.Eaches.{with_first, with_rest, rest_turn, no_rest, next_tells}
 
 -- what is told where a list of parts goes on as another
 abbrev pub GoesOn : Result (Vec RustTyped Global) Refusal → Checked (List Typed) → Checked (List Typed) → Type 0
 GoesOn all more whole = (now : Checked (List Typed)) × Tells all_typed all now × (with_rest now more ≡ whole)
 
-front_of : (items : List Item) (i : ℕ) (item : Item) → i < length items → item ≡ get_or items i item → drop i items ≡ item ∷ drop (i + 1) items
+pub front_of : (items : List Item) (i : ℕ) (item : Item) → i < length items → item ≡ get_or items i item → drop i items ≡ item ∷ drop (i + 1) items
 front_of items i item within is = rw add-one (drop-cons items i item within ∙ ap (λ x. x ∷ drop (suc i) items) (sym is))
 
 pub matched_turn : (check : Check) (env : Env) (others rest : List declared.ValueType) (param : declared.ValueType) (items : List Item) (i : ℕ) (item : Item)
@@ -39,7 +40,7 @@ matched_none : (check : Check) (env : Env) (params : List ValueType) → matched
 matched_none check env [] = refl
 matched_none check env (param ∷ params) = refl
 
-none_left : (items : List Item) (i : ℕ) → length items ≤ i → drop i items ≡ []
+pub none_left : (items : List Item) (i : ℕ) → length items ≤ i → drop i items ≡ []
 none_left items i past = drop_all i items past
 
 pub matched_end : (check : Check) (env : Env) (params : List ValueType) (items : List Item) (i : ℕ) (all : Result (Vec RustTyped Global) Refusal) (whole : Checked (List Typed)) →

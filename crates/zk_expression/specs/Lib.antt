@@ -1,3 +1,10 @@
+pub mod Calls
 pub mod Envs
+pub mod Fields
 pub mod Judging
+pub mod Marks
+pub mod Members
 pub mod Parts
+pub mod Records
+pub mod Refusing
+pub mod Values

@@ -35,6 +35,18 @@ impl<F: Fn(Global, &Env<'_>, u64, Wanted<'_>, &Expr) -> Result<Typed, Refusal>> 
         }
     }
 
+    /// Values whose texts `print` writes.
+    pub fn each_printed(&self, ones: &[Expr]) -> Result<Vec<Typed>, Refusal>
+        requires { Judges self.now.depth (F.pre self.now.part) (F.post self.now.part) }
+        ensures { Tells all_typed result (checked.each (making.printed (rules.expr_to self.now.depth (env_of self.now.env.now)) (env_of self.now.env.now)) ones.now) }
+    {
+        let mut all = Ok(Vec::new(self.alloc));
+        for one in ones {
+            all = with_part(all, self.printed(one));
+        }
+        all
+    }
+
     /// An assignment, which has no value, at its place.
     #[tactic(auto, using(crate::proofs::Steps::pair_passed))]
     pub fn assignment(&self, place: Place, left: &Expr, right: &Expr) -> Result<Typed, Refusal>

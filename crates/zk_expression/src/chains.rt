@@ -138,4 +138,16 @@ impl<F: Fn(Global, &Env<'_>, u64, Wanted<'_>, &Expr) -> Result<Typed, Refusal>> 
         }
         before
     }
+
+    /// Operands with operators of a level between them, from the first on.
+    pub fn chain(&self, level: Level, first: &Expr, links: &[Link]) -> Result<Typed, Refusal>
+        requires { Judges self.now.depth (F.pre self.now.part) (F.post self.now.part) }
+        ensures { Tells typed_of result (spec.chained (rules.expr_to self.now.depth (env_of self.now.env.now)) (env_of self.now.env.now) level (spec.expr_place (env_of self.now.env.now) first.now) (rules.expr_to self.now.depth (env_of self.now.env.now) (rules.wanted_first level) first.now) links.now) }
+    {
+        let before = match level {
+            Level::Or | Level::And => self.truth(first),
+            Level::Sum | Level::Term => self.check(Wanted::Nothing, first),
+        };
+        self.chained(level, self.env.expr_place(first), before, links)
+    }
 }

@@ -7,14 +7,12 @@ ghost use Rattle.zk_typed.specs.Tells.{Tells};
 ghost use Rattle.zk_typed.specs.Typing as spec;
 ghost use Rattle.zk_expression.specs.Envs.{env_of};
 ghost use Rattle.zk_expression.specs.Judging.{Judges};
-ghost use Rattle.zk_expression.specs.Parts.{and_then, related_pair};
 
 use crate::env::Env;
 use crate::judge::Judge;
 use std::alloc::Global;
-use zk_operator::{Typed, Wanted, beside, both, choice, related, same_type};
+use zk_operator::{Typed, Wanted, both, choice, same_type};
 use zk_tree::Expr;
-use zk_typed::script::Relation;
 use zk_typed::{Refusal, Rule, one_broken};
 
 impl<F: Fn(Global, &Env<'_>, u64, Wanted<'_>, &Expr) -> Result<Typed, Refusal>> Judge<'_, F> {
@@ -100,29 +98,6 @@ impl<F: Fn(Global, &Env<'_>, u64, Wanted<'_>, &Expr) -> Result<Typed, Refusal>> 
             Ok((tested, arms)) => {
                 let (first, second) = arms;
                 Ok(choice(self.alloc, tested, first, second)?)
-            }
-            Err(refusal) => Err(refusal),
-        }
-    }
-
-    /// `a == b` and the like.
-    #[tactic(auto, using(crate::proofs::Steps::pair_passed))]
-    pub fn compared(&self, relation: Relation, left: &Expr, right: &Expr) -> Result<Typed, Refusal>
-        requires { Judges self.now.depth (F.pre self.now.part) (F.post self.now.part) }
-        ensures { Tells typed_of result (and_then (checked.both (rules.expr_to self.now.depth (env_of self.now.env.now) spec.Nothing left.now) (rules.expr_to self.now.depth (env_of self.now.env.now) spec.Nothing right.now))
-            (related_pair relation (spec.expr_place (env_of self.now.env.now) left.now) (spec.expr_place (env_of self.now.env.now) right.now))) }
-    {
-        match self.both_parts(Wanted::Nothing, left, Wanted::Nothing, right) {
-            Ok((first, second)) => {
-                let (first, second) = beside(self.alloc, first, second)?;
-                related(
-                    self.alloc,
-                    relation,
-                    self.env.expr_place(left),
-                    self.env.expr_place(right),
-                    first,
-                    second,
-                )
             }
             Err(refusal) => Err(refusal),
         }

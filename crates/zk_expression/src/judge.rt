@@ -48,7 +48,7 @@ impl<F: Fn(Global, &Env<'_>, u64, Wanted<'_>, &Expr) -> Result<Typed, Refusal>> 
 
     /// An item that names a field where a value is to stand.
     #[tactic(auto, using(crate::proofs::Steps::passed))]
-    fn named_item(&self, place: u64, value: &Expr) -> Result<Typed, Refusal>
+    pub fn named_item(&self, place: u64, value: &Expr) -> Result<Typed, Refusal>
         requires { Judges self.now.depth (F.pre self.now.part) (F.post self.now.part) }
         ensures { Tells typed_of result (then_broken (rules.expr_to self.now.depth (env_of self.now.env.now) spec.Nothing value.now) rule.WrongType (spec.at (env_of self.now.env.now) place)) }
     {

@@ -2,18 +2,35 @@
 #![tactic(auto)]
 
 mod arguments;
+mod built_ins;
 mod called;
+mod calls;
 mod chains;
 mod choices;
+mod comparing;
+mod containers;
+mod elements;
 mod env;
+mod expr;
+mod fields;
 mod forms;
 mod found;
 mod judge;
+mod lefts;
+mod log;
+mod members;
+mod membership;
 mod names;
+mod parts;
+mod records;
+mod refused;
+mod rows;
 mod side;
 
 pub use called::{Called, called_name};
+pub use elements::keys_fit;
 pub use env::{Env, GlobalType, Globals, LocalName};
+pub use fields::{Read, is_wire, wire_read};
 pub use found::{Found, look_up};
 pub use judge::Judge;
 pub use names::{local_named, name_typed};

@@ -1,25 +1,10 @@
 -- The fields of record types, one after another.
-use Rattle.std.proofs.Common.{◌≡◌, ℕ, ◌+◌, ◌<◌, ◌≤◌, ◌==◌, nat_lt, Bool, true, false, List, [], ◌∷◌, ◌++◌, length, take, get_or, flat_map, filter, map, Option, Some, None, Ok, Err, slice_get, if◌then◌else◌, refl, ap, sym, ◌∙◌, append_assoc, append-nil, arith, ◌⊎◌, inl, inr}
-use Rattle.std.proofs.lemmas.Bool.{eqb-true, eqb-false, ltb-true, ltb-false, lt-ltb, le-ltb, cases_order}
-use Rattle.std.proofs.lemmas.List.{take_more}
+use Rattle.std.proofs.Common.{◌≡◌, ℕ, ◌+◌, ◌<◌, ◌==◌, Bool, true, false, List, [], ◌++◌, length, take, get_or, map, Option, if◌then◌else◌, refl, ap, sym, ◌∙◌, append_assoc}
 use Rattle.std.proofs.lemmas.List.Folds.{flat_map-map}
-use Rattle.std.specs.List.{list_any}
-use Rattle.std.proofs.lemmas.Grind.{flat_map-append}
-use Rattle.std.proofs.lemmas.List.Folds.{list_any-append}
-use Rattle.zk_tree.specs.declared.decl.Decl.{out-Decl}
-use Rattle.zk_tree.specs.declared.decl.Decl.TheOpen.{Decl-F}
-use Rattle.zk_tree.specs.declared.name.Name.{Name}
-use Rattle.zk_tree.specs.declared.types.Field.{Field, out-Field}
-use Rattle.zk_tree.specs.declared.types.Type.{«Type»}
-use Rattle.zk_typed.specs.Checked.{Checked}
-use Rattle.zk_typed.specs.LoadOrder.{Home, Stated}
-use Rattle.zk_typed.specs.Resolving.{FieldInfo, Scripts, deeper, fields_of, own_fields, type_named, type_of, written_field}
-use Rattle.zk_typed.specs.Types.{ValueType, Record}
-use Rattle.zk_typed.specs.Predefined.{record_no}
-use Rattle.zk_names.specs.Fields.{stated_fields}
-use Rattle.zk_check.specs.declared.rules.edges.Edge.{Edge}
+use Rattle.zk_typed.specs.Resolving.{FieldInfo}
+use Rattle.zk_typed.specs.Types.{ValueType}
 use Rattle.zk_check.proofs.ListLaws.{flat_turn}
-use Rattle.zk_check.specs.Edges.{edge_at, edges_at, is_among, kind_of, kinds, only}
+use Rattle.zk_check.specs.Edges.{is_among, kind_of, kinds, only}
 
 only_by : {A : Type 0} (b : Bool) (xs ys : List A) → (if b then xs ++ ys else []) ≡ (if b then xs else []) ++ (if b then ys else [])
 only_by true xs ys = refl

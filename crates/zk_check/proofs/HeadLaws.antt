@@ -1,15 +1,15 @@
 -- The heads of bodies: the parameters and the result that they write, as those of a signature.
-use Rattle.std.proofs.Common.{◌≡◌, List, [], ◌∷◌, ◌&&◌, Option, Some, None, Ok, Err, refl, ap, sym, ◌∙◌}
+use Rattle.std.proofs.Common.{◌≡◌, List, [], ◌∷◌, ◌&&◌, Option, Some, None, Ok, Err, refl, ap, ◌∙◌}
 use Rattle.zk_tree.specs.declared.name.Name.{Name}
 use Rattle.zk_tree.specs.declared.place.Place.{Place}
 use Rattle.zk_tree.specs.declared.types.Param.{Param, out-Param}
 use Rattle.zk_tree.specs.declared.types.Type.{«Type»}
 use Rattle.zk_typed.specs.declared.rule.Rule.TheVariants as rule
-use Rattle.zk_typed.specs.Checked.{Checked, both, broken, each, require, ◌>>=◌}
+use Rattle.zk_typed.specs.Checked.{Checked, both, each, require, ◌>>=◌}
 use Rattle.zk_typed.specs.Errors.{head_rules, matches, same_result, same_types}
 use Rattle.zk_typed.specs.LoadOrder.{Home}
 use Rattle.zk_typed.specs.Names.{Declared, Meant, Signature, Written}
-use Rattle.zk_typed.specs.Resolving.{Scripts, hushed, maybe_type, params_of, place_in, result_of, type_of}
+use Rattle.zk_typed.specs.Resolving.{Scripts, hushed, maybe_type, type_of}
 use Rattle.zk_typed.specs.Types.{ValueType}
 use Rattle.zk_check.specs.Signing.{alike, of_kind, signed}
 

@@ -1,17 +1,14 @@
 -- Heights of types, and what nests deeper than so many.
-use Rattle.std.proofs.Common.{◌≡◌, ◌≢◌, ℕ, zero, suc, ◌+◌, ◌<◌, ◌≤◌, ◌==◌, nat_lt, nat_le, Bool, true, false, ◌||◌, not, List, [], ◌∷◌, ◌++◌, length, take, flat_map, filter, Option, Some, None, Ok, Err, slice_get, get_or, unwrap_or, if◌then◌else◌, refl, ap, sym, ◌∙◌, arith, subst}
-use Rattle.std.specs.List.{list_any, list_all}
-use Rattle.std.proofs.Math.ListN.{set, length-set}
-use Rattle.std.proofs.lemmas.Bool.{eqb-true, eqb-false, ltb-true, ltb-false, lt-ltb, le-ltb, lt-leb, le-leb}
-use Rattle.std.proofs.lemmas.List.{get_or-set_same, get_or-set_other}
+use Rattle.std.proofs.Common.{◌≡◌, ℕ, zero, suc, ◌+◌, ◌<◌, ◌≤◌, nat_lt, nat_le, Bool, true, false, ◌||◌, not, List, [], ◌∷◌, length, take, flat_map, Ok, Err, get_or, if◌then◌else◌, refl, ap, sym, ◌∙◌, arith}
+use Rattle.std.specs.List.{list_any}
+use Rattle.std.proofs.lemmas.Bool.{ltb-true, ltb-false, lt-ltb, le-ltb, lt-leb, le-leb}
 use Rattle.std.proofs.lemmas.List.Folds.{list_any-append}
-use Rattle.std.proofs.lemmas.Option.{unwrap_or-slice_get}
 use Rattle.zk_base.specs.declared.numbers.RecordNo.{RecordNo}
 use Rattle.zk_typed.specs.Checked.{Checked}
 use Rattle.zk_typed.specs.Resolving.{FieldInfo, Scripts, deeper, fields_of}
 use Rattle.zk_typed.specs.Types.{ValueType, Simple, Record, Table, Set, Vector}
 use Rattle.zk_check.specs.declared.rules.edges.Edge.{Edge}
-use Rattle.zk_check.specs.Edges.{edge_at, edges_at, kind_of, kinds, only}
+use Rattle.zk_check.specs.Edges.{edges_at, kind_of, kinds}
 use Rattle.zk_check.specs.Heights.{Measures, height_at, height_in, is_raised, raised}
 use Rattle.zk_check.specs.declared.rules.heights.Heights.{Heights}
 use Rattle.zk_check.proofs.ListLaws.{flat_turn}

@@ -1,5 +1,5 @@
 -- A script for each kind of broken rule, computed by the checker (zk_typed has others).
-use Rattle.std.proofs.Common.{◌≡◌, ℕ, ◌+◌, List, [], ◌∷◌, ◌++◌, codes, refl, Option, Some, None, false}
+use Rattle.std.proofs.Common.{◌≡◌, ℕ, ◌+◌, List, [], ◌∷◌, ◌++◌, codes, refl, Some, None}
 use Rattle.zk_tree.specs.declared.decl.BodyKind.TheVariants as body
 use Rattle.zk_tree.specs.declared.decl.Decl.{Decl}
 use Rattle.zk_tree.specs.declared.decl.Decl.TheVariants as decl
@@ -23,7 +23,7 @@ use Rattle.zk_tree.specs.declared.stmt.Stmt.TheVariants as stmt
 use Rattle.zk_tree.specs.declared.types.Atomic.TheVariants as atomic
 use Rattle.zk_tree.specs.declared.types.Attr.{Attr}
 use Rattle.zk_tree.specs.declared.types.Field.{Field, roll-Field}
-use Rattle.zk_tree.specs.declared.types.Param.{Param, roll-Param}
+use Rattle.zk_tree.specs.declared.types.Param.{roll-Param}
 use Rattle.zk_tree.specs.declared.types.Type.{«Type»}
 use Rattle.zk_tree.specs.declared.types.Type.TheVariants as written
 use Rattle.zk_tree.specs.Opening.{trees}

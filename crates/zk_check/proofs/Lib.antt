@@ -1,5 +1,6 @@
 pub mod Views
 pub mod Stated
+pub mod IndexLaws
 mod KindRows
 pub mod RuleLaws
 pub mod StatedLaws

@@ -1,5 +1,5 @@
 -- The record types within a type.
-use Rattle.std.proofs.Common.{◌≡◌, ℕ, zero, suc, ◌-◌, ◌^◌, Bool, not, List, Ok, Err, [], ◌∷◌, ◌++◌, flat_map, refl, ap, sym, ◌∙◌, arith}
+use Rattle.std.proofs.Common.{◌≡◌, ℕ, zero, suc, ◌-◌, ◌^◌, Bool, not, List, Ok, Err, [], ◌∷◌, ◌++◌, refl, ap, sym, ◌∙◌, arith}
 use Rattle.zk_tree.specs.declared.name.Name.{Name}
 use Rattle.zk_tree.specs.declared.types.Field.{Field}
 use Rattle.zk_tree.specs.declared.types.Type.{«Type»}

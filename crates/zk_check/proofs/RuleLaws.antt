@@ -1,5 +1,5 @@
 -- Rules that are told one after another.
-use Rattle.std.proofs.Common.{◌≡◌, ℕ, suc, ◌+◌, ◌<◌, ◌≤◌, Bool, Option, map, List, [], ◌∷◌, Result, Ok, Err, length, drop, get_or, refl, ap, sym, subst, ◌∙◌, add-one, drop-cons}
+use Rattle.std.proofs.Common.{◌≡◌, ℕ, ◌+◌, ◌<◌, ◌≤◌, Bool, Option, map, List, [], ◌∷◌, Result, Ok, Err, length, drop, get_or, refl, ap, sym, subst, ◌∙◌}
 use Rattle.std.specs.Option.{option_map}
 use Rattle.std.proofs.lemmas.List.{drop_all}
 use Rattle.zk_typed.specs.declared.refusal.Refusal.{Refusal}

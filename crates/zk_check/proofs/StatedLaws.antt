@@ -14,7 +14,7 @@ use Rattle.zk_tree.specs.declared.types.Type.{«Type», out-Type}
 use Rattle.zk_tree.specs.declared.types.Type.TheOpen.{Type-F}
 use Rattle.zk_tree.specs.declared.types.Type.TheOpen as written
 use Rattle.zk_tree.specs.Places.{type_place}
-use Rattle.zk_typed.specs.declared.rule.Rule.TheVariants.{Unknown, WrongType, Recursive}
+use Rattle.zk_typed.specs.declared.rule.Rule.TheVariants.{Unknown, WrongType}
 use Rattle.zk_typed.specs.declared.script.types.SimpleType.{SimpleType}
 use Rattle.zk_typed.specs.declared.script.types.SimpleType.TheVariants as simple
 use Rattle.zk_typed.specs.Checked.{Checked, broken, elsewhere, ◌>>=◌, both, each}

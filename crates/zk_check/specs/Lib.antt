@@ -1,5 +1,12 @@
 pub mod Givens
 pub mod Steps
+pub mod Bodies
+pub mod Turns
+pub mod Over
+pub mod Numbers
+pub mod Loops
+pub mod Begins
+pub mod Acting
 pub mod Adding
 pub mod Attributing
 pub mod Edges

@@ -28,9 +28,7 @@ pub use gathering::with_part;
 pub use kinds::{body_attrs, field_attrs, signature_attrs};
 pub use literals::{constant, interval_of, literal_typed};
 pub use membership::{is_left_of_in, operands_of, size_typed, vector_alone};
-pub use operands::{
-    Typed, Wanted, applied, beside, fit, fits, one_operand, simple_type, to_int,
-};
+pub use operands::{Typed, Wanted, applied, beside, fit, fits, one_operand, simple_type, to_int};
 pub use operators::{arithmetic, choice, inverted, negative, related, truths, turned};
 pub use relations::{binary_of, is_ordered, relates, relation_of};
 pub use same::{copied_keys, copied_type, same_keys, same_simple, same_type};

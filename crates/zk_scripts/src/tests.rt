@@ -65,7 +65,10 @@ fn trees(alloc: Global, scripts: &[(&[u8], &[u8])]) -> Result<Vec<(Bytes, Tree)>
 fn a_loaded_file_stands_in_the_place_of_its_first_load(rt: HostRuntime) -> Result<(), Fail> {
     let alloc = rt.alloc();
     let scripts: [(&[u8], &[u8]); 2] = [
-        (b"a", b"module M;\nexport {\n@load b\n@load b\n}\nglobal x: count;\n"),
+        (
+            b"a",
+            b"module M;\nexport {\n@load b\n@load b\n}\nglobal x: count;\n",
+        ),
         (b"b", b"@load a\n@load base/c\nglobal y: count;\n"),
     ];
     let files = trees(alloc, &scripts)?;
@@ -85,7 +88,10 @@ fn a_name_is_seen_in_its_module_and_elsewhere_if_it_is_exported(
 ) -> Result<(), Fail> {
     let alloc = rt.alloc();
     let scripts: [(&[u8], &[u8]); 2] = [
-        (b"a", b"module M;\nexport { global shown: count; }\nglobal hidden: count;\n"),
+        (
+            b"a",
+            b"module M;\nexport { global shown: count; }\nglobal hidden: count;\n",
+        ),
         (b"b", b"global plain: count;\nglobal shown: int;\n"),
     ];
     let files = trees(alloc, &scripts)?;
@@ -110,7 +116,8 @@ fn a_name_is_seen_in_its_module_and_elsewhere_if_it_is_exported(
 #[test]
 fn names_lead_to_records_words_and_circles(rt: HostRuntime) -> Result<(), Fail> {
     let alloc = rt.alloc();
-    let text = b"type R: record { a: string_vec; };\ntype A: B;\ntype B: A;\nredef record R += { b: R; };\nredef enum Log::ID += { W };\n";
+    let text =
+        b"type R: record { a: string_vec; };\ntype A: B;\ntype B: A;\nredef record R += { b: R; };\nredef enum Log::ID += { W };\n";
     let scripts: [(&[u8], &[u8]); 1] = [(b"a", text)];
     let files = trees(alloc, &scripts)?;
     let names = names(alloc, &files)?;
@@ -151,7 +158,8 @@ fn columns(alloc: Global, leaves: &[Leaf]) -> Result<Vec<u8>, Fail> {
 }
 
 /// The columns of conn.log (Zeek manual, Log Files, conn.log).
-const CONN: &[u8] = b"ts time\nuid string\nid.orig_h addr\nid.orig_p port\nid.resp_h addr\nid.resp_p port\nproto enum\nduration interval\norig_bytes count\nresp_bytes count\nconn_state string\nmissed_bytes count\nhistory string\norig_pkts count\norig_ip_bytes count\nresp_pkts count\nresp_ip_bytes count\n";
+const CONN: &[u8] =
+    b"ts time\nuid string\nid.orig_h addr\nid.orig_p port\nid.resp_h addr\nid.resp_p port\nproto enum\nduration interval\norig_bytes count\nresp_bytes count\nconn_state string\nmissed_bytes count\nhistory string\norig_pkts count\norig_ip_bytes count\nresp_pkts count\nresp_ip_bytes count\n";
 
 #[test]
 fn logs_of_the_default_scripts_have_the_columns_of_their_records(

@@ -1,5 +1,4 @@
-use Rattle.std.proofs.Common.{List, [], Some, None, ◌++◌, map, ap, sym, ◌∙◌, append-nil}
-use Rattle.zk_tree.specs.declared.types.Field.{Field}
+use Rattle.std.proofs.Common.{Some, None, ◌++◌, map, ap, sym, ◌∙◌, append-nil}
 use Rattle.zk_typed.specs.Resolving.{is_that, type_named, written_field}
 use Rattle.zk_names.specs.Lent.{home_of}
 use Rattle.zk_names.specs.Scripted.{scripts_in}

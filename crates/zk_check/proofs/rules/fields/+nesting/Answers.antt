@@ -1,4 +1,4 @@
-use Rattle.std.proofs.Common.{◌-◌, [], ◌∷◌, ap, refl, sym, subst, ◌∙◌}
+use Rattle.std.proofs.Common.{◌-◌, ◌∷◌, ap, refl, sym, subst, ◌∙◌}
 use Rattle.zk_tree.specs.declared.types.Field.{out-Field}
 use Rattle.zk_typed.specs.Checked.{Checked}
 use Rattle.zk_typed.specs.Declarations.{field_rules, fields_rules, is_one_of, nested_to}

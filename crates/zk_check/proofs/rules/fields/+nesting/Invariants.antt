@@ -1,4 +1,4 @@
-use Rattle.std.proofs.Common.{◌+◌, ◌*◌, []}
+use Rattle.std.proofs.Common.{◌+◌, ◌*◌}
 use Rattle.zk_tree.specs.declared.types.Field.{out-Field}
 use Rattle.zk_typed.specs.Declarations.{fields_rules}
 use Rattle.zk_names.specs.Lent.{home_of}

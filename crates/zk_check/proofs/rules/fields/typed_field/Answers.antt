@@ -1,4 +1,4 @@
-use Rattle.std.proofs.Common.{List, Ok, [], refl, subst}
+use Rattle.std.proofs.Common.{List, [], refl, subst}
 use Rattle.zk_tree.specs.declared.types.Attr.{Attr}
 use Rattle.zk_tree.specs.declared.types.Field.{out-Field}
 use Rattle.zk_typed.specs.Checked.{Checked}

@@ -1,4 +1,4 @@
-use Rattle.std.proofs.Common.{◌≤◌, ◌+◌, length, filter, ap, sym, ◌∙◌, arith}
+use Rattle.std.proofs.Common.{◌≤◌, ◌+◌, length, filter, ap, ◌∙◌, arith}
 use Rattle.zk_typed.specs.Declarations.{is_one_of}
 use Rattle.zk_typed.specs.Errors.{field_names}
 use Rattle.zk_typed.specs.Names.{is_record}

@@ -1,4 +1,3 @@
-use Rattle.std.proofs.Common.{sym, ◌∙◌}
 use Rattle.zk_names.specs.Lent.{home_of}
 use Rattle.zk_names.specs.Scripted.{scripts_in}
 use Rattle.zk_check.specs.Heights.{field_fits}

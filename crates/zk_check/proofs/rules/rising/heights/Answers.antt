@@ -1,4 +1,4 @@
-use Rattle.std.proofs.Common.{◌<◌, ap, ◌∙◌, arith}
+use Rattle.std.proofs.Common.{◌<◌, arith}
 use Rattle.zk_check.proofs.HeightLaws.{higher_measures, lowest_measures, measured}
 use Rattle.zk_check.proofs.rules.rising.heights.Goals as goal
 

@@ -1,4 +1,4 @@
-use Rattle.std.proofs.Common.{◌≡◌, ℕ, ◌==◌, ◌||◌, ◌&&◌, List, ◌∷◌, Bool, refl, ap, sym, ◌∙◌}
+use Rattle.std.proofs.Common.{refl, ap, ◌∙◌}
 use Rattle.zk_tree.specs.declared.types.Field.{out-Field}
 use Rattle.zk_typed.specs.Declarations.{fields_rules, is_one_of}
 use Rattle.zk_names.specs.Lent.{home_of}

@@ -4,6 +4,7 @@ pub mod Eaches
 pub mod ElementLaws
 pub mod Ends
 pub mod Fitting
+pub mod FormLaws
 pub mod GivenLaws
 pub mod KeyLaws
 pub mod Leftovers

@@ -1,15 +1,16 @@
 -- Expressions by whether they hand inward what is wanted.
 use Rattle.std.specs.Prelude.{Option, Some, None}
-use Rattle.zk_tree.specs.declared.expr.Expr.{Expr}
+use Rattle.zk_tree.specs.declared.expr.Expr.{Expr, out-Expr}
 use Rattle.zk_tree.specs.declared.expr.Expr.TheOpen.{Expr-F}
 use Rattle.zk_tree.specs.declared.expr.Expr.TheOpen as written
 use Rattle.zk_tree.specs.declared.expr.Item.{Item}
 use Rattle.zk_tree.specs.declared.expr.Link.{Link}
 use Rattle.zk_tree.specs.declared.expr.Part.{Part}
 use Rattle.zk_tree.specs.Value as plain
-use Rattle.zk_typed.specs.Checked.{Checked, ◌>>=◌}
-use Rattle.zk_typed.specs.Expressions.{wanted_first, compared, unary_typed, size_typed}
-use Rattle.zk_typed.specs.Making.{post_typed, called_name, hook_typed}
+use Rattle.zk_typed.specs.Checked.{Checked, ◌>>=◌, ◌>>◌, both, broken}
+use Rattle.zk_typed.specs.declared.rule.Rule.TheVariants as rule
+use Rattle.zk_typed.specs.Expressions.{wanted_first, compared, unary_typed, size_typed, choice}
+use Rattle.zk_typed.specs.Making.{post_typed, called_name, hook_typed, brackets_typed, container_typed, members_in}
 use Rattle.zk_typed.specs.Predefined as type
 use Rattle.zk_typed.specs.Typing.{Typed, Env, at, expr_place, Wanted, Nothing, Check, fit, constant, interval_of, literal_typed, name_typed, chained, found}
 
@@ -37,3 +38,11 @@ fitted check env wanted one form = of_constant (constant_of form)
     of_constant : Option Typed → Checked Typed
     of_constant (Some made) = fit (expr_place env one) wanted made
     of_constant None = value_typed check env one form >>= fit (expr_place env one) wanted
+
+abbrev pub by_form : Check → Env → Wanted → Expr → Expr-F Expr Item Part Link → Checked Typed
+by_form check env wanted one (written.Assign a operator b) = both (check Nothing a) (check Nothing b) >> broken rule.WrongType (expr_place env one)
+by_form check env wanted one (written.Choice test a b) = choice check env wanted test a b
+by_form check env wanted one (written.Parenthesis place inner) = check wanted inner
+by_form check env wanted one (written.List place items) = brackets_typed check env (at env place) items wanted
+by_form check env wanted one (written.Make place container items) = container_typed check env (at env place) container (members_in check env items) wanted
+by_form check env wanted one form = fitted check env wanted one form

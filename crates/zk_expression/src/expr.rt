@@ -1,9 +1,11 @@
-ghost use Rattle.std.specs.Prelude.{◌≡◌, IfOk};
+ghost use Rattle.std.specs.Prelude.{◌≡◌, suc, Err, IfOk};
 ghost use Rattle.std.specs.Option.{option_map};
 ghost use Rattle.zk_tree.specs.declared.expr.Expr.{out-Expr};
 ghost use Rattle.zk_operator.specs.Views.{typed_of, wanted_in};
 ghost use Rattle.zk_typed.specs.Expressions as rules;
 ghost use Rattle.zk_typed.specs.Tells.{Tells};
+ghost use Rattle.zk_typed.specs.Typing as spec;
+ghost use Rattle.zk_typed.specs.Typing.{Wanted as WantedForm};
 ghost use Rattle.zk_expression.specs.Envs.{env_of};
 ghost use Rattle.zk_expression.specs.Judging.{Judges};
 ghost use Rattle.zk_expression.specs.Values.{constant_of, value_typed, fitted};
@@ -11,12 +13,13 @@ ghost use Rattle.zk_expression.specs.Values.{constant_of, value_typed, fitted};
 use crate::env::Env;
 use crate::judge::Judge;
 use crate::names::name_typed;
+use crate::refused::broken;
 use std::alloc::Global;
 use zk_base::Mem;
 use zk_operator::{Typed, Wanted, constant, interval_of, literal_typed};
 use zk_tree::Expr;
-use zk_typed::Refusal;
 use zk_typed::script::{Literal, SimpleType};
+use zk_typed::{Refusal, Rule};
 
 /// The constant that an expression is which one token or two write.
 fn constant_of(alloc: Global, one: &Expr) -> Result<Option<Typed>, Mem>
@@ -76,7 +79,7 @@ impl<F: Fn(Global, &Env<'_>, u64, Wanted<'_>, &Expr) -> Result<Typed, Refusal>> 
     }
 
     /// An expression of a form whose value has to fit what is wanted.
-    pub fn fitted(&self, wanted: Wanted<'_>, one: &Expr) -> Result<Typed, Refusal>
+    fn fitted(&self, wanted: Wanted<'_>, one: &Expr) -> Result<Typed, Refusal>
         requires { Judges self.now.depth (F.pre self.now.part) (F.post self.now.part) }
         ensures { Tells typed_of result (fitted (rules.expr_to self.now.depth (env_of self.now.env.now)) (env_of self.now.env.now) (wanted_in wanted.entry) one.now (out-Expr one.now)) }
     {
@@ -88,4 +91,59 @@ impl<F: Fn(Global, &Env<'_>, u64, Wanted<'_>, &Expr) -> Result<Typed, Refusal>> 
             },
         }
     }
+
+    /// An expression whose parts are as deep as this at most.
+    fn form(&self, wanted: Wanted<'_>, one: &Expr) -> Result<Typed, Refusal>
+        requires { Judges self.now.depth (F.pre self.now.part) (F.post self.now.part) }
+        ensures { Tells typed_of result (rules.expr_to (suc self.now.depth) (env_of self.now.env.now) (wanted_in wanted.entry) one.now) }
+    {
+        match one {
+            Expr::Assign { left, right, .. } => {
+                self.assignment(self.env.expr_place(one), left.get(), right.get())
+            }
+            Expr::Choice { test, yes, no } => {
+                self.choice(wanted, test.get(), yes.get(), no.get())
+            }
+            Expr::Parenthesis { inner, .. } => self.check(wanted, inner.get()),
+            Expr::List { place, items } => {
+                self.brackets_typed(self.env.at(*place), items.as_slice(), wanted)
+            }
+            Expr::Make {
+                place,
+                container,
+                items,
+            } => self.container_typed(self.env.at(*place), *container, items.as_slice(), wanted),
+            _ => self.fitted(wanted, one),
+        }
+    }
+}
+
+/// An expression that is too deep.
+#[tactic(auto, using(crate::proofs::Refusals::broken_is))]
+fn too_deep(alloc: Global, env: &Env<'_>, one: &Expr) -> Refusal
+    ensures { (wanted : WantedForm) → Tells typed_of (Err result) (rules.expr_to 0 (env_of env.now) wanted one.now) }
+{
+    broken(alloc, Rule::WrongType, env.expr_place(one))
+}
+
+/// An expression that is at most so deep, where a type is wanted.
+pub fn expr_to(
+    alloc: Global,
+    env: &Env<'_>,
+    depth: u64,
+    wanted: Wanted<'_>,
+    one: &Expr,
+) -> Result<Typed, Refusal>
+    ensures { Tells typed_of result (rules.expr_to depth (env_of env.now) (wanted_in wanted.entry) one.now) }
+{
+    if depth == 0 {
+        return Err(too_deep(alloc, &*env, &*one));
+    }
+    let judge = Judge {
+        alloc,
+        env: &*env,
+        depth: depth - 1,
+        part: expr_to,
+    };
+    judge.form(wanted, &*one)
 }

@@ -26,12 +26,18 @@ mod records;
 mod refused;
 mod rows;
 mod side;
+mod whole;
 
 pub use called::{Called, called_name};
 pub use elements::keys_fit;
 pub use env::{Env, GlobalType, Globals, LocalName};
+pub use expr::expr_to;
 pub use fields::{Read, is_wire, wire_read};
 pub use found::{Found, look_up};
 pub use judge::Judge;
 pub use names::{local_named, name_typed};
 pub use side::{Side, assignable};
+pub use whole::{
+    call_of, each_printed, each_typed, expr_typed, init_typed, left_side, parts_typed,
+    signed_arguments, wrong_name,
+};

@@ -57,7 +57,7 @@ globals_at globals number = of_one (slice_get globals.types.now number)
 
 abbrev pub env_of : LentEnv → Env
 env_of env = record {
-  scripts = scripts_in env.names.now;
+  scripts = scripts_in env.scripts.now.names;
   home = home_of env.home;
   locals = locals_of env.locals.now;
   global_type = globals_at env.globals;

@@ -37,7 +37,7 @@ impl<F: Fn(Global, &Env<'_>, u64, Wanted<'_>, &Expr) -> Result<Typed, Refusal>> 
         requires { Judges self.now.depth (F.pre self.now.part) (F.post self.now.part) }
         ensures { Tells all_typed result (making.arguments (rules.expr_to self.now.depth (env_of self.now.env.now)) (env_of self.now.env.now) place (resolving.params_of (env_of self.now.env.now).scripts (signature_of signature.now)) items.now) }
     {
-        match self.env.names.params_of(self.alloc, signature) {
+        match self.env.scripts.names.params_of(self.alloc, signature) {
             Ok(params) => self.arguments(place, params.as_slice(), items),
             Err(Refusal::NoMemory) => Err(Refusal::NoMemory),
             Err(Refusal::Broken(rules)) => match self.each_argument(Wanted::Unclear, items) {
@@ -57,8 +57,8 @@ impl<F: Fn(Global, &Env<'_>, u64, Wanted<'_>, &Expr) -> Result<Typed, Refusal>> 
     ) -> Result<Called, Refusal>
         ensures { Tells called_of result (and_then (resolving.result_of (env_of self.now.env.now).scripts (signature_of signature.now)) (making.with_result (spec.number_among spec.is_function (env_of self.now.env.now).scripts (declared_of one.now)) (typed_all args.items))) }
     {
-        let function = self.env.names.number_among(Kind::Function, one)?;
-        match self.env.names.result_of(self.alloc, signature) {
+        let function = self.env.scripts.names.number_among(Kind::Function, one)?;
+        match self.env.scripts.names.result_of(self.alloc, signature) {
             Ok(None) => Ok(Called::Performs { function, args }),
             Ok(Some(value_type)) => {
                 let operands = operands_of(self.alloc, args)?;
@@ -113,7 +113,12 @@ impl<F: Fn(Global, &Env<'_>, u64, Wanted<'_>, &Expr) -> Result<Typed, Refusal>> 
         requires { Judges self.now.depth (F.pre self.now.part) (F.post self.now.part) }
         ensures { Tells called_of result (and_then (resolving.type_named (env_of self.now.env.now).scripts (env_of self.now.env.now).home name.now) (making.made_of (rules.expr_to self.now.depth (env_of self.now.env.now)) (env_of self.now.env.now) place items.now)) }
     {
-        match self.env.names.type_named(self.alloc, self.env.home, name) {
+        match self
+            .env
+            .scripts
+            .names
+            .type_named(self.alloc, self.env.home, name)
+        {
             Ok(one) => self.made_of(place, items, &one),
             Err(refusal) => Err(refusal),
         }
@@ -199,7 +204,7 @@ impl<F: Fn(Global, &Env<'_>, u64, Wanted<'_>, &Expr) -> Result<Typed, Refusal>> 
     {
         match self.signed_arguments(place, signature, items) {
             Ok(args) => {
-                let number = self.env.names.number_among(Kind::Hook, one)?;
+                let number = self.env.scripts.names.number_among(Kind::Hook, one)?;
                 let operands = operands_of(self.alloc, args)?;
                 Ok(Typed {
                     value_type: ValueType::Simple(SimpleType::Bool),

@@ -1,6 +1,6 @@
 ghost use Rattle.std.specs.Prelude.{◌≡◌};
 
-use zk_names::{Home, Names};
+use zk_names::{Home, Scripts};
 use zk_tree::{Expr, Place};
 use zk_typed::script::ValueType;
 
@@ -33,7 +33,7 @@ pub struct Globals<'a> {
 /// Where an expression stands.
 #[derive(Clone, Copy)]
 pub struct Env<'a> {
-    pub names: &'a Names<'a>,
+    pub scripts: &'a Scripts<'a>,
     pub home: Home<'a>,
     /// The parameters and locals that are visible, by their numbers.
     pub locals: &'a [LocalName<'a>],

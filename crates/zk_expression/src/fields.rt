@@ -96,7 +96,7 @@ pub fn field_of(
 {
     match &one.value_type {
         ValueType::Record(record) => {
-            let fields = env.names.fields_of(alloc, *record)?;
+            let fields = env.scripts.names.fields_of(alloc, *record)?;
             field_in(alloc, place, *record, &fields, name)
         }
         ValueType::Simple(_)
@@ -112,7 +112,7 @@ pub fn field_of(
 pub fn is_wire(alloc: Global, env: &Env<'_>, one: FieldNo) -> Result<bool, Mem>
     ensures { IfOk result (λ wire. wire ≡ making.is_wire (env_of env.now) one) }
 {
-    let fields = env.names.fields_of(alloc, one.record)?;
+    let fields = env.scripts.names.fields_of(alloc, one.record)?;
     match at(&fields, one.field as usize) {
         None => Ok(false),
         Some(field) => Ok(field.wire),

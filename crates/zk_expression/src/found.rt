@@ -26,6 +26,7 @@ pub fn look_up<'a>(alloc: Global, env: &Env<'a>, name: &Name) -> Result<Found<'a
         return Ok(Found::Local);
     }
     let declared = env
+        .scripts
         .names
         .look_up(alloc, env.home.module_name, name.text.as_slice())?;
     match declared {

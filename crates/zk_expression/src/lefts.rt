@@ -75,7 +75,7 @@ fn declared_side(
     };
     match &one.meant {
         Meant::Variable { lasting, attrs, .. } => {
-            let number = env.names.number_among(Kind::Variable, one)?;
+            let number = env.scripts.names.number_among(Kind::Variable, one)?;
             match global_type(alloc, env.globals, number) {
                 Ok(value_type) => Ok(Side {
                     left: Left::Global(number),
@@ -116,6 +116,7 @@ fn name_side(alloc: Global, env: &Env<'_>, name: &Name) -> Result<Side, Refusal>
         Some((number, local)) => local_side(alloc, number, &local.value_type),
         None => {
             let found = env
+                .scripts
                 .names
                 .look_up(alloc, env.home.module_name, name.text.as_slice())?;
             declared_side(alloc, env, env.at(name.place), found)

@@ -121,7 +121,7 @@ fn declared_value(
             Ok(constant(SimpleType::Enum(*number), Literal::Enum(word)))
         }
         Meant::Variable { .. } => {
-            let number = env.names.number_among(Kind::Variable, one)?;
+            let number = env.scripts.names.number_among(Kind::Variable, one)?;
             global_value(alloc, env.globals, number)
         }
         Meant::KnownType { .. }
@@ -142,6 +142,7 @@ pub fn name_typed(alloc: Global, env: &Env<'_>, name: &Name) -> Result<Typed, Re
         Some((number, local)) => local_value(alloc, number, &local.value_type),
         None => {
             let found = env
+                .scripts
                 .names
                 .look_up(alloc, env.home.module_name, name.text.as_slice())?;
             declared_value(alloc, env, env.at(name.place), found)

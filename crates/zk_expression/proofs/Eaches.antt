@@ -1,6 +1,7 @@
 -- The parts of a list that are checked one after another.
 use Rattle.std.proofs.Common.{◌≡◌, ℕ, ◌+◌, ◌<◌, Result, Ok, Err, List, [], ◌∷◌, ◌++◌, length, map, take, get_or, refl, ap, sym, ◌∙◌, append_assoc, append-nil}
 use Rattle.std.proofs.lemmas.List.{take_more}
+use Rattle.std.specs.Borrow.{Bor}
 use Rattle.std.specs.declared.alloc.Global.{Global}
 use Rattle.std.specs.declared.vec.Vec.{Vec}
 use Rattle.zk_typed.specs.declared.refusal.Refusal.{Refusal}
@@ -14,6 +15,7 @@ use Rattle.zk_typed.specs.declared.script.types.SimpleType.{SimpleType}
 use Rattle.zk_typed.specs.Making.{GivenField}
 use Rattle.zk_typed.specs.Typing.{Typed}
 use Rattle.zk_expression.specs.declared.records.GivenField.{GivenField as RustGiven}
+use Rattle.zk_expression.specs.LogSettings.{all_texts, texts_lent}
 use Rattle.zk_expression.specs.Members.{all_members}
 use Rattle.zk_expression.specs.Parts.{with_last}
 use Rattle.zk_expression.specs.Records.{given_of, all_given_of}
@@ -96,6 +98,10 @@ member_turn = turn_is all_typed (map all_typed) (map_last all_typed)
 pub given_turn : {A : Type 0} (f : A → Checked GivenField) (xs : List A) (i : ℕ) (one : A) (all : Result (Vec RustGiven Global) Refusal) (part : Result RustGiven Refusal) (next : Result (Vec RustGiven Global) Refusal) →
     i < length xs → one ≡ get_or xs i one → Tells all_given_of all (each f (take i xs)) → Tells given_of part (f one) → IsNext all part next → Tells all_given_of next (each f (take (i + 1) xs))
 given_turn = turn_is given_of (map given_of) (map_last given_of)
+
+pub text_turn : {A : Type 0} (f : A → Checked (List ℕ)) (xs : List A) (i : ℕ) (one : A) (all : Result (Vec (Bor (List ℕ)) Global) Refusal) (part : Result (Bor (List ℕ)) Refusal) (next : Result (Vec (Bor (List ℕ)) Global) Refusal) →
+    i < length xs → one ≡ get_or xs i one → Tells all_texts all (each f (take i xs)) → Tells (λ (text : Bor (List ℕ)). text.now) part (f one) → IsNext all part next → Tells all_texts next (each f (take (i + 1) xs))
+text_turn = turn_is (λ text. text.now) texts_lent (map_last (λ text. text.now))
 
 -- a value without parts is what it stands for
 abbrev same_keys : List SimpleType → List SimpleType

@@ -19,17 +19,29 @@ pub fn broken(alloc: Global, rule: Rule, place: Place) -> Refusal
     }
 }
 
-/// What is broken in a part, or else that it can't stand where it does.
-pub fn wrong<T: Drop>(alloc: Global, part: Result<T, Refusal>, place: Place) -> Refusal
-    ensures { Refuses (record { rule = rule.WrongType; place = place } ∷ []) part result }
+/// What is broken in a part, or else a rule of the whole.
+pub fn refused<T: Drop>(
+    alloc: Global,
+    part: Result<T, Refusal>,
+    rule: Rule,
+    place: Place,
+) -> Refusal
+    ensures { Refuses (record { rule = rule; place = place } ∷ []) part result }
 {
     match part {
-        Ok(_) => match one_broken(alloc, Rule::WrongType, place) {
+        Ok(_) => match one_broken(alloc, rule, place) {
             Ok(rules) => Refusal::Broken(rules),
             Err(_) => Refusal::NoMemory,
         },
         Err(refusal) => refusal,
     }
+}
+
+/// What is broken in a part, or else that it can't stand where it does.
+pub fn wrong<T: Drop>(alloc: Global, part: Result<T, Refusal>, place: Place) -> Refusal
+    ensures { Refuses (record { rule = rule.WrongType; place = place } ∷ []) part result }
+{
+    refused(alloc, part, Rule::WrongType, place)
 }
 
 /// What is broken in a part, beside what is broken elsewhere.

@@ -38,7 +38,7 @@ pub fn own_module(name: &[u8]) -> Option<&[u8]>
 }
 
 /// The module of a name, which is empty for none.
-fn module_of(name: &[u8]) -> &[u8]
+pub fn module_of(name: &[u8]) -> &[u8]
     ensures { result.now ≡ module_of name.now }
 {
     match module_len(name) {

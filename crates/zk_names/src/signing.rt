@@ -1,16 +1,17 @@
 ghost use Rattle.std.specs.Prelude.{◌≡◌, List, Option, map, IfOk};
 ghost use Rattle.std.specs.Option.{option_copied, option_map};
 ghost use Rattle.zk_typed.specs.Checked.{Checked};
+ghost use Rattle.zk_typed.specs.Errors.{kind_of};
 ghost use Rattle.zk_typed.specs.Resolving as spec;
 ghost use Rattle.zk_typed.specs.Tells.{Tells};
 ghost use Rattle.zk_typed.specs.Types as typed;
 ghost use Rattle.zk_typed.specs.View.{type_of};
 ghost use Rattle.zk_names.specs.Keys.{param_types_of};
-ghost use Rattle.zk_names.specs.Lent.{home_of, signature_of};
+ghost use Rattle.zk_names.specs.Lent.{home_of, meant_of, signature_of};
 ghost use Rattle.zk_names.specs.Scripted.{scripts_in};
 
 use crate::copying::copied_type;
-use crate::declared::Signature;
+use crate::declared::{Meant, Signature};
 use crate::gathering::appended;
 use crate::home::Home;
 use crate::known::Names;
@@ -18,7 +19,7 @@ use crate::typing::{named_type, type_to};
 use sqlite_items::Items;
 use std::alloc::{AllocError, Global};
 use zk_base::Sequence;
-use zk_tree::{Name, Param, Type};
+use zk_tree::{BodyKind, Name, Param, Type};
 use zk_typed::Refusal;
 use zk_typed::script::ValueType;
 
@@ -62,6 +63,17 @@ fn hushed_type(
         Ok(one) => Ok(one),
         Err(Refusal::Broken(_)) => Err(Refusal::Broken(Items::new(alloc))),
         Err(Refusal::NoMemory) => Err(Refusal::NoMemory),
+    }
+}
+
+/// The signature of a name of events or of hooks.
+pub fn body_signature<'a, 'b>(kind: BodyKind, meant: &'b Meant<'a>) -> Option<&'b Signature<'a>>
+    ensures { option_map (λ one. signature_of one.now) result ≡ kind_of kind (meant_of meant.entry.now) }
+{
+    match (kind, meant) {
+        (BodyKind::Event, Meant::Event { signature })
+        | (BodyKind::Hook, Meant::Hook { signature }) => Some(signature),
+        _ => None,
     }
 }
 

@@ -1,4 +1,5 @@
-ghost use Rattle.std.specs.Prelude.{◌≡◌, IfOk};
+ghost use Rattle.std.specs.Prelude.{◌≡◌, map, IfOk};
+ghost use Rattle.zk_typed.specs.LogCalls as logs;
 ghost use Rattle.zk_typed.specs.Operations as spec;
 ghost use Rattle.zk_typed.specs.View.{type_of};
 
@@ -96,6 +97,25 @@ pub fn same_type(a: &ValueType, b: &ValueType) -> bool
             | ValueType::Set { .. } => false,
         },
     }
+}
+
+/// Whether types are the same, one by one.
+pub fn same_types(some: &[ValueType], others: &[ValueType]) -> bool
+    ensures { result ≡ logs.same_types (map type_of some.now) (map type_of others.now) }
+{
+    let mut left = others;
+    for one in some {
+        match left.split_first() {
+            None => return false,
+            Some((first, rest)) => {
+                if !same_type(one, first) {
+                    return false;
+                }
+                left = rest;
+            }
+        }
+    }
+    left.is_empty()
 }
 
 /// A copy of the types of keys.

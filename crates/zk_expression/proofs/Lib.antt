@@ -8,6 +8,7 @@ pub mod FormLaws
 pub mod GivenLaws
 pub mod KeyLaws
 pub mod Leftovers
+pub mod LogLaws
 pub mod MarkLaws
 pub mod Matching
 pub mod MemberLaws

@@ -6,23 +6,33 @@ use Rattle.std.specs.Option.{option_map}
 use Rattle.std.specs.Str.{bytes_eq}
 use Rattle.zk_base.specs.declared.numbers.RecordNo.{RecordNo}
 use Rattle.zk_names.specs.Same.{same_bytes}
-use Rattle.zk_tree.specs.declared.expr.Expr.{Expr}
+use Rattle.zk_tree.specs.declared.decl.BodyKind.{BodyKind}
+use Rattle.zk_tree.specs.declared.decl.BodyKind.TheVariants as body
+use Rattle.zk_tree.specs.declared.expr.Expr.{Expr, out-Expr}
 use Rattle.zk_tree.specs.declared.expr.Expr.TheOpen.{Item-F}
 use Rattle.zk_tree.specs.declared.expr.Expr.TheOpen as written
 use Rattle.zk_tree.specs.declared.expr.Item.{Item, out-Item}
 use Rattle.zk_tree.specs.declared.expr.Link.{Link}
 use Rattle.zk_tree.specs.declared.expr.Part.{Part}
+use Rattle.zk_tree.specs.declared.name.Name.{Name}
 use Rattle.zk_typed.specs.declared.refusal.Refusal.{Refusal}
 use Rattle.zk_typed.specs.declared.refusal.Refusal.TheVariants.{Broken, NoMemory}
 use Rattle.zk_typed.specs.declared.rule.Rule.TheVariants as rule
 use Rattle.zk_typed.specs.Checked.{Checked, broken, both, require, ◌>>=◌, ◌>>◌}
 use Rattle.zk_typed.specs.Declarations.{nothing}
-use Rattle.zk_typed.specs.LogCalls.{among, log_type, log_word, only_settings, setting_name, setting_rules, word_of}
-use Rattle.zk_typed.specs.Names.{Declared}
+use Rattle.zk_typed.specs.Errors.{kind_of}
+use Rattle.zk_typed.specs.LogCalls.{among, event_kind, hook_kind, log_type, log_word, named_signature, only_settings, setting_name, setting_rules, word_of}
+use Rattle.zk_typed.specs.Names.{BuiltInFunction, Declared, Event, Function, Hook, KnownType, Log, Meant, Signature, Variable, Word, WrittenType}
+use Rattle.zk_typed.specs.Resolving.{params_of}
 use Rattle.zk_typed.specs.Tells.{Tells}
+use Rattle.zk_typed.specs.Types.{ValueType}
 use Rattle.zk_typed.specs.Typing.{Check, Env, Nothing, at, expr_place, found}
+use Rattle.zk_operator.specs.declared.operands.Typed.{Typed as RustTyped}
+use Rattle.zk_operator.specs.Views.{typed_of}
 use Rattle.zk_expression.specs.declared.log_words.LogWord.{LogWord}
-use Rattle.zk_expression.specs.LogSettings.{AreAlike, ColumnsTold, PathsTold, StreamTold, filter_view, kept_view, log_word_of, logged_word, typed_word, with_type}
+use Rattle.zk_expression.specs.Refusing.{Refuses}
+use Rattle.zk_expression.proofs.Refusals.{refused}
+use Rattle.zk_expression.specs.LogSettings.{AreAlike, ColumnsTold, PathsTold, StreamTold, filter_view, kept_view, log_word_of, logged_word, signed_declared, typed_word, with_type}
 
 -- Refusals ---------------------------------------------------------------------------------------------------------
 
@@ -40,6 +50,54 @@ pub word_passed : {B B' : Type 0} (vb : B → B') (ca : Checked (Declared × Opt
     Tells log_word_of (Err refusal) ca → Tells vb (Err refusal) (ca >>= k)
 word_passed vb ca k (Broken rules) h = rw h refl
 word_passed vb ca k NoMemory h = tt
+
+-- Names ------------------------------------------------------------------------------------------------------------
+
+by_params : (env : Env) (kind : BodyKind) (wanted : Option (List ValueType)) (one : Expr) (name : Name) (declared : Declared) (signature : Signature) (params : Checked (List ValueType)) →
+    out-Expr one ≡ written.Name name → found env name ≡ Some declared → kind_of kind declared.meant ≡ Some signature → params_of env.scripts signature ≡ params →
+    named_signature env (kind_of kind) wanted one ≡ signed_declared env kind wanted (expr_place env one) declared
+by_params env kind None one name declared signature (Ok params) e f h p = rw e (rw f (rw h (rw p refl)))
+by_params env kind (Some types) one name declared signature (Ok params) e f h p = rw e (rw f (rw h (rw p refl)))
+by_params env kind wanted one name declared signature (Err rules) e f h p = rw e (rw f (rw h (rw p refl)))
+
+by_signature : (env : Env) (kind : BodyKind) (wanted : Option (List ValueType)) (one : Expr) (name : Name) (declared : Declared) (signature : Option Signature) →
+    out-Expr one ≡ written.Name name → found env name ≡ Some declared → kind_of kind declared.meant ≡ signature →
+    named_signature env (kind_of kind) wanted one ≡ signed_declared env kind wanted (expr_place env one) declared
+by_signature env kind wanted one name declared None e f h = rw e (rw f (rw h refl))
+by_signature env kind wanted one name declared (Some signature) e f h = by_params env kind wanted one name declared signature (params_of env.scripts signature) e f h refl
+
+-- a name that is declared, as one of events or of hooks
+pub signed_is : (env : Env) (kind : BodyKind) (wanted : Option (List ValueType)) (one : Expr) (name : Name) (declared : Declared) →
+    out-Expr one ≡ written.Name name → found env name ≡ Some declared → named_signature env (kind_of kind) wanted one ≡ signed_declared env kind wanted (expr_place env one) declared
+signed_is env kind wanted one name declared e f = by_signature env kind wanted one name declared (kind_of kind declared.meant) e f refl
+
+event_is : (meant : Meant) → event_kind meant ≡ kind_of body.Event meant
+event_is (KnownType one) = refl
+event_is (WrittenType home tree) = refl
+event_is (Word number) = refl
+event_is (Variable home lasting tree init attrs) = refl
+event_is (Event signature) = refl
+event_is (Hook signature) = refl
+event_is (Function signature) = refl
+event_is (BuiltInFunction function) = refl
+event_is (Log function) = refl
+
+hook_is : (meant : Meant) → hook_kind meant ≡ kind_of body.Hook meant
+hook_is (KnownType one) = refl
+hook_is (WrittenType home tree) = refl
+hook_is (Word number) = refl
+hook_is (Variable home lasting tree init attrs) = refl
+hook_is (Event signature) = refl
+hook_is (Hook signature) = refl
+hook_is (Function signature) = refl
+hook_is (BuiltInFunction function) = refl
+hook_is (Log function) = refl
+
+pub events_are : event_kind ≡ kind_of body.Event
+events_are = λ i meant. event_is meant i
+
+pub hooks_are : hook_kind ≡ kind_of body.Hook
+hooks_are = λ i meant. hook_is meant i
 
 -- Words ------------------------------------------------------------------------------------------------------------
 
@@ -59,6 +117,13 @@ by_word check env one (Some word) e = by_type check env one word (log_type env.s
 
 pub word_is : (check : Check) (env : Env) (one : Expr) → log_word check env one ≡ word_or check env one (logged_word env one)
 word_is check env one = by_word check env one (word_of (found env) one) refl
+
+pub no_word : (check : Check) (env : Env) (one : Expr) (part : Result RustTyped Refusal) (refusal : Refusal) → None ≡ logged_word env one →
+    Refuses (record { rule = rule.WrongType; place = expr_place env one } ∷ []) part refusal → Tells typed_of part (check Nothing one) → Tells log_word_of (Err refusal) (log_word check env one)
+no_word check env one part refusal none h k = rw (word_is check env one ∙ ap (word_or check env one) (sym none)) (refused typed_of log_word_of part _ refusal (check Nothing one) h k)
+
+pub the_word : (check : Check) (env : Env) (one : Expr) (word : LogWord) → Some (log_word_of word) ≡ logged_word env one → Tells log_word_of (Ok word) (log_word check env one)
+the_word check env one word is = word_is check env one ∙ ap (word_or check env one) (sym is)
 
 -- Settings ---------------------------------------------------------------------------------------------------------
 

@@ -75,7 +75,12 @@ pub fn names_setting<'a>(
 pub fn is_among(name: &[u8], names: &[&[u8]]) -> bool
     ensures { result ≡ logs.among name.now (texts_lent names.now) }
 {
-    names.iter().any(|other| *other == name)
+    for other in names {
+        if *other == name {
+            return true;
+        }
+    }
+    false
 }
 
 /// Whether a filter keeps a column: one that is included, or any where none is named, but none that is

@@ -72,7 +72,7 @@ fn filter_of(
     path: Option<Bytes>,
     kept: ColumnParts<'_>,
 ) -> Result<Typed, Mem>
-    ensures { IfOk result (λ made. typed_of made ≡ filter_of (env_of env.now) (declared_of word.now) number name path (kept_view kept)) }
+    ensures { IfOk result (λ made. typed_of made ≡ filter_of (env_of env.now) (declared_of word.now) number name path (kept_view kept.entry)) }
 {
     let (named, policy) = kept;
     let (included, excluded) = named;
@@ -99,7 +99,7 @@ pub fn filter_made(
     paths: PathParts,
     kept: ColumnParts<'_>,
 ) -> Result<Typed, Refusal>
-    ensures { Tells typed_of result (filter_made (env_of env.now) (declared_of word.now.declared.now) word.now.columns brackets paths (kept_view kept)) }
+    ensures { Tells typed_of result (filter_made (env_of env.now) (declared_of word.now.declared.now) word.now.columns brackets paths (kept_view kept.entry)) }
 {
     let (name, path) = paths;
     let Some(name) = name else {

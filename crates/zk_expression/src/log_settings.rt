@@ -1,5 +1,6 @@
 //! The paths and texts that calls of the log framework give (Zeek manual, Logging Framework).
 ghost use Rattle.std.specs.Prelude.{◌≡◌, None};
+ghost use Rattle.std.specs.List.{list_all};
 ghost use Rattle.zk_names.specs.Lent.{declared_of};
 ghost use Rattle.zk_typed.specs.LogCalls as logs;
 ghost use Rattle.zk_typed.specs.Tells.{Tells};
@@ -33,11 +34,23 @@ fn is_path_byte(byte: u8) -> bool
     matches!(byte, b'a'..=b'z' | b'0'..=b'9' | b'_' | b'-')
 }
 
+/// Whether all bytes may stand in a path.
+fn are_path_bytes(bytes: &[u8]) -> bool
+    ensures { result ≡ list_all logs.is_path_byte bytes.now }
+{
+    for byte in bytes {
+        if !is_path_byte(*byte) {
+            return false;
+        }
+    }
+    true
+}
+
 /// Whether bytes can be a path or the name of a filter: 1 to 64 of `a-z 0-9 _ -`.
 fn is_path(bytes: &[u8]) -> bool
     ensures { result ≡ logs.is_path bytes.now }
 {
-    !bytes.is_empty() && bytes.len() <= 64 && bytes.iter().all(|byte| is_path_byte(*byte))
+    1 <= bytes.len() && bytes.len() <= 64 && are_path_bytes(bytes)
 }
 
 /// A path or the name of a filter, which a string in quotes gives.

@@ -6,7 +6,7 @@ use Rattle.zk_typed.specs.LogCalls.{only_settings}
 use Rattle.zk_operator.specs.Gather.{told, Told}
 use Rattle.zk_expression.specs.Envs.{env_of}
 use Rattle.zk_expression.specs.LogSettings.{all_texts, texts_lent}
-use Rattle.zk_expression.proofs.log.Judge.only_settings.Given as goal
+use Rattle.zk_expression.proofs.judge.Judge.only_settings.Given as goal
 
 abbrev pub invariant-loop-item : goal.invariant-loop-item
 invariant-loop-item g l = Told l.told →

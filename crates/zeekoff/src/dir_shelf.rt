@@ -1,4 +1,4 @@
-ghost use Rattle.std.specs.Prelude.{◌≡◌, ◌≢◌, ◌↔◌, ◌<◌, length, take, is_some, IsTrue, IfOk, IfErr, OnErr, IsErrAnd, IsOk, MatchResult, false};
+ghost use Rattle.std.specs.Prelude.{◌≡◌, ◌≢◌, ◌↔◌, ◌<◌, length, take, is_some, IsTrue, IfOk, IfErr, OnErr, IsErr, IsErrAnd, IsOk, MatchResult, false};
 ghost use Rattle.std.specs.IoError.{error_kind};
 ghost use Rattle.std.specs.Str.{IsUtf8};
 ghost use Rattle.std.specs.Io.{ReadsAtMost};
@@ -85,6 +85,7 @@ impl<F: Files, O: Write, E: Write> Shelf for DirShelf<F, O, E> {
 
     fn create(&mut self, name: &[u8]) -> Wrote
         ensures leaves { Creates (untold (is_some self.old.input) self.old.counts) name.now result (untold (is_some self.new.input) self.new.counts) }
+        ensures no_text { ¬ (IsUtf8 name.now) → result ≡ Wrote.Failed }
         ensures rest { self.new ≡ record self.old { counts = self.new.counts } }
     {
         let created = create(&self.files, name);
@@ -93,6 +94,7 @@ impl<F: Files, O: Write, E: Write> Shelf for DirShelf<F, O, E> {
 
     fn append(&mut self, name: &[u8], bytes: &[u8]) -> Wrote
         ensures leaves { Puts (after_append (untold (is_some self.old.input) self.old.counts) name.now) (untold (is_some self.old.input) self.old.counts) bytes.now result (untold (is_some self.new.input) self.new.counts) }
+        ensures no_text { ¬ (IsUtf8 name.now) → result ≡ Wrote.Failed }
         ensures rest { self.new ≡ record self.old { counts = self.new.counts } }
     {
         let appended = append(&self.files, name, bytes);
@@ -139,6 +141,7 @@ fn started<T>(opened: &io::Result<T>, counts: &mut Counts) -> Started
 /// What became of a write, which is counted if it failed.
 fn wrote(written: io::Result<()>, counts: &mut Counts) -> Wrote
     ensures done { (result ≡ Wrote.Done) ↔ IsOk written }
+    ensures failed { IsErr written → result ≡ Wrote.Failed }
     ensures counted { CountsWrite counts.old result counts.new }
 {
     match written {
@@ -168,14 +171,18 @@ fn open<F: Files>(files: &F, name: &[u8]) -> io::Result<F::File>
     File::open(files, path(name)?)
 }
 
-fn create<F: Files>(files: &F, name: &[u8]) -> io::Result<()> {
+fn create<F: Files>(files: &F, name: &[u8]) -> io::Result<()>
+    ensures { ¬ (IsUtf8 name.now) → IsErr result }
+{
     File::create(files, path(name)?)?;
     Ok(())
 }
 
 /// Adds to the end of a file that is there. It is opened for this alone, so that no output is open
 /// while something is said, and all is with the system when this returns.
-fn append<F: Files>(files: &F, name: &[u8], bytes: &[u8]) -> io::Result<()> {
+fn append<F: Files>(files: &F, name: &[u8], bytes: &[u8]) -> io::Result<()>
+    ensures { ¬ (IsUtf8 name.now) → IsErr result }
+{
     let mut file = File::options().append(true).open(files, path(name)?)?;
     file.write_all(bytes)
 }

@@ -8,3 +8,4 @@ pub mod Comparisons
 pub mod Sizes
 pub mod OperandLists
 pub mod Vectors
+pub mod ValueLaws

@@ -5,3 +5,4 @@ pub mod Attributes
 pub mod Gather
 pub mod Literals
 pub mod Gathering
+pub mod Values

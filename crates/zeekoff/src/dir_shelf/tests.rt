@@ -21,6 +21,9 @@ fn a_real_folder_holds_what_was_written(rt: HostRuntime) -> Result<(), Fail> {
     // Nothing is there until it is made, and what is made anew is empty.
     assert_eq!(rt; shelf.start(name), Started::Absent);
     assert_eq!(rt; shelf.create(name), Wrote::Done);
+    // A name is the whole of it: one that ends in a blank is another one.
+    let with_blank = folder.join(rt.alloc(), "out.log ")?;
+    assert_eq!(rt; shelf.start(with_blank.as_str().as_bytes()), Started::Absent);
     assert_eq!(rt; shelf.append(name, b"gone"), Wrote::Done);
     assert_eq!(rt; shelf.create(name), Wrote::Done);
     assert_eq!(rt; shelf.append(name, b"zee"), Wrote::Done);
@@ -55,11 +58,12 @@ fn what_cannot_be_read_or_written_is_counted(rt: HostRuntime) -> Result<(), Fail
     assert_eq!(rt; shelf.create(b"\xff.log"), Wrote::Failed);
     assert_eq!(rt; shelf.append(b"/dev/full", b"row"), Wrote::Failed);
     assert_eq!(rt; shelf.append(b"/dev/nothing.log", b"row"), Wrote::Failed);
+    assert_eq!(rt; shelf.append(b"\xff.log", b"row"), Wrote::Failed);
     assert_eq!(rt;
         shelf.counts,
         Counts {
             read_faults: 3,
-            write_faults: 4,
+            write_faults: 5,
             absences: 1
         }
     );

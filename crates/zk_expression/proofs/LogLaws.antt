@@ -178,7 +178,7 @@ alike_rules check env allowed some others (written.Item::Field place name value)
 
 alike_name : (allowed some others : List (List ℕ)) (item : Item-F Expr Item Part Link) → AreAlike allowed some others → AreAlike allowed (setting_name item some) (setting_name item others)
 alike_name allowed some others (written.Value value) alike = alike
-alike_name allowed some others (written.Item::Field place one value) alike name is_allowed = ap (λ more. bytes_eq one.text name || more) (alike name is_allowed)
+alike_name allowed some others (written.Item::Field place one value) alike = λ name is_allowed. ap (λ more. bytes_eq one.text name || more) (alike name is_allowed)
 
 pub alike_only : (check : Check) (env : Env) (allowed some others : List (List ℕ)) (items : List Item) → AreAlike allowed some others →
     only_settings check env allowed some items ≡ only_settings check env allowed others items

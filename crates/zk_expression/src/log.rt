@@ -321,7 +321,6 @@ impl<F: Fn(Global, &Env<'_>, u64, Wanted<'_>, &Expr) -> Result<Typed, Refusal>> 
     }
 
     /// The word of a log that has a stream, with its record type.
-    #[tactic(auto, using(crate::proofs::LogLaws::no_word, crate::proofs::LogLaws::the_word))]
     fn log_word(&self, one: &Expr) -> Result<LogWord<'_>, Refusal>
         requires { Judges self.now.depth (F.pre self.now.part) (F.post self.now.part) }
         ensures { Tells log_word_of result (logs.log_word (rules.expr_to self.now.depth (env_of self.now.env.now)) (env_of self.now.env.now) one.now) }

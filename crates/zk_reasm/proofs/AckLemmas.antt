@@ -34,7 +34,7 @@ pub record Acks (old mid : Stream) (number named known most : ℕ) : Type 0 wher
   pub front_moves : (free : ℕ) → IsFirstFree (byte_kept old.held) (max old.held.front known) free → mid.held.front ≡ min free most
 
 pub ack_moved : (old mid : Stream) (base limit : ℕ) (told : List Told) (taken number named known most : ℕ) → StandsFor old base limit told taken → old.is_over ≡ false
-    → Acks old mid number named known most → Moved old mid base told (Ack number) taken (byte_kept old.held) known most
+    → Acks old mid number named known most → Moved old mid base told (Ack number) taken taken (byte_kept old.held) known most
 ack_moved old mid base limit told taken number named known most stands on acks = record {
   base_is = acks.base_is;
   limit_is = acks.limit_is;
@@ -47,6 +47,8 @@ ack_moved old mid base limit told taken number named known most stands on acks =
       ∙ ap (max (acked base told)) (acks.named_is ∙ ap (λ b. unwrap_or (place b number) 0) stands.base_is) ∙ sym (acked-append base told (Ack number));
   payload_is = acks.payload_is ∙ stands.payload_is on ∙ sym payload_same;
   taken_is = acks.taken_is ∙ stands.taken_is;
+  more = omega arith;
+  low = omega arith;
   held = λ at low. acks.bytes_are at (omega (arith, low, stands.taken_is));
   bytes_are = λ at low. stands.bytes_are at low ∙ kept_live base limit told at over_false ∙ ap (λ xs. byte_at base xs at) counts ∙ sym (byte_same at);
   known_is = acks.known_is;
@@ -75,7 +77,7 @@ pub ack_answer : (old mid new : Stream) (base limit : ℕ) (told : List Told) (t
     → ltb old.held.front new.held.front ≡ ack_of base limit told number
 ack_answer old mid new base limit told taken number named known most over finishes stands on acks =
     let moved = ack_moved old mid base limit told taken number named known most stands on acks in
-    let reached = reached_moved old mid base limit told (Ack number) taken (byte_kept old.held) known most stands on moved in
+    let reached = reached_moved old mid base limit told (Ack number) taken taken (byte_kept old.held) known most stands on moved in
     ap (λ n. ltb n new.held.front) stands.front_is
     ∙ ap (ltb (front_of base limit told)) (finishes.front ∙ reached.front_is ∙ ap (front base) (sym (counted_more base limit told (Ack number) (sym stands.over_is ∙ on))))
 

@@ -166,6 +166,33 @@ sound_filled held apart from count bytes behind front within filled counted room
       room = omega (arith, more, counted, room);
     }
 
+-- nothing lies behind the run where nothing is held
+pub nothing_apart : (held : Held) → held.kept ≡ 0 → held_between (byte_apart held.apart) held.run_end PLACES ≡ 0
+nothing_apart held nothing = omega (arith, held.kept_counts, nothing)
+
+-- the counts of a front that went past places where nothing is held
+pub sound_past : (held : Held) (n : ℕ) → held.kept ≡ 0 → held.run_end ≡ held.front → held.front + n ≤ PLACES
+    → IsSound (held.front + n) held.above held.kept held.run (held.run_end + n) held.apart × (held.above ≡ 0)
+sound_past held n nothing taken within =
+    let none = nothing_apart held nothing in
+    let cut = held_between-split (byte_apart held.apart) held.run_end (held.run_end + n) PLACES (omega arith) (omega (arith, taken, within)) in
+    let old = held_between-same (byte_held held.run held.run_end held.apart) (byte_apart held.apart) held.front PLACES
+    (λ at low high. ap is_some (byte_held-apart held.run held.run_end held.apart at (omega (arith, low, taken)))) in
+    let new = held_between-same (byte_held held.run (held.run_end + n) held.apart) (byte_apart held.apart) (held.front + n) PLACES
+    (λ at low high. ap is_some (byte_held-apart held.run (held.run_end + n) held.apart at (omega (arith, low, taken)))) in
+    let from = ap (λ a. held_between (byte_apart held.apart) a PLACES) taken in
+    let from_new = ap (λ a. held_between (byte_apart held.apart) (a + n) PLACES) taken in (
+      record {
+        start = omega (arith, held.start);
+        end = omega (arith, taken, within);
+        front_within = within;
+        kept_counts = omega (arith, held.kept_counts, nothing, none, cut);
+        above_counts = omega (arith, held.above_counts, old, new, from, from_new, none, cut);
+        room = omega (arith, none, cut);
+      },
+      omega (arith, held.above_counts, old, from, none),
+    )
+
 -- what a change of room leaves as it was
 pub stays_same : (old new : Held) → new.front ≡ old.front → new.above ≡ old.above → new.kept ≡ old.kept → new.run_end ≡ old.run_end
     → bytes_of new.run ≡ bytes_of old.run → ((at : ℕ) → byte_apart new.apart at ≡ byte_apart old.apart at) → Stays old new

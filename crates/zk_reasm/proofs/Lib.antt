@@ -12,6 +12,7 @@ pub mod PageLemmas
 pub mod PagesLemmas
 pub mod PieceLemmas
 pub mod PlaceLemmas
+pub mod PassLemmas
 pub mod PutLemmas
 pub mod RangeLemmas
 pub mod StandingLemmas

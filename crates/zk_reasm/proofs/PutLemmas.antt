@@ -4,7 +4,6 @@ use Rattle.std.specs.Prelude.{is_some, is_none, unwrap_or}
 use Rattle.std.specs.List.{list_any, range_with_len}
 use Rattle.std.specs.Option.{option_or}
 use Rattle.std.proofs.lemmas.Bool.{cases_lt, cases_eq, false≢true, lt-leb, le-leb, lt-ltb, le-ltb}
-use Rattle.zk_reasm.specs.declared.held.Held.{Held}
 use Rattle.zk_reasm.specs.declared.place.TheConstants.{PLACES}
 use Rattle.zk_reasm.specs.declared.stream.Put.TheVariants.{Grew, Kept, Old, GaveUp}
 use Rattle.zk_reasm.specs.declared.stream.Stream.{Stream}
@@ -26,44 +25,44 @@ use Rattle.zk_reasm.proofs.StandingLemmas.{Moved, reached_moved, reached_above}
 use Rattle.zk_reasm.proofs.ToldLemmas.{step_of, byte_at-append, acked-append, payload_end-append, greatest-range-some}
 
 -- what the code did with the segment's bytes
-pub record Puts (old : Stream) (seq : ℕ) (bytes : List ℕ) (piece cut : ℕ) (whole rest : List ℕ) (end count : ℕ) (added : Held) : Type 0 where
+pub record Puts (old : Stream) (seq : ℕ) (bytes : List ℕ) (piece cut : ℕ) (whole rest : List ℕ) (end count : ℕ) (added : ℕ → Option ℕ) : Type 0 where
   pub whole_is : (at : ℕ) → byte_in piece whole at ≡ byte_of old.base seq bytes at
   pub places_are : places_of old.base seq bytes ≡ range_with_len piece (length whole)
   pub within : piece + length whole ≤ PLACES
   pub rest_is : (at : ℕ) → byte_in cut rest at ≡ cond (leb old.held.front at) (byte_in piece whole at) None
   pub end_is : end ≡ greatest (map (λ at. at + 1) (range_with_len piece (length whole)))
-  pub added_are : (at : ℕ) → byte_kept added at ≡ option_or (byte_kept old.held at) (byte_in cut rest at)
+  pub added_are : (at : ℕ) → added at ≡ option_or (byte_kept old.held at) (byte_in cut rest at)
   pub counted : count + held_between (byte_kept old.held) cut (cut + length rest) ≡ length rest
-  pub taken_is : taken_of added ≡ taken_of old.held
-  pub front_is : added.front ≡ old.held.front
 
 -- and then with the front
-pub record Goes (old mid : Stream) (end : ℕ) (added : Held) (known most : ℕ) : Type 0 where
+pub record Goes (old mid : Stream) (end : ℕ) (added : ℕ → Option ℕ) (taken known most : ℕ) : Type 0 where
   pub base_is : mid.base ≡ old.base
   pub limit_is : mid.limit ≡ old.limit
   pub fin_is : mid.fin ≡ old.fin
   pub over_is : mid.is_over ≡ old.is_over
   pub acked_is : mid.acked ≡ old.acked
   pub payload_is : mid.payload_end ≡ max old.payload_end end
-  pub bytes_are : (at : ℕ) → taken_of added ≤ at → byte_kept mid.held at ≡ byte_kept added at
-  pub taken_is : taken_of mid.held ≡ taken_of added
+  pub taken_is : taken_of mid.held ≡ taken
+  pub more : taken_of old.held ≤ taken
+  pub low : taken ≤ max (taken_of old.held) mid.held.front
+  pub bytes_are : (at : ℕ) → taken ≤ at → byte_kept mid.held at ≡ added at
   pub known_is : known ≡ min mid.acked (max mid.payload_end (unwrap_or mid.fin 0))
   pub most_is : most ≡ max old.held.front (min PLACES (unwrap_or mid.fin PLACES))
-  pub front_moves : (free : ℕ) → IsFirstFree (byte_kept added) (max added.front known) free → mid.held.front ≡ min free most
+  pub front_moves : (free : ℕ) → IsFirstFree added (max old.held.front known) free → mid.held.front ≡ min free most
 
 cond_same : (b : Bool) (o : Option ℕ) → cond b o o ≡ o
 cond_same true o = refl
 cond_same false o = refl
 
 -- the end of places that stand one behind another
-end_of : (a n end : ℕ) → end ≡ greatest (map (λ at. at + 1) (range_with_len a n)) → ((n ≡ 0) × (end ≡ 0)) ⊎ ((0 < n) × (end ≡ a + n))
+pub end_of : (a n end : ℕ) → end ≡ greatest (map (λ at. at + 1) (range_with_len a n)) → ((n ≡ 0) × (end ≡ 0)) ⊎ ((0 < n) × (end ≡ a + n))
 end_of a zero end is = inl (refl, is)
 end_of a (suc n) end is = inr (omega arith, is ∙ greatest-range-some a (suc n) (omega arith))
 
-pub put_moved : (old mid : Stream) (base limit : ℕ) (told : List Told) (taken seq : ℕ) (bytes : List ℕ) (piece cut : ℕ) (whole rest : List ℕ) (end count : ℕ) (added : Held) (known most : ℕ)
-    → StandsFor old base limit told taken → old.is_over ≡ false → Puts old seq bytes piece cut whole rest end count added → Goes old mid end added known most
-    → Moved old mid base told (Segment seq bytes) taken (byte_kept added) known most
-put_moved old mid base limit told taken seq bytes piece cut whole rest end count added known most stands on puts goes = record {
+pub put_moved : (old mid : Stream) (base limit : ℕ) (told : List Told) (was taken seq : ℕ) (bytes : List ℕ) (piece cut : ℕ) (whole rest : List ℕ) (end count : ℕ) (added : ℕ → Option ℕ) (known most : ℕ)
+    → StandsFor old base limit told was → old.is_over ≡ false → Puts old seq bytes piece cut whole rest end count added → Goes old mid end added taken known most
+    → Moved old mid base told (Segment seq bytes) was taken added known most
+put_moved old mid base limit told was taken seq bytes piece cut whole rest end count added known most stands on puts goes = record {
   base_is = goes.base_is;
   limit_is = goes.limit_is;
   fin_is = goes.fin_is;
@@ -73,12 +72,14 @@ put_moved old mid base limit told taken seq bytes piece cut whole rest end count
   no_stop = refl;
   acked_is = goes.acked_is ∙ stands.acked_is on ∙ sym (acked-append base told (Segment seq bytes) ∙ (let e : max (acked base told) 0 ≡ acked base told = omega arith in e));
   payload_is = goes.payload_is ∙ ap (λ n. max n end) (stands.payload_is on) ∙ sym payload_same;
-  taken_is = goes.taken_is ∙ puts.taken_is ∙ stands.taken_is;
-  held = λ at low. goes.bytes_are at (omega (arith, low, puts.taken_is, stands.taken_is));
+  taken_is = goes.taken_is;
+  more = omega (arith, goes.more, stands.taken_is);
+  low = omega (arith, goes.low, stands.taken_is);
+  held = goes.bytes_are;
   bytes_are = told_bytes;
   known_is = goes.known_is;
   most_is = goes.most_is;
-  front_moves = λ free first. goes.front_moves free (subst (λ n. IsFirstFree (byte_kept added) (max n known) free) (sym puts.front_is) first);
+  front_moves = goes.front_moves;
   end = ⊎_elim
       (λ none. omega (arith, payload_same, none.1, old_end))
       (λ some. omega (arith, payload_same, some.1, old_end, puts.within))
@@ -118,7 +119,7 @@ put_moved old mid base limit told taken seq bytes piece cut whole rest end count
     put_none : (at : ℕ) → byte_in piece whole at ≡ None → byte_put base (step_of told (Segment seq bytes)) at ≡ None
     put_none at none = ap (λ o. cond (leb (reach base told) at) o None) (sym (whole_is at) ∙ none) ∙ cond_same (leb (reach base told) at) None
 
-    told_bytes : (at : ℕ) → taken ≤ at → byte_kept added at ≡ byte_at base (told ++ Segment seq bytes ∷ []) at
+    told_bytes : (at : ℕ) → was ≤ at → added at ≡ byte_at base (told ++ Segment seq bytes ∷ []) at
     told_bytes at low =
         puts.added_are at
         ∙ ap (λ o. option_or o (byte_in cut rest at)) (stands.bytes_are at low ∙ kept_live base limit told at over_false ∙ ap (λ xs. byte_at base xs at) counts)
@@ -199,7 +200,7 @@ list_any-range-some test a (suc n) at low high is =
     or_true false = refl
 
 -- where a piece has a byte
-byte_in_bounds : (from : ℕ) (bytes : List ℕ) (at : ℕ) → IsSome (byte_in from bytes at) → (from ≤ at) × (at < from + length bytes)
+pub byte_in_bounds : (from : ℕ) (bytes : List ℕ) (at : ℕ) → IsSome (byte_in from bytes at) → (from ≤ at) × (at < from + length bytes)
 byte_in_bounds from bytes at there =
     ⊎_elim
     (λ before. absurd (false≢true (sym (ap is_some (byte_in-before from bytes at before)) ∙ there)))
@@ -210,7 +211,7 @@ byte_in_bounds from bytes at there =
     (cases_lt at from)
 
 -- a byte was put exactly where one of the segment gets a place
-pub placed_is : (old : Stream) (base limit : ℕ) (told : List Told) (taken seq : ℕ) (bytes : List ℕ) (piece cut : ℕ) (whole rest : List ℕ) (end count : ℕ) (added : Held)
+pub placed_is : (old : Stream) (base limit : ℕ) (told : List Told) (taken seq : ℕ) (bytes : List ℕ) (piece cut : ℕ) (whole rest : List ℕ) (end count : ℕ) (added : ℕ → Option ℕ)
     → StandsFor old base limit told taken → old.is_over ≡ false → Puts old seq bytes piece cut whole rest end count added
     → ltb 0 count ≡ gets_place base told seq bytes
 unfolding gets_place
@@ -282,14 +283,14 @@ placed_is old base limit told taken seq bytes piece cut whole rest end count add
         (cases_lt at (reach base told))
 
 -- what the segment does
-pub answer_is : (old mid new : Stream) (base limit : ℕ) (told : List Told) (taken seq : ℕ) (bytes : List ℕ) (piece cut : ℕ) (whole rest : List ℕ) (end count : ℕ) (added : Held) (known most : ℕ) (gave_up over : Bool)
+pub answer_is : (old mid new : Stream) (base limit : ℕ) (told : List Told) (was taken seq : ℕ) (bytes : List ℕ) (piece cut : ℕ) (whole rest : List ℕ) (end count : ℕ) (added : ℕ → Option ℕ) (known most : ℕ) (gave_up over : Bool)
     → Finishes mid new over → gave_up ≡ ltb mid.limit mid.held.above
-    → StandsFor old base limit told taken → old.is_over ≡ false → Puts old seq bytes piece cut whole rest end count added → Goes old mid end added known most
+    → StandsFor old base limit told was → old.is_over ≡ false → Puts old seq bytes piece cut whole rest end count added → Goes old mid end added taken known most
     → cond gave_up GaveUp (cond (ltb old.held.front new.held.front) Grew (cond (ltb 0 count) Kept Old)) ≡ put_of base limit told seq bytes
 unfolding put_of
-answer_is old mid new base limit told taken seq bytes piece cut whole rest end count added known most gave_up over finishes is stands on puts goes =
-    let moved = put_moved old mid base limit told taken seq bytes piece cut whole rest end count added known most stands on puts goes in
-    let reached = reached_moved old mid base limit told (Segment seq bytes) taken (byte_kept added) known most stands on moved in
+answer_is old mid new base limit told was taken seq bytes piece cut whole rest end count added known most gave_up over finishes is stands on puts goes =
+    let moved = put_moved old mid base limit told was taken seq bytes piece cut whole rest end count added known most stands on puts goes in
+    let reached = reached_moved old mid base limit told (Segment seq bytes) was taken added known most stands on moved in
     let over_false : over_of base limit told ≡ false = sym stands.over_is ∙ on in
     let counts = counted_live base limit told over_false in
     ap (λ b. cond b GaveUp (cond (ltb old.held.front new.held.front) Grew (cond (ltb 0 count) Kept Old)))
@@ -297,7 +298,7 @@ answer_is old mid new base limit told taken seq bytes piece cut whole rest end c
     ∙ ap (λ b. cond (ltb limit (above base (told ++ Segment seq bytes ∷ []))) GaveUp (cond b Grew (cond (ltb 0 count) Kept Old)))
     (ap (λ n. ltb n new.held.front) (stands.front_is ∙ ap (front base) counts) ∙ ap (ltb (front base told)) (finishes.front ∙ reached.front_is))
     ∙ ap (λ b. cond (ltb limit (above base (told ++ Segment seq bytes ∷ []))) GaveUp (cond (ltb (front base told) (front base (told ++ Segment seq bytes ∷ []))) Grew (cond b Kept Old)))
-    (placed_is old base limit told taken seq bytes piece cut whole rest end count added stands on puts)
+    (placed_is old base limit told was seq bytes piece cut whole rest end count added stands on puts)
     ∙ sym (ap (λ b. cond b Old (put_counted base limit told seq bytes)) over_false)
 
 -- no byte gets a place where the stream is over

@@ -112,8 +112,8 @@ stands_judged mid new base limit told taken over reached is finishes new_over = 
         (cases_lt at mid.held.front)
     bytes false now ends at low = ends.kept (λ f. true≢false (sym f)) at ∙ reached.bytes_are at low ∙ same at ∙ sym (kept_live base limit told at now)
 
--- A stream that isn't over is told an entry that moves the front.
-pub record Moved (old mid : Stream) (base : ℕ) (told : List Told) (entry : Told) (taken : ℕ) (bytes : ℕ → Option ℕ) (known most : ℕ) : Type 0 where
+-- A stream that isn't over, and of which so much was taken, is told an entry that moves the front; then so much is taken.
+pub record Moved (old mid : Stream) (base : ℕ) (told : List Told) (entry : Told) (was taken : ℕ) (bytes : ℕ → Option ℕ) (known most : ℕ) : Type 0 where
   pub base_is : mid.base ≡ old.base
   pub limit_is : mid.limit ≡ old.limit
   pub fin_is : mid.fin ≡ old.fin
@@ -124,18 +124,20 @@ pub record Moved (old mid : Stream) (base : ℕ) (told : List Told) (entry : Tol
   pub acked_is : mid.acked ≡ acked base (told ++ entry ∷ [])
   pub payload_is : mid.payload_end ≡ payload_end base (told ++ entry ∷ [])
   pub taken_is : taken_of mid.held ≡ taken
+  pub more : was ≤ taken
+  pub low : taken ≤ max was mid.held.front
   pub held : (at : ℕ) → taken ≤ at → byte_kept mid.held at ≡ bytes at
-  pub bytes_are : (at : ℕ) → taken ≤ at → bytes at ≡ byte_at base (told ++ entry ∷ []) at
+  pub bytes_are : (at : ℕ) → was ≤ at → bytes at ≡ byte_at base (told ++ entry ∷ []) at
   pub known_is : known ≡ min mid.acked (max mid.payload_end (unwrap_or mid.fin 0))
   pub most_is : most ≡ max old.held.front (min PLACES (unwrap_or mid.fin PLACES))
   pub front_moves : (free : ℕ) → IsFirstFree bytes (max old.held.front known) free → mid.held.front ≡ min free most
   pub end : payload_end base (told ++ entry ∷ []) ≤ PLACES
   pub behind : (at : ℕ) → payload_end base (told ++ entry ∷ []) ≤ at → byte_at base (told ++ entry ∷ []) at ≡ None
 
-pub reached_moved : (old mid : Stream) (base limit : ℕ) (told : List Told) (entry : Told) (taken : ℕ) (bytes : ℕ → Option ℕ) (known most : ℕ)
-    → StandsFor old base limit told taken → old.is_over ≡ false → Moved old mid base told entry taken bytes known most
+pub reached_moved : (old mid : Stream) (base limit : ℕ) (told : List Told) (entry : Told) (was taken : ℕ) (bytes : ℕ → Option ℕ) (known most : ℕ)
+    → StandsFor old base limit told was → old.is_over ≡ false → Moved old mid base told entry was taken bytes known most
     → Reached mid base limit (told ++ entry ∷ []) taken
-reached_moved old mid base limit told entry taken bytes known most stands on moved = record {
+reached_moved old mid base limit told entry was taken bytes known most stands on moved = record {
   base_is = moved.base_is ∙ stands.base_is;
   limit_is = moved.limit_is ∙ stands.limit_is;
   fin_is = moved.fin_is ∙ stands.fin_is ∙ sym fin_same;
@@ -145,8 +147,8 @@ reached_moved old mid base limit told entry taken bytes known most stands on mov
   acked_is = moved.acked_is;
   payload_is = moved.payload_is;
   taken_is = moved.taken_is;
-  low = omega (arith, now, moving.front_is, taken_low);
-  bytes_are = λ at low. moved.held at low ∙ moved.bytes_are at low;
+  low = omega (arith, now, moving.front_is, moved.low, was_low);
+  bytes_are = λ at low. moved.held at low ∙ moved.bytes_are at (omega (arith, low, moved.more));
   end = moved.«end»;
   behind = moved.behind;
   order = λ short. moved_order bytes base (told ++ entry ∷ []) old.held.front (reach base told) known mid.fin moving
@@ -166,8 +168,8 @@ reached_moved old mid base limit told entry taken bytes known most stands on mov
     old_front : old.held.front ≡ front base told
     old_front = stands.front_is ∙ ap (front base) counts
 
-    taken_low : taken ≤ old.held.front
-    taken_low = let facts = run_facts old base limit told taken stands in omega (arith, facts.low, facts.high, stands.front_is)
+    was_low : was ≤ old.held.front
+    was_low = let facts = run_facts old base limit told was stands in omega (arith, facts.low, facts.high, stands.front_is)
 
     fin_same : fin_place base (told ++ entry ∷ []) ≡ fin_place base told
     fin_same = fin_place-append base told entry ∙ ap (option_or (fin_place base told)) moved.no_fin ∙ option_or_none (fin_place base told)
@@ -198,7 +200,7 @@ reached_moved old mid base limit told entry taken bytes known most stands on mov
           let held = stands.together.covered over_false at low (omega (arith, high, old_front)) in
           ap is_some (byte_at-append base told entry at ∙ option_or_held (byte_at base told at) (byte_put base (step_of told entry) at) held) ∙ held;
       behind = moved.behind;
-      same = λ at low. moved.bytes_are at (omega (arith, low, taken_low));
+      same = λ at low. moved.bytes_are at (omega (arith, low, was_low));
       short = ap (λ o. is_reached o old.held.front) (moved.fin_is ∙ stands.fin_is) ∙ ap (is_reached (fin_place base told)) old_front ∙ parts.short;
     }
 
@@ -246,15 +248,15 @@ no_stop_yet old base limit told entry taken stands on no_stop =
     list_any-one is_stop told entry ∙ ap (λ b. b || is_stop entry) parts.no_stop ∙ no_stop
 
 -- a stream that was told an entry that moves the front, and was judged
-pub stands_moved : (old mid new : Stream) (base limit : ℕ) (told : List Told) (entry : Told) (taken : ℕ) (bytes : ℕ → Option ℕ) (known most : ℕ)
+pub stands_moved : (old mid new : Stream) (base limit : ℕ) (told : List Told) (entry : Told) (was taken : ℕ) (bytes : ℕ → Option ℕ) (known most : ℕ)
     → Finishes mid new (is_reached mid.fin mid.held.front || ltb mid.limit mid.held.above)
     → new.is_over ≡ (mid.is_over || (is_reached mid.fin mid.held.front || ltb mid.limit mid.held.above))
-    → StandsFor old base limit told taken → old.is_over ≡ false → Moved old mid base told entry taken bytes known most
+    → StandsFor old base limit told was → old.is_over ≡ false → Moved old mid base told entry was taken bytes known most
     → StandsFor new base limit (told ++ entry ∷ []) taken
-stands_moved old mid new base limit told entry taken bytes known most finishes over stands on moved =
-    let reached = reached_moved old mid base limit told entry taken bytes known most stands on moved in
+stands_moved old mid new base limit told entry was taken bytes known most finishes over stands on moved =
+    let reached = reached_moved old mid base limit told entry was taken bytes known most stands on moved in
     let now = is_reached mid.fin mid.held.front || ltb mid.limit mid.held.above in
-    stands_judged mid new base limit (told ++ entry ∷ []) taken now reached (reached_over mid base limit (told ++ entry ∷ []) taken reached (no_stop_yet old base limit told entry taken stands on moved.no_stop)) finishes
+    stands_judged mid new base limit (told ++ entry ∷ []) taken now reached (reached_over mid base limit (told ++ entry ∷ []) taken reached (no_stop_yet old base limit told entry was stands on moved.no_stop)) finishes
     (over ∙ ap (λ b. b || now) reached.live)
 
 -- an entry that moves no front and puts no byte

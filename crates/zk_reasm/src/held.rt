@@ -1,4 +1,4 @@
-ghost use Rattle.std.specs.Prelude.{◌≡◌, ℕ, ◌+◌, ◌-◌, ◌<◌, ◌≤◌, false, max, min, drop, length, None, IsSome, IfOk, OnOk, OnErr};
+ghost use Rattle.std.specs.Prelude.{◌≡◌, ℕ, ◌+◌, ◌-◌, ◌<◌, ◌≤◌, true, false, max, min, drop, length, None, IsSome, IfOk, OnOk, OnErr};
 ghost use Rattle.std.specs.Option.{option_or};
 ghost use Rattle.zk_reasm.specs.declared.place.TheConstants.{PLACES};
 ghost use Rattle.zk_reasm.specs.Apart.{byte_apart};
@@ -79,6 +79,30 @@ impl Held {
             return Ok(self.append(piece));
         }
         self.put_apart(piece)
+    }
+
+    /// Whether nothing is held, and all up to the front was taken.
+    pub fn is_clear(&self) -> bool
+        ensures nothing { result ≡ true → self.now.kept ≡ 0 }
+        ensures taken { result ≡ true → self.now.run_end ≡ self.now.front }
+    {
+        self.kept == 0 && self.run_end == self.front
+    }
+
+    /// Moves the front past places whose bytes never lie here, where nothing is held and all up to the
+    /// front was taken.
+    pub fn go_past(&mut self, n: u64)
+        requires nothing { self.old.kept ≡ 0 }
+        requires taken { self.old.run_end ≡ self.old.front }
+        requires within { self.old.front + n ≤ PLACES }
+        ensures front { self.new.front ≡ self.old.front + n }
+        ensures taken { taken_of self.new ≡ self.new.front }
+        ensures bytes { (at : ℕ) → self.new.front ≤ at → byte_kept self.new at ≡ byte_kept self.old at }
+        ensures above { self.new.above ≡ 0 }
+        ensures settled { IsSettled self.new }
+    {
+        self.front += n;
+        self.run_end += n;
     }
 
     /// Makes room in the run for all that lies apart from it and this many bytes more.

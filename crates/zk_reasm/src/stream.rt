@@ -1,4 +1,4 @@
-ghost use Rattle.std.specs.Prelude.{◌≡◌, ℕ, ◌+◌, ◌-◌, ◌<◌, ◌≤◌, true, false, nat_lt, ◌||◌, if◌then◌else◌, min, max, List, [], ◌∷◌, ◌++◌, drop, length, unwrap_or, Option, IfOk, OnErr};
+ghost use Rattle.std.specs.Prelude.{◌≡◌, ℕ, ◌+◌, ◌-◌, ◌<◌, ◌≤◌, ◌==◌, true, false, nat_lt, ◌||◌, if◌then◌else◌, min, max, List, [], ◌∷◌, ◌++◌, drop, length, map, unwrap_or, Option, Some, IfOk, IfNone, IfSome, OnErr};
 ghost use Rattle.zk_reasm.specs.declared.place.TheConstants.{PLACES};
 ghost use Rattle.zk_reasm.specs.Held.{IsSettled};
 ghost use Rattle.zk_reasm.specs.Histories.{is_reached, content, run_of, gap_of, put_of, ack_of, front_of, ended_of, over_of, kept_of};
@@ -151,6 +151,33 @@ impl Stream {
         );
         let gave_up = self.judge();
         Ok(answer(gave_up, front < self.held.front, count > 0))
+    }
+
+    /// Lends what is new of the payload of a segment, where that begins at the front, or before it, and
+    /// nothing is held. What it lends counts as taken at once, and no memory is taken. Where it lends
+    /// nothing the stream is as it was, and `put` takes the payload.
+    pub fn pass_on<'b>(&mut self, seq: u32, bytes: &'b [u8]) -> Option<&'b [u8]>
+        requires { length bytes.now ≤ 65535 }
+        ensures told { IfSome result (λ run. (base limit taken : ℕ) (told : List Told) → StandsFor self.old base limit told taken
+            → StandsFor self.new base limit (told ++ Segment seq bytes.now ∷ []) (taken + length run.now)) }
+        ensures bytes { IfSome result (λ run. (base limit taken : ℕ) (told : List Told) → StandsFor self.old base limit told taken
+            → content base limit (told ++ Segment seq bytes.now ∷ []) taken ≡ map (λ byte. Some byte) run.now) }
+        ensures answer { IfSome result (λ run. (base limit taken : ℕ) (told : List Told) → StandsFor self.old base limit told taken
+            → put_of base limit told seq bytes.now ≡ (if length run.now == 0 then Put.Old else Put.Grew)) }
+        ensures same { IfNone result (self.new ≡ self.old) }
+    {
+        let front = self.held.front;
+        if self.is_over || self.fin.is_some() || self.payload_end > front || !self.held.is_clear() {
+            return None;
+        }
+        let piece = Piece::of(self.base, seq, bytes);
+        let rest = piece.at_or_past(front);
+        if rest.at != front {
+            return None;
+        }
+        self.payload_end = self.payload_end.max(piece.last_end());
+        self.held.go_past(rest.bytes.len() as u64);
+        Some(rest.bytes)
     }
 
     /// Names the sequence number of the FIN. The first one counts. The front doesn't move before the

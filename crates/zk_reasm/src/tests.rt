@@ -20,6 +20,19 @@ fn of_two_copies_the_first_stands(rt: HostRuntime) -> Result<(), Fail> {
 }
 
 #[test]
+fn what_follows_on_the_front_is_passed_on(rt: HostRuntime) -> Result<(), Fail> {
+    let mut stream = Stream::new(rt.alloc(), 100, WIDE);
+    assert_eq!(rt; stream.pass_on(101, b"AB"), Some(b"AB".as_slice()));
+    assert_eq!(rt; stream.pass_on(102, b"xC"), Some(b"C".as_slice()));
+    assert_eq!(rt; stream.pass_on(105, b"E"), None);
+    assert_eq!(rt; stream.front(), 3);
+    assert_eq!(rt; stream.kept(), 0);
+    assert_eq!(rt; stream.put(105, b"E")?, Put::Kept);
+    assert_eq!(rt; stream.pass_on(104, b"D"), None);
+    Ok(())
+}
+
+#[test]
 fn numbers_count_modulo_their_width(rt: HostRuntime) -> Result<(), Fail> {
     let mut stream = Stream::new(rt.alloc(), 0xFFFF_FFFE, WIDE);
     assert_eq!(rt; stream.put(0xFFFF_FFFF, b"0123")?, Put::Grew);

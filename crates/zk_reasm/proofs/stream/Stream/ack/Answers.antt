@@ -38,7 +38,7 @@ returns-clause-answer c = λ base limit taken told stands.
 
 pub returns-clause-told : goal.returns-clause-told
 returns-clause-told c = λ base limit taken told stands.
-    stands_moved c.args.self.now _ c.judge.new.self base limit told (Ack c.args.ack) taken (byte_kept c.args.self.now.held) c.reach.result c.furthest.result
+    stands_moved c.args.self.now _ c.judge.new.self base limit told (Ack c.args.ack) taken taken (byte_kept c.args.self.now.held) c.reach.result c.furthest.result
     c.judge.ensures.rest c.judge.ensures.over stands c.if-self.false
     (ack_moved c.args.self.now _ base limit told taken c.args.ack c.acknowledged.result c.reach.result c.furthest.result stands c.if-self.false
     (record {

@@ -1,0 +1,4 @@
+pub mod Doing
+mod Finding
+mod LoadLaws
+pub mod SoFar

@@ -1,0 +1,6 @@
+pub mod Parts
+pub mod Stop
+pub mod Script
+pub mod Loading
+pub mod Loads
+pub mod Pending

@@ -1,0 +1,112 @@
+ghost use Rattle.std.specs.Prelude.{◌≡◌, ◌++◌, ◌∷◌, [], ℕ, List, reverse, IfSome, IfNone, IfOk, OnOk, IfErr};
+ghost use Rattle.zk_base.specs.declared.endings.ScriptKind.TheVariants.{TooMany};
+ghost use Rattle.zk_tree.specs.declared.decl.Tree.{Tree as TreeData};
+ghost use Rattle.zk_load.specs.Loads.{LoadsAll, LoadsPart};
+ghost use Rattle.zk_load.specs.Loading.{loads_of, unread};
+
+use crate::found::Found;
+use crate::loads::loads_of;
+use crate::script::read_script;
+use crate::stop::Stop;
+use indexmap::IndexSet;
+use std::alloc::Global;
+use zk_base::{Bytes, Ending, Mem, ScriptKind, Sequence, Shelf, Word};
+use zk_names::Whole;
+use zk_tree::Tree;
+
+/// The most files that a run may read.
+const FILES_MAX: usize = 256;
+
+/// The scripts that were read, and the names that are to be read.
+#[derive(Drop)]
+pub struct Scripts {
+    read: Vec<(Bytes, Tree)>,
+    /// The names of those that were read.
+    names: IndexSet<Whole>,
+    /// The names that are to be read, the next one last.
+    pending: Vec<Whole>,
+}
+
+impl Scripts {
+    ghost use Rattle.zk_load.specs.Pending.{Waits};
+
+    /// None is read.
+    fn new(alloc: Global, names: &[Word]) -> Result<Scripts, Mem>
+        ensures { IfOk result (λ scripts. Waits scripts [] names.now) }
+    {
+        let mut pending = Vec::with_capacity(alloc, names.len())?;
+        for name in names {
+            pending.push(Whole::copy_of(alloc, name.as_slice())?)?;
+        }
+        pending.reverse();
+        Ok(Scripts {
+            read: Vec::new(alloc),
+            names: IndexSet::new(alloc),
+            pending,
+        })
+    }
+
+    /// The next name that was not read.
+    fn next(&mut self) -> Option<Whole>
+        ensures some { IfSome result (λ name. (read : List (List ℕ × TreeData)) (names : List (List ℕ)) → Waits self.old read names
+            → (others : List (List ℕ)) × (unread read names ≡ name ∷ others) × Waits self.new read others) }
+        ensures none { IfNone result ((read : List (List ℕ × TreeData)) (names : List (List ℕ)) → Waits self.old read names → (unread read names ≡ []) × Waits self.new read []) }
+        ensures stays { self.new.read ≡ self.old.read }
+    {
+        'names: while let Some(name) = self.pending.pop() {
+            if !self.names.contains(&name) {
+                return Some(name);
+            }
+        }
+        None
+    }
+
+    /// Adds a script that was read, and the names that it loads.
+    fn add(&mut self, alloc: Global, name: Whole, tree: Tree) -> Result<(), Mem>
+        ensures { OnOk result ((read : List (List ℕ × TreeData)) (names : List (List ℕ)) → Waits self.old read names
+            → Waits self.new (read ++ (name, tree) ∷ []) (loads_of tree ++ names)) }
+    {
+        let mut loads = loads_of(alloc, &tree)?;
+        loads.reverse();
+        self.pending.append(&mut loads)?;
+        let bytes = Bytes::copy_of(alloc, name.as_slice())?;
+        self.names.insert(name)?;
+        self.read.push((bytes, tree))?;
+        Ok(())
+    }
+}
+
+/// Reads the scripts of a run: those of these names in order, each followed by the files that it loads. A
+/// file is read once. More than 256 are refused at the next one, before it is asked for.
+pub fn load_scripts<S: Shelf>(
+    alloc: Global,
+    shelf: &mut S,
+    names: &[Word],
+) -> Result<Found<Sequence<(Bytes, Tree)>>, Stop>
+    ensures loaded { IfOk result (λ found. LoadsAll names.now (S.outside shelf.old) found (S.outside shelf.new)) }
+    ensures stopped { IfErr result (λ stop. LoadsPart names.now (S.outside shelf.old) stop (S.outside shelf.new)) }
+{
+    let mut scripts = Scripts::new(alloc, names)?;
+    'files: while let Some(name) = scripts.next() {
+        if scripts.read.len() == FILES_MAX {
+            return Ok(Found::Refused(too_many(name)));
+        }
+        match read_script(alloc, shelf, name.as_slice())? {
+            Found::Accepted(tree) => scripts.add(alloc, name, tree)?,
+            Found::Refused(ending) => return Ok(Found::Refused(ending)),
+        }
+    }
+    let Scripts { read, .. } = scripts;
+    Ok(Found::Accepted(Sequence::from(read)))
+}
+
+/// How a run ends that would read one file too many.
+fn too_many(name: Whole) -> Ending
+    ensures { result ≡ Ending.ScriptRefused name 0 TooMany }
+{
+    Ending::ScriptRefused {
+        file: Bytes::from(name.into_vec()),
+        place: 0,
+        kind: ScriptKind::TooMany,
+    }
+}

@@ -1,5 +1,5 @@
-ghost use Rattle.std.specs.Prelude.{◌≡◌, ◌^◌, ◌<◌, ◌≤◌, length, sum};
-ghost use Rattle.zk_base.specs.Checksum.{words};
+ghost use Rattle.std.specs.Prelude.{◌≡◌, ℕ, ◌+◌, ◌*◌, ◌^◌, ◌<◌, ◌≤◌, length, sum};
+ghost use Rattle.zk_base.specs.Checksum.{is_right_sum, words};
 ghost use Rattle.zk_l4.specs.PseudoHeader.{address_bytes, has_right_checksum};
 
 use zk_base::{Addr, is_right_checksum, word_sum};
@@ -15,6 +15,22 @@ fn address_sum(address: Addr) -> u64
     }
 }
 
+/// A sum that is as right as that of the 16-bit words of `bytes`, whatever is added to both. Words of
+/// 32 bits are added, in each of which 2^16 counts as 1 (RFC 1071, section 2, C).
+fn wide_sum(bytes: &[u8]) -> u64
+    requires { length bytes.now ≤ 65535 }
+    ensures value { (more : ℕ) → is_right_sum (more + result) ≡ is_right_sum (more + sum (words bytes.now)) }
+    ensures bound { result ≤ 2 ^ 32 * length bytes.now }
+{
+    let mut rest = bytes;
+    let mut total: u64 = 0;
+    while let [a, b, c, d, after @ ..] = rest {
+        total += u64::from(u32::from_be_bytes([*a, *b, *c, *d]));
+        rest = after;
+    }
+    total + word_sum(rest)
+}
+
 /// Whether the checksum in a datagram of `protocol` is right: that over the pseudo header of its
 /// addresses and the whole datagram.
 pub fn is_checksum_right(src: Addr, dst: Addr, protocol: u8, datagram: &[u8]) -> bool
@@ -24,5 +40,5 @@ pub fn is_checksum_right(src: Addr, dst: Addr, protocol: u8, datagram: &[u8]) ->
     // Protocol and length are words of their own in either pseudo header: the words of 32 bits that
     // hold them in that of IPv6 have a high half of zero.
     let header = address_sum(src) + address_sum(dst) + u64::from(protocol) + datagram.len() as u64;
-    is_right_checksum(header + word_sum(datagram))
+    is_right_checksum(header + wide_sum(datagram))
 }

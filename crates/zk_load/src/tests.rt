@@ -1,84 +1,97 @@
 use crate::{Found, load_scripts};
 use std::alloc::Global;
 use std::test::Fail;
-use zk_base::{Bytes, Ending, MemShelf, Word};
+use zk_base::{Bytes, Ending, Mem, MemShelf, Sequence, Word};
+use zk_tree::Tree;
 
-/// A shelf with these files: each by its name and its text.
-fn shelf_of(alloc: Global, files: &[(&[u8], &[u8])]) -> Result<MemShelf, Fail> {
+/// Scripts by their names and their texts.
+const FILES: [(&[u8], &[u8]); 6] = [
+    (b"a", b"@load b\n@load base/x\nexport { @load c\n}"),
+    (b"b", b"@load a\n@load d"),
+    (b"c", b"module C;"),
+    (b"d", b""),
+    (b"bad", b"@load none\nmodule ;"),
+    (b"open", b"global x = \"a"),
+];
+
+/// A shelf with these files.
+fn shelf(alloc: Global) -> Result<MemShelf, Mem> {
     let mut inputs = Vec::new(alloc);
-    for (name, text) in files {
+    for (name, text) in &FILES {
         inputs.push((Bytes::copy_of(alloc, name)?, Bytes::copy_of(alloc, text)?))?;
     }
-    Ok(MemShelf::new(alloc, inputs, Vec::new(alloc))?)
+    MemShelf::new(alloc, inputs, Vec::new(alloc))
 }
 
-/// Words of these names.
-fn words_of(alloc: Global, names: &[&[u8]]) -> Result<Vec<Word>, Fail> {
+/// The names in a line, which blanks separate.
+fn words(alloc: Global, line: &[u8]) -> Result<Vec<Word>, Mem> {
     let mut words = Vec::new(alloc);
-    for name in names {
-        words.push(Word::from(Bytes::copy_of(alloc, name)?))?;
+    for word in line.split(|byte| *byte == b' ') {
+        words.push(Word::from(Bytes::copy_of(alloc, word)?))?;
     }
     Ok(words)
 }
 
-/// The names of the scripts that are read, or the file at which reading ends, each behind a blank.
-fn read_over(alloc: Global, files: &[(&[u8], &[u8])], names: &[&[u8]]) -> Result<Vec<u8>, Fail> {
-    let mut shelf = shelf_of(alloc, files)?;
-    let words = words_of(alloc, names)?;
+/// The names of scripts, each behind a blank.
+fn names_of(alloc: Global, scripts: &[(Bytes, Tree)]) -> Result<Vec<u8>, Mem> {
     let mut text = Vec::new(alloc);
-    match load_scripts(alloc, &mut shelf, &words) {
-        Ok(Found::Accepted(scripts)) => {
-            for (name, _) in scripts.as_slice() {
-                text.push(b' ')?;
-                text.extend_from_slice(name.as_slice())?;
-            }
-        }
-        Ok(Found::Refused(Ending::NoInput { name })) => {
+    for script in scripts {
+        text.push(b' ')?;
+        text.extend_from_slice(script.0.as_slice())?;
+    }
+    Ok(text)
+}
+
+/// How a run ends, in two words.
+fn refusal_of(alloc: Global, ending: &Ending) -> Result<Vec<u8>, Mem> {
+    let mut text = Vec::new(alloc);
+    match ending {
+        Ending::NoInput { name } => {
             text.extend_from_slice(b"no ")?;
             text.extend_from_slice(name.as_slice())?;
         }
-        Ok(Found::Refused(Ending::ScriptRefused { file, kind, .. })) => {
+        Ending::ScriptRefused { file, kind, .. } => {
             text.extend_from_slice(kind.name())?;
             text.push(b' ')?;
             text.extend_from_slice(file.as_slice())?;
         }
-        _ => text.extend_from_slice(b"stopped")?,
+        _ => text.extend_from_slice(b"otherwise")?,
     }
     Ok(text)
+}
+
+/// What was found.
+fn told(alloc: Global, found: &Found<Sequence<(Bytes, Tree)>>) -> Result<Vec<u8>, Mem> {
+    match found {
+        Found::Accepted(scripts) => names_of(alloc, scripts.as_slice()),
+        Found::Refused(ending) => refusal_of(alloc, ending),
+    }
+}
+
+/// What comes of the scripts that a line names.
+fn loaded(alloc: Global, line: &[u8]) -> Result<Vec<u8>, Mem> {
+    let mut shelf = shelf(alloc)?;
+    let words = words(alloc, line)?;
+    match load_scripts(alloc, &mut shelf, &words) {
+        Ok(found) => told(alloc, &found),
+        Err(_) => Err(Mem),
+    }
 }
 
 #[test]
 fn scripts_are_read_in_order_each_followed_by_what_it_loads(rt: HostRuntime) -> Result<(), Fail> {
     let alloc = rt.alloc();
-    let a = (
-        b"a".as_slice(),
-        b"@load b\n@load base/x\nexport { @load c\n}".as_slice(),
-    );
-    let b = (b"b".as_slice(), b"@load a\n@load d".as_slice());
-    let c = (b"c".as_slice(), b"module C;".as_slice());
-    let d = (b"d".as_slice(), b"".as_slice());
-    let bad = (b"bad".as_slice(), b"@load none\nmodule ;".as_slice());
-    let open = (b"open".as_slice(), b"global x = \"a".as_slice());
-    let all = [a, b, c, d, bad, open];
-    let rows = [
-        ([b"a".as_slice(), b"c".as_slice()], b" a b d c".as_slice()),
-        ([b"d".as_slice(), b"a".as_slice()], b" d a b c".as_slice()),
-        ([b"d".as_slice(), b"d".as_slice()], b" d".as_slice()),
-        (
-            [b"bad".as_slice(), b"open".as_slice()],
-            b"NoTree bad".as_slice(),
-        ),
-        (
-            [b"a".as_slice(), b"open".as_slice()],
-            b"OpenString open".as_slice(),
-        ),
-        (
-            [b"c".as_slice(), b"base/x".as_slice()],
-            b"no base/x".as_slice(),
-        ),
+    let rows: [(&[u8], &[u8]); 6] = [
+        (b"a c", b" a b d c"),
+        (b"d a", b" d a b c"),
+        (b"d d", b" d"),
+        (b"bad open", b"NoTree bad"),
+        (b"a open", b"OpenString open"),
+        (b"c base/x", b"no base/x"),
     ];
-    for (names, expected) in rows {
-        assert_eq!(rt; read_over(alloc, &all, &names)?.as_slice(), expected);
+    for (line, expected) in &rows {
+        let text = loaded(alloc, line)?;
+        assert_eq!(rt; text.as_slice(), *expected);
     }
     Ok(())
 }

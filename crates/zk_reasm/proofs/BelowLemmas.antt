@@ -1,12 +1,12 @@
 -- What lies below the front stays as it is, and behind an end nothing comes.
-use Rattle.std.proofs.Common.{◌≡◌, ◌⊎◌, ℕ, ◌+◌, ◌-◌, ◌<◌, ◌≤◌, Bool, true, false, cond, ◌||◌, ltb, leb, List, [], ◌∷◌, ◌++◌, Option, None, Some, refl, sym, ap, subst, ◌∙◌, inl, inr, ⊎_elim, arith}
+use Rattle.std.proofs.Common.{◌≡◌, ◌⊎◌, ℕ, ◌+◌, ◌-◌, ◌<◌, ◌≤◌, Bool, true, false, cond, ◌||◌, List, [], ◌∷◌, ◌++◌, Option, None, Some, refl, sym, ap, ◌∙◌, inl, inr, ⊎_elim, arith}
 use Rattle.std.specs.Prelude.{is_some}
 use Rattle.std.specs.List.{list_any, prefix_len}
 use Rattle.std.specs.Option.{option_or}
 use Rattle.std.proofs.lemmas.Bool.{cases_lt, cases_Bool, true≢false, lt-leb}
 use Rattle.zk_reasm.specs.Between.{places_between}
 use Rattle.zk_reasm.specs.Direction.{byte_at, byte_from, byte_put, front, front_then, moves, reach, run_end, steps, up_to_fin}
-use Rattle.zk_reasm.specs.Histories.{byte_of_stream, counted, ended_of, front_of, is_over, is_reached, is_stop, over_of}
+use Rattle.zk_reasm.specs.Histories.{byte_of_stream, ended_of, front_of, is_over, is_reached, is_stop, over_of}
 use Rattle.zk_reasm.specs.Place.{byte_of}
 use Rattle.zk_reasm.specs.Told.{Told, Segment, Fin, Ack, Stop, fin_named, fin_place, payload_end}
 use Rattle.zk_reasm.proofs.AdvanceLemmas.{Passes, passes}

@@ -1,21 +1,20 @@
 -- A stream lends what is new of a segment's payload, and holds nothing of it.
-use Rattle.std.proofs.Common.{◌≡◌, ℕ, zero, suc, ◌+◌, ◌-◌, ◌<◌, ◌≤◌, ◌==◌, max, min, Bool, true, false, cond, ◌||◌, ltb, leb, List, [], ◌∷◌, ◌++◌, length, map, Option, None, Some, IsSome, refl, sym, ap, subst, ◌∙◌, ⊎_elim, arith}
+use Rattle.std.proofs.Common.{◌≡◌, ℕ, suc, ◌+◌, ◌-◌, ◌<◌, ◌≤◌, ◌==◌, max, min, Bool, true, false, cond, ◌||◌, ltb, leb, List, [], ◌∷◌, ◌++◌, length, map, Option, None, Some, IsSome, refl, sym, ap, subst, ◌∙◌, ⊎_elim, arith}
 use Rattle.std.specs.Prelude.{is_some, unwrap_or}
 use Rattle.std.specs.List.{slice_get, range_with_len}
 use Rattle.std.specs.Option.{option_or}
 use Rattle.std.proofs.lemmas.Grind.{common_steps}
 use Rattle.std.proofs.lemmas.Bool.{cases_lt, false≢true, le-leb, lt-ltb, le-ltb}
 use Rattle.zk_reasm.specs.declared.place.TheConstants.{PLACES}
-use Rattle.zk_reasm.specs.declared.stream.Put.TheVariants.{Grew, Kept, Old, GaveUp}
+use Rattle.zk_reasm.specs.declared.stream.Put.TheVariants.{Grew, Kept, Old}
 use Rattle.zk_reasm.specs.declared.stream.Stream.{Stream}
 use Rattle.zk_reasm.specs.declared.held.Held.{Held}
 use Rattle.zk_reasm.specs.Apart.{byte_apart}
-use Rattle.zk_reasm.specs.Between.{held_between, places_between}
+use Rattle.zk_reasm.specs.Between.{held_between}
 use Rattle.zk_reasm.specs.Direction.{byte_at}
 use Rattle.zk_reasm.specs.Held.{byte_kept, taken_of}
-use Rattle.zk_reasm.specs.Histories.{is_reached, content, front_of, over_of, put_of, byte_of_stream}
+use Rattle.zk_reasm.specs.Histories.{is_reached, content, front_of, put_of, byte_of_stream}
 use Rattle.zk_reasm.specs.Judging.{Finishes}
-use Rattle.zk_reasm.specs.Parts.{IsFirstFree}
 use Rattle.zk_reasm.specs.Piece.{byte_in}
 use Rattle.zk_reasm.specs.Place.{byte_of, places_of}
 use Rattle.zk_reasm.specs.Standing.{StandsFor}

@@ -10,7 +10,7 @@ returns c =
     let datagram = c.args.datagram.now in
     let len : ℕ = length datagram in
     let small : len < 65536 = omega arith in
-    let total : ℕ = c.address_sum.result + c.address_sum-2.result + c.from.result + len + c.word_sum.result in
-    let all : total ≡ sum (words (pseudo_header c.args.src c.args.dst c.args.protocol len ++ datagram)) =
+    let header : ℕ = c.address_sum.result + c.address_sum-2.result + c.from.result + len in
+    let all : header + sum (words datagram) ≡ sum (words (pseudo_header c.args.src c.args.dst c.args.protocol len ++ datagram)) =
     omega (arith, sum_words-pseudo_header c.args.src c.args.dst c.args.protocol len datagram small) in
-    c.is_right_checksum.ensures.value ∙ ap is_right_sum all
+    c.is_right_checksum.ensures.value ∙ c.wide_sum.ensures.value header ∙ ap is_right_sum all

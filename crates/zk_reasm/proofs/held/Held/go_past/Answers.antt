@@ -1,5 +1,5 @@
 use Rattle.std.proofs.Common.{◌+◌, sym, ◌∙◌, arith}
-use Rattle.zk_reasm.specs.Held.{byte_kept, taken_of}
+use Rattle.zk_reasm.specs.Held.{byte_kept}
 use Rattle.zk_reasm.proofs.HeldLemmas.{byte_held-apart, sound_past}
 use Rattle.zk_reasm.proofs.held.Held.go_past.Goals as goal
 

@@ -6,3 +6,4 @@ pub mod Gather
 pub mod Literals
 pub mod Gathering
 pub mod Values
+pub mod Holding

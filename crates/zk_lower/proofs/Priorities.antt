@@ -15,6 +15,11 @@ tested_as a b = elim (int_lt a b) as (λ t. t ≡ is_lt (cond t Less (cond (int_
   | false ↦ elim (int_lt b a) as (λ t. false ≡ is_lt (cond t Greater Equal)) [ true ↦ refl | false ↦ refl ]
 ]
 
+-- one after another
+abbrev pub Each : {X : Type 0} → (X → Type 0) → List X → Type 0
+Each P [] = Unit {0}
+Each P (x ∷ xs) = P x × Each P xs
+
 module _ {X : Type 0} (key : X → ℤ) where
   -- a greater priority comes first
   abbrev pub before : X → X → Bool
@@ -141,6 +146,60 @@ module _ {X : Type 0} (key : X → ℤ) where
   pub order_from_sort : (xs ys : List X) → IsSortedBy before ys → IsStableBy before xs ys → ys ≡ in_order key xs
   order_from_sort xs ys sorted stable =
       same_from_levels ys (in_order key xs) (falls_from ys (sorted_far before ordered ys sorted)) (falls_order xs) (λ x. stable x ∙ sym (filter_order x xs))
+
+  -- Some of them -----------------------------------------------------------------------------------------------------
+
+  filter_swap : (p q : X → Bool) (ys : List X) → filter p (filter q ys) ≡ filter q (filter p ys)
+  filter_swap p q [] = refl
+  filter_swap p q (y ∷ ys) = elim (cases_Bool (p y)) [
+    | inl one ↦ elim (cases_Bool (q y)) [
+      | inl other ↦ ap (filter p) (kept q y ys other) ∙ (kept p y (filter q ys) one ∙ (ap (λ l. y ∷ l) (filter_swap p q ys) ∙ sym (ap (filter q) (kept p y ys one) ∙ kept q y (filter p ys) other)))
+      | inr other ↦ ap (filter p) (dropped q y ys other) ∙ (filter_swap p q ys ∙ sym (ap (filter q) (kept p y ys one) ∙ dropped q y (filter p ys) other))
+    ]
+    | inr one ↦ elim (cases_Bool (q y)) [
+      | inl other ↦ ap (filter p) (kept q y ys other) ∙ (dropped p y (filter q ys) one ∙ (filter_swap p q ys ∙ sym (ap (filter q) (dropped p y ys one))))
+      | inr other ↦ ap (filter p) (dropped q y ys other) ∙ (filter_swap p q ys ∙ sym (ap (filter q) (dropped p y ys one)))
+    ]
+  ]
+
+  behind_some : (p : X → Bool) (n : X) (ys : List X) → Behind n ys → Behind n (filter p ys)
+  behind_some p n [] h = tt
+  behind_some p n (y ∷ ys) h = let P : List X → Type 0 = Behind n in elim (cases_Bool (p y)) [
+    | inl with ↦ subst P (sym (kept p y ys with)) (h.0, behind_some p n ys h.1)
+    | inr without ↦ subst P (sym (dropped p y ys without)) (behind_some p n ys h.1)
+  ]
+
+  falls_some : (p : X → Bool) (ys : List X) → Falls ys → Falls (filter p ys)
+  falls_some p [] h = tt
+  falls_some p (y ∷ ys) h = let P : List X → Type 0 = Falls in elim (cases_Bool (p y)) [
+    | inl with ↦ subst P (sym (kept p y ys with)) (behind_some p y ys h.0, falls_some p ys h.1)
+    | inr without ↦ subst P (sym (dropped p y ys without)) (falls_some p ys h.1)
+  ]
+
+  -- some of what is in order are in order
+  pub filter_in_order : (p : X → Bool) (xs : List X) → filter p (in_order key xs) ≡ in_order key (filter p xs)
+  filter_in_order p xs =
+      same_from_levels (filter p (in_order key xs)) (in_order key (filter p xs)) (falls_some p (in_order key xs) (falls_order xs)) (falls_order (filter p xs))
+      (λ x. filter_swap (level x) p (in_order key xs) ∙ (ap (filter p) (filter_order x xs) ∙ (filter_swap p (level x) xs ∙ sym (filter_order x (filter p xs)))))
+
+  each_placed : (P : X → Type 0) (c : X) (ds : List X) → P c → Each P ds → Each P (placed key c ds)
+  each_placed P c [] is h = (is, tt)
+  each_placed P c (d ∷ ds) is h = let Q : List X → Type 0 = Each P in elim (cases_Bool (before d c)) [
+    | inr stays ↦ subst Q (sym (placed_stays c d ds stays)) (is, h)
+    | inl past ↦ subst Q (sym (placed_past c d ds past)) (h.0, each_placed P c ds is h.1)
+  ]
+
+  -- what holds of each holds of each in order
+  pub each_in_order : (P : X → Type 0) (xs : List X) → Each P xs → Each P (in_order key xs)
+  each_in_order P [] h = tt
+  each_in_order P (x ∷ xs) h = each_placed P x (in_order key xs) h.0 (each_in_order P xs h.1)
+
+  pub each_some : (P : X → Type 0) (p : X → Bool) (xs : List X) → Each P xs → Each P (filter p xs)
+  each_some P p [] h = tt
+  each_some P p (x ∷ xs) h = let Q : List X → Type 0 = Each P in elim (cases_Bool (p x)) [
+    | inl with ↦ subst Q (sym (kept p x xs with)) (h.0, each_some P p xs h.1)
+    | inr without ↦ subst Q (sym (dropped p x xs without)) (each_some P p xs h.1)
+  ]
 
 -- The same of what is seen of the elements --------------------------------------------------------------------------
 

@@ -12,3 +12,9 @@ pub mod OutLemmas
 pub mod MachineLemmas
 pub mod ListLemmas
 pub mod FilterLemmas
+pub mod DispatchLemmas
+pub mod DueLemmas
+pub mod ExpireLemmas
+pub mod MadeLemmas
+pub mod ScheduleLemmas
+pub mod Handling

@@ -4,8 +4,7 @@ use Rattle.std.specs.List.{filter_map}
 use Rattle.zk_tree.specs.Store.{Store}
 use Rattle.zk_typed.specs.Log as log
 use Rattle.zk_typed.specs.State as typed
-use Rattle.zk_typed.specs.World.{Queued, Scheduled}
-use Rattle.zk_value.specs.Plain.{key_of, field_of}
+use Rattle.zk_value.specs.Plain.{field_of}
 use Rattle.zk_value.specs.declared.cell.Atom.{Atom}
 use Rattle.zk_value.specs.declared.cell.Atom.TheVariants as atom
 use Rattle.zk_value.specs.declared.cell.Cell.{Cell}
@@ -13,17 +12,10 @@ use Rattle.zk_value.specs.declared.cell.Cell.TheVariants as cell
 use Rattle.zk_value.specs.declared.cell.Column.{Column}
 use Rattle.zk_value.specs.declared.out.Out.{Out}
 use Rattle.zk_value.specs.declared.out.Out.TheVariants as out
+use Rattle.zk_machine.specs.Queued.{queued_of}
 use Rattle.zk_machine.specs.declared.state.State.{State}
-use Rattle.zk_machine.specs.declared.world.Queued as rust_queued
-use Rattle.zk_machine.specs.declared.world.Scheduled as rust_scheduled
 use Rattle.zk_machine.specs.declared.world.TableDefault as rust_default
 use Rattle.zk_machine.specs.declared.world.World.{World}
-
-abbrev pub queued_of : rust_queued.Queued → Queued
-queued_of one = record { event = one.event; args = key_of one.args.items }
-
-abbrev pub scheduled_of : rust_scheduled.Scheduled → Scheduled
-scheduled_of one = record { due = one.due; order = one.order; what = queued_of one.what }
 
 abbrev pub default_of : rust_default.TableDefault → typed.TableDefault
 default_of one = record { object = one.object.0; default = one.default }
@@ -60,8 +52,8 @@ world_of world = record {
   defaults = map default_of world.defaults.items;
   globals = map field_of world.globals.items;
   queue = map queued_of world.queue.items;
-  scheduled = map scheduled_of world.scheduled.items;
-  schedulings = world.schedulings;
+  scheduled = world.schedule.events;
+  schedulings = world.schedule.count;
   streams = world.streams;
   rows = filter_map row_in world.out.items;
   lines = filter_map line_in world.out.items;

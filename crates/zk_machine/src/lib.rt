@@ -1,15 +1,20 @@
 //! The machine that runs the code of a program: the world that scripts run in, and one body's run over it.
 #![tactic(auto)]
 
+mod agenda;
 mod called;
 mod calls;
 mod copies;
 mod defaults;
+mod due;
 mod ends;
+mod entries;
 mod expiring;
 mod frames;
+mod fresh;
 mod halt;
 mod hooks;
+mod indexed;
 mod leaves;
 mod loops;
 mod machine;
@@ -18,11 +23,13 @@ mod names;
 mod objects;
 mod onward;
 mod primitives;
+mod queued;
 mod records;
 mod reports;
 mod rows;
 mod run;
 mod running;
+mod schedule;
 mod sides;
 mod state;
 mod streams;
@@ -31,4 +38,6 @@ mod updates;
 mod vectors;
 mod world;
 
+pub use due::{Due, DueKind};
 pub use machine::{Machine, Waited};
+pub use queued::Queued;

@@ -10,11 +10,10 @@ ghost use Rattle.zk_machine.specs.State.{state_of};
 
 use crate::halt::Halt;
 use crate::objects::UNFIT;
+use crate::queued::Queued;
 use crate::state::{State, handles};
-use crate::world::{Queued, Scheduled};
 use zk_base::{EventNo, Span};
 use zk_builtin::{binary, holds, in_subnet, is_within, unary};
-use zk_table::moment_after;
 use zk_typed::script::{Action, Binary, BuiltIn, Primitive, Relation, Unary};
 use zk_value::Value;
 
@@ -154,16 +153,9 @@ impl State {
         if world.is_ending {
             return Ok(());
         }
-        let Some(schedulings) = world.schedulings.checked_add(1) else {
-            return Err(Halt::NoMemory);
-        };
         let args = handles(world.alloc, args)?;
-        world.scheduled.push(Scheduled {
-            due: moment_after(world.time, delay),
-            order: world.schedulings,
-            what: Queued { event, args },
-        })?;
-        world.schedulings = schedulings;
+        let what = Queued { event, args };
+        world.schedule.add(world.alloc, world.time, delay, what)?;
         Ok(())
     }
 

@@ -11,7 +11,8 @@ ghost use Rattle.zk_machine.specs.Comes.{Comes};
 ghost use Rattle.zk_machine.specs.State.{state_of};
 
 use crate::halt::Halt;
-use crate::world::{Queued, World};
+use crate::queued::Queued;
+use crate::world::World;
 use std::alloc::{AllocError, Global};
 use zk_base::{Bytes, EventNo, Mem};
 use zk_builtin::push_value;

@@ -2,28 +2,15 @@ ghost use Rattle.std.specs.Prelude.{◌≡◌, map};
 ghost use Rattle.zk_typed.specs.State.{first_world};
 ghost use Rattle.zk_value.specs.Plain.{field_of};
 
+use crate::queued::Queued;
+use crate::schedule::Schedule;
 use std::alloc::Global;
 use std::collections::VecDeque;
-use zk_base::{EventNo, Moment, ObjectNo};
+use zk_base::{Moment, ObjectNo};
 use zk_streams::Streams;
 use zk_table::Heap;
 use zk_typed::script::DefaultValue;
 use zk_value::{Out, Value};
-
-/// An event with its arguments.
-#[derive(Debug, Drop)]
-pub struct Queued {
-    pub event: EventNo,
-    pub args: Vec<Value>,
-}
-
-/// An event that is due at a moment, and which of those that were scheduled it is.
-#[derive(Debug, Drop)]
-pub struct Scheduled {
-    pub due: Moment,
-    pub order: u64,
-    pub what: Queued,
-}
 
 /// A table's `&default`, and the number of the table's object.
 #[derive(Debug, Drop)]
@@ -48,9 +35,8 @@ pub struct World {
     pub globals: Vec<Option<Value>>,
     /// The events that wait to be dispatched, first in, first out.
     pub queue: VecDeque<Queued>,
-    /// The events that wait for their moments, and how many were scheduled so far.
-    pub scheduled: Vec<Scheduled>,
-    pub schedulings: u64,
+    /// The events that wait for their moments.
+    pub schedule: Schedule,
     /// The log streams with their filters.
     pub streams: Streams,
     /// The printed lines and the rows that were not yet given out.
@@ -72,8 +58,7 @@ impl World {
             defaults: Vec::new(alloc),
             globals,
             queue: VecDeque::new(alloc),
-            scheduled: Vec::new(alloc),
-            schedulings: 0,
+            schedule: Schedule::new(alloc),
             streams: Streams::new(alloc),
             out: VecDeque::new(alloc),
         }

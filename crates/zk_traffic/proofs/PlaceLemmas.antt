@@ -11,6 +11,7 @@ use Rattle.zk_reasm.specs.Histories.{byte_of_stream, content, front_of, gap_of, 
 use Rattle.zk_reasm.specs.Told.{Told}
 use Rattle.zk_traffic.specs.Moves.{first_gap, first_run, stretch}
 use Rattle.zk_traffic.specs.Places.{Gap, Run, with_gap, gaps_from, with_byte, runs_from}
+use Rattle.zk_units.specs.Cuts.{byte_places}
 
 -- each of the runs begins at a place or behind it
 abbrev pub BeginBehind : ℕ → List Run → Type 0
@@ -249,3 +250,29 @@ gap-passed [] = refl
 gap-passed (None ∷ places) = refl
 gap-passed (Some byte ∷ places) =
     ap (λ n. gap_of (drop n (Some byte ∷ places))) (ap length (run_of-some byte places)) ∙ gap-passed places ∙ sym (gap_of-some byte places)
+
+-- places that all have their byte are one run
+pub runs-bytes : (at : ℕ) (bytes : List ℕ) → runs_from at (byte_places bytes) ≡ cond (length bytes == 0) [] (record { from = at; bytes = bytes } ∷ [])
+runs-bytes at [] = refl
+runs-bytes at (byte ∷ bytes) = ap (with_byte at byte) (runs-bytes (at + 1) bytes) ∙ one bytes ∙ sym (ap (λ b. run_if b at (byte ∷ bytes)) (some (length bytes)))
+  where
+    run_if : Bool → ℕ → List ℕ → List Run
+    run_if b from bytes = cond b [] (record { from = from; bytes = bytes } ∷ [])
+
+    some : (n : ℕ) → (suc n == 0) ≡ false
+    some n = grind (arith, common_steps)
+
+    same : (n : ℕ) → (n == n) ≡ true
+    same n = grind (arith, common_steps)
+
+    joined : ℕ → List ℕ → Bool → List Run
+    joined next rest b = cond b (record { from = at; bytes = byte ∷ next ∷ rest } ∷ []) (record { from = at; bytes = byte ∷ [] } ∷ record { from = at + 1; bytes = next ∷ rest } ∷ [])
+
+    one : (rest : List ℕ) → with_byte at byte (run_if (length rest == 0) (at + 1) rest) ≡ record { from = at; bytes = byte ∷ rest } ∷ []
+    one [] = refl
+    one (next ∷ rest) = ap (λ b. with_byte at byte (run_if b (at + 1) (next ∷ rest))) (some (length rest)) ∙ ap (joined next rest) (same (at + 1))
+
+-- and no gap
+pub gaps-bytes : (at : ℕ) (bytes : List ℕ) → gaps_from at (byte_places bytes) ≡ []
+gaps-bytes at [] = refl
+gaps-bytes at (byte ∷ bytes) = gaps-bytes (at + 1) bytes

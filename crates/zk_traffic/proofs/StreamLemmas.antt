@@ -25,10 +25,11 @@ use Rattle.zk_traffic.proofs.ReadLemmas.{gets_more, gets_none, reads_none, reads
 use Rattle.zk_units.specs.declared.protocol.Protocol.{Protocol}
 use Rattle.zk_units.specs.declared.readers.Readers.{Readers}
 use Rattle.zk_units.specs.declared.stream_unit.StreamUnit.{StreamUnit}
+use Rattle.zk_units.specs.Cuts.{byte_places}
 use Rattle.zk_units.specs.Standing.{Gets, StandsFor as ReadersStand, ended_by, with_stream}
-use Rattle.zk_traffic.proofs.PlaceLemmas.{content_behind, gaps-first, length-content, runs-first}
+use Rattle.zk_traffic.proofs.PlaceLemmas.{content_behind, gaps-bytes, gaps-first, length-content, runs-bytes, runs-first}
 use Rattle.std.proofs.lemmas.Bool.{true≢false}
-use Rattle.std.proofs.lemmas.List.{append-nil, map-append, take-append-drop}
+use Rattle.std.proofs.lemmas.List.{append-nil, length-map, map-append, take-append-drop}
 
 -- the first run and the gap behind it, as they are added
 pub adds_first : (conn : ConnNo) (side : Side) (base limit : ℕ) (told : List Told) (place : ℕ) (bytes : List ℕ) (gap end : ℕ) (old new : News)
@@ -123,6 +124,27 @@ drained conn side base limit told from at stream old news new was readers is_r i
   gets = subst (Gets side (content base limit told from) was) (sym same_r)
       (gets readers (subst (λ l. Gets side l readers readers) (sym (content-none base limit told at is)) (gets_none side readers)));
 }
+
+-- a stream that passed on all that was new
+pub passed_on : (conn : ConnNo) (side : Side) (base limit : ℕ) (told : List Told) (from : ℕ) (run : List ℕ) (stream : Stream) (old new : News) (was is_r : Readers)
+    → content base limit told from ≡ byte_places run → StandsFor stream base limit told (from + length run) → from ≤ front_of base limit told
+    → runs_of new ≡ runs_of old ++ cond (length run == 0) [] (record { conn = conn; side = side; from = from; bytes = run } ∷ [])
+    → new.gaps.items ≡ old.gaps.items → new.«units».items ≡ old.«units».items → Gets side (byte_places run) was is_r
+    → IsDrained conn side base limit told from stream old new was is_r
+passed_on conn side base limit told from run stream old new was is_r all stands within runs gaps units gets = record {
+  stands = subst (StandsFor stream base limit told)
+      (let len = ap (λ (l : List (Option ℕ)). length l) all in let e : from + length run ≡ front_of base limit told = omega (arith, len, length-content base limit told from, length-map {B = Option ℕ} run (λ byte. Some byte), within) in e) stands;
+  adds = record {
+    runs_are = runs ∙ ap (λ l. runs_of old ++ l) (in_run (length run == 0) ∙ ap (map (fresh_run conn.0 side)) (sym (ap (runs_from from) all ∙ runs-bytes from run)));
+    gaps_are = gaps ∙ sym (append-nil old.gaps.items) ∙ ap (λ l. old.gaps.items ++ map (gap_in side) l) (sym (ap (gaps_from from) all ∙ gaps-bytes from run));
+    units_are = units;
+  };
+  gets = subst (λ l. Gets side l was is_r) (sym all) gets;
+}
+  where
+    in_run : (b : Bool) → cond {A = List FreshRun} b [] (record { conn = conn; side = side; from = from; bytes = run } ∷ []) ≡ map (fresh_run conn.0 side) (cond {A = List Run} b [] (record { from = from; bytes = run } ∷ []))
+    in_run true = refl
+    in_run false = refl
 
 -- a stream that was told nothing
 pub front-new : (base limit : ℕ) → front_of base limit [] ≡ 0

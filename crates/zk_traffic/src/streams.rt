@@ -1,4 +1,4 @@
-ghost use Rattle.std.specs.Prelude.{◌≡◌, ℕ, ◌+◌, ◌≤◌, ◌<◌, ◌^◌, Bool, true, not, ◌&&◌, if◌then◌else◌, List, [], ◌++◌, Option, None, Some, IfOk, IfSome, OnOk, MatchOption};
+ghost use Rattle.std.specs.Prelude.{◌≡◌, ℕ, ◌+◌, ◌≤◌, ◌<◌, ◌^◌, Bool, true, false, not, ◌&&◌, if◌then◌else◌, List, [], ◌++◌, length, Option, None, Some, IfOk, IfSome, IfNone, OnOk, MatchOption};
 ghost use Rattle.zk_base.specs.declared.network.Side.{Side as SideData};
 ghost use Rattle.zk_base.specs.declared.network.Side.TheVariants.{Orig, Resp};
 ghost use Rattle.zk_base.specs.declared.time.Moment.{Moment};
@@ -15,6 +15,7 @@ ghost use Rattle.zk_traffic.specs.Moves.{Begins, HasMoved, HasTaken, IsDrained, 
 ghost use Rattle.zk_traffic.specs.Places.{gaps_from, runs_from};
 ghost use Rattle.zk_traffic.specs.Streams.{AreStreams, IsStream};
 ghost use Rattle.zk_traffic.specs.Taken.{segment_of};
+ghost use Rattle.zk_units.specs.Cuts.{byte_places};
 ghost use Rattle.zk_units.specs.Standing.{Reads, StandsFor as ReadersStand, ended_by, held_in, no_streams, with_stream};
 ghost use Rattle.zk_units.specs.Units.{no_units};
 ghost use Rattle.zk_units.specs.declared.protocol.Protocol.{Protocol as Speaks};
@@ -227,10 +228,54 @@ fn send(
     let front = stream.front();
     let had_ended = stream.ended();
     stop_if(stream, stop);
-    let gave_up = put(stream, segment)?;
-    drain(stream, conn, side, front, readers, news)?;
+    let gave_up = take_payload(stream, conn, side, front, segment, readers, news)?;
     end_if(readers, side, stream.ended());
     Ok((moved_from(stream, front, had_ended), gave_up))
+}
+
+/// Tells a stream what its side sends, and takes all places from its old front to its new one. Whether
+/// it gave up.
+fn take_payload(
+    stream: &mut Stream,
+    conn: ConnNo,
+    side: Side,
+    front: u64,
+    segment: &Segment<'_>,
+    readers: &mut Readers,
+    news: &mut News,
+) -> Result<bool, Mem>
+    ensures drained { OnOk result ((t : Moment) (base limit : ℕ) (told : List Told) → StandsFor stream.old base limit told front → front ≤ front_of base limit told
+        → IsDrained conn side base limit (told ++ sent_told (segment_of t segment.now)) front stream.new news.old news.new readers.old readers.new) }
+    ensures gave_up { IfOk result (λ gave_up. (t : Moment) (base limit taken : ℕ) (told : List Told) → StandsFor stream.old base limit told taken
+        → gave_up ≡ (not (has_rst segment.now.view) && is_gave_up (put_of base limit (told ++ fin_told (segment_of t segment.now))
+        (payload_number (segment_of t segment.now)) segment.now.payload.now))) }
+{
+    if let Some(run) = pass_on(stream, segment) {
+        news.add_run(conn, side, front, run)?;
+        readers.add_bytes(side, run)?;
+        return Ok(false);
+    }
+    let gave_up = put(stream, segment)?;
+    drain(stream, conn, side, front, readers, news)?;
+    Ok(gave_up)
+}
+
+/// Tells a stream what its side sends, and lends what of it is new, where the stream may pass that on
+/// at once. Else the stream is as it was.
+fn pass_on<'a>(stream: &mut Stream, segment: &Segment<'a>) -> Option<&'a [u8]>
+    ensures told { IfSome result (λ run. (t : Moment) (base limit taken : ℕ) (told : List Told) → StandsFor stream.old base limit told taken
+        → StandsFor stream.new base limit (told ++ sent_told (segment_of t segment.now)) (taken + length run.now)) }
+    ensures bytes { IfSome result (λ run. (t : Moment) (base limit taken : ℕ) (told : List Told) → StandsFor stream.old base limit told taken
+        → content base limit (told ++ sent_told (segment_of t segment.now)) taken ≡ byte_places run.now) }
+    ensures goes_on { IfSome result (λ run. (t : Moment) (base limit taken : ℕ) (told : List Told) → StandsFor stream.old base limit told taken
+        → (not (has_rst segment.now.view) && is_gave_up (put_of base limit (told ++ fin_told (segment_of t segment.now))
+        (payload_number (segment_of t segment.now)) segment.now.payload.now)) ≡ false) }
+    ensures same { IfNone result (stream.new ≡ stream.old) }
+{
+    if segment.has_rst() || segment.has_fin() {
+        return None;
+    }
+    stream.pass_on(segment.payload_number(), segment.payload)
 }
 
 /// Tells the receiver's stream of a segment. How it has moved.

@@ -10,7 +10,7 @@ returns-clause-stands c = λ program is.
     let code = c.args.code in
     let count : c.len.result ≡ length program.globals = c.len.ensures ∙ (sym (length-map code.globals lower.global_of) ∙ globals_in (lower.code_of code) program is) in
     record {
-      code = is;
-      comes = ap first_world (ap (λ n. replicate n None) (sym count) ∙ sym c.in_ok-globals.ensures) ∙ sym c.new.ensures;
+      code = c.in_ok-indexed.ensures ∙ is;
+      comes = ap first_world (ap (λ n. replicate n None) (sym count) ∙ sym c.in_ok-globals.ensures) ∙ sym c.new-running.ensures;
       works = refl;
     }

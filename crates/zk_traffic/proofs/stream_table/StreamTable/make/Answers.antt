@@ -1,4 +1,4 @@
-use Rattle.std.proofs.Common.{Some, sym, subst, ◌∙◌}
+use Rattle.std.proofs.Common.{sym, subst, ◌∙◌}
 use Rattle.zk_traffic.specs.StreamTable.{HasStreams, entry_at}
 use Rattle.zk_traffic.proofs.StreamTableLemmas.{has_new, none_has, not_some}
 use Rattle.zk_traffic.proofs.stream_table.StreamTable.make.Goals as goal

@@ -21,7 +21,7 @@ within_of within.Handler = spec.InHandler
 
 abbrev pub context_of : LentContext → spec.Context
 context_of context = record {
-  scripts = scripts_in context.names.now;
+  scripts = scripts_in context.scripts.now.names;
   home = home_of context.home;
   global_type = globals_at context.globals;
   within = within_of context.within;

@@ -6,7 +6,7 @@ ghost use Rattle.zk_check.specs.Bodies.{context_of};
 
 use std::alloc::Global;
 use zk_expression::{Env, Globals, LocalName};
-use zk_names::{Home, Names};
+use zk_names::{Home, Scripts};
 use zk_operator::Wanted;
 use zk_tree::{Expr, Place};
 
@@ -23,7 +23,7 @@ pub enum Within<'a> {
 #[derive(Clone, Copy)]
 pub struct Context<'a, 'w> {
     pub alloc: Global,
-    pub names: &'a Names<'a>,
+    pub scripts: &'a Scripts<'a>,
     pub home: Home<'a>,
     /// The types of the globals and constants.
     pub globals: Globals<'a>,
@@ -65,7 +65,7 @@ pub fn looping<'a, 'w>(context: &Context<'a, 'w>) -> Context<'a, 'w>
 {
     Context {
         alloc: context.alloc,
-        names: context.names,
+        scripts: context.scripts,
         home: context.home,
         globals: context.globals,
         within: context.within,
@@ -78,7 +78,7 @@ pub fn env_in<'e>(context: &Context<'e, '_>, locals: &'e [LocalName<'e>]) -> Env
     ensures { env_of result ≡ spec.env_of (context_of context.entry.now) (locals_of locals.entry.now) }
 {
     Env {
-        names: context.names,
+        scripts: context.scripts,
         home: context.home,
         locals,
         globals: context.globals,

@@ -83,7 +83,10 @@ pub fn local_type(
 {
     let names = mentions(context.alloc, tree)?;
     match all_seen(context, locals, names.as_slice()) {
-        Ok(()) => context.scripts.names.type_of(context.alloc, context.home, tree),
+        Ok(()) => context
+            .scripts
+            .names
+            .type_of(context.alloc, context.home, tree),
         Err(refusal) => Err(refusal),
     }
 }

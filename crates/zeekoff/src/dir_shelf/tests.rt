@@ -23,7 +23,10 @@ fn a_real_folder_holds_what_was_written(rt: HostRuntime) -> Result<(), Fail> {
     assert_eq!(rt; shelf.create(name), Wrote::Done);
     // A name is the whole of it: one that ends in a blank is another one.
     let with_blank = folder.join(rt.alloc(), "out.log ")?;
-    assert_eq!(rt; shelf.start(with_blank.as_str().as_bytes()), Started::Absent);
+    assert_eq!(rt;
+        shelf.start(with_blank.as_str().as_bytes()),
+        Started::Absent
+    );
     assert_eq!(rt; shelf.append(name, b"gone"), Wrote::Done);
     assert_eq!(rt; shelf.create(name), Wrote::Done);
     assert_eq!(rt; shelf.append(name, b"zee"), Wrote::Done);

@@ -9,6 +9,3 @@ mod lines;
 pub use cells::row;
 pub use laws::equal_texts;
 pub use lines::{close, header};
-
-#[cfg(test)]
-mod tests;

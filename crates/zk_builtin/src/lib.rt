@@ -18,6 +18,3 @@ pub use operators::{binary, stepped, unary};
 pub use relations::{holds, in_subnet, is_within};
 pub use strings::{starts_with, strstr, sub_bytes, to_lower, to_upper};
 pub use texts::push_value;
-
-#[cfg(test)]
-mod tests;

@@ -1,6 +1,4 @@
 pub mod Views
-pub mod Stated
-pub mod IndexLaws
 mod KindRows
 pub mod RuleLaws
 pub mod StatedLaws
@@ -12,3 +10,21 @@ pub mod SoonerLaws
 pub mod AddedLaws
 pub mod ListLaws
 pub mod HeadLaws
+pub mod Acts
+pub mod GivenLaws
+pub mod Layers
+pub mod PartLaws
+pub mod PlainForms
+pub mod ProgramLaws
+pub mod PushLaws
+pub mod Queueing
+pub mod Stated
+pub mod Turning
+pub mod RoundLaws
+pub mod ValueLaws
+pub mod DeclLaws
+pub mod ListingLaws
+pub mod PathLaws
+pub mod UseLaws
+pub mod CheckLaws
+pub mod OtherCalls

@@ -115,3 +115,22 @@ dropped_first (Err rules) b = refl
 -- the same rules, told in another way
 pub same_rules : (result : Result (Unit {0}) Refusal) {a b : Checked (Unit {0})} → a ≡ b → Rules result b → Rules result a
 same_rules result e h = subst (λ (whole : Checked (Unit {0})). Rules result whole) (sym e) h
+
+pub dropped_last : {A B : Type 0} (a : Checked A) (b : Checked B) → nothing (both a (nothing b)) ≡ nothing (both a b)
+dropped_last (Ok a) (Ok b) = refl
+dropped_last (Ok a) (Err rules) = refl
+dropped_last (Err rules) (Ok b) = refl
+dropped_last (Err rules) (Err more) = refl
+
+-- five parts
+pub five_parts : {A B C D E : Type 0} (a : Checked A) (b : Checked B) (c : Checked C) (d : Checked D) (e : Checked E) →
+    nothing (both (nothing (both a b)) (nothing (both c (nothing (both d (nothing e)))))) ≡ nothing (both (both a b) (both c (both d e)))
+five_parts a b c d e =
+    ap (λ rest. nothing (both (nothing (both a b)) rest)) (ap (λ rest. nothing (both c rest)) (dropped_last d e) ∙ dropped_last c (both d e)) ∙
+    dropped_first (both a b) (nothing (both c (both d e))) ∙ dropped_last (both a b) (both c (both d e))
+
+-- parts of what is told are told
+pub adds_told : (first second result : Result (Unit {0}) Refusal) → Adds first second result → Told result → Told first × Told second
+adds_told first second (Ok n) adds told_all = (adds.0, adds.1)
+adds_told first second (Err (Broken rules)) adds told_all = (adds.0, adds.1)
+adds_told first second (Err NoMemory) adds told_all = absurd told_all

@@ -6,21 +6,17 @@ use Rattle.zk_typed.specs.declared.script.expr.Expr.{Expr}
 use Rattle.zk_typed.specs.declared.script.expr.Given.{Given}
 use Rattle.zk_typed.specs.declared.script.program.Hook.{Hook}
 use Rattle.zk_typed.specs.declared.script.program.Program.{Program as RustProgram}
-use Rattle.zk_typed.specs.declared.script.stmt.Stmt.TheFolds.{fold-roll-Stmt}
-use Rattle.zk_typed.specs.declared.script.stmt.Stmt.TheOpen as opened
-use Rattle.zk_typed.specs.declared.script.stmt.Stmt.{Stmt}
 use Rattle.zk_typed.specs.declared.script.expr.Expr.TheOpen as layer
 use Rattle.zk_typed.specs.declared.script.expr.Expr.TheFolds.{fold-roll-Expr}
 use Rattle.zk_typed.specs.declared.script.expr.Expr.TheVariants as expr
 use Rattle.zk_typed.specs.declared.script.primitive.Primitive.{Primitive}
 use Rattle.zk_base.specs.declared.numbers.HookNo.{HookNo}
 use Rattle.zk_base.specs.declared.numbers.RecordNo.{RecordNo}
-use Rattle.zk_typed.specs.declared.script.stmt.Stmt.TheVariants as stmt
 use Rattle.zk_typed.specs.Blind as spec
 use Rattle.zk_typed.specs.Forms as form
 use Rattle.zk_typed.specs.Program.{Program}
-use Rattle.zk_typed.specs.View.{exprs_of, expr_of, all_of, givens_of, stmts_of, stmt_of, Prefixed, expr_step, given_step, stmt_step, program_of, global_of, hook_of, hook_body_of, handler_of}
-use Rattle.zk_check.specs.Givens.{given_of, all_given, all_stated}
+use Rattle.zk_typed.specs.View.{exprs_of, expr_of, all_of, givens_of, stmt_of, Prefixed, expr_step, given_step, program_of, global_of, hook_of, hook_body_of, handler_of}
+use Rattle.zk_check.specs.Givens.{given_of, all_given}
 
 pub operands_are : (all : List Expr) → exprs_of (map expr_of all) ≡ all_of all
 operands_are [] = refl
@@ -29,10 +25,6 @@ operands_are (first ∷ others) = ap (form.AndExpr (expr_of first)) (operands_ar
 pub given_are : (all : List Given) → givens_of (map given_of all) ≡ all_given all
 given_are [] = refl
 given_are (first ∷ others) = ap (given_of first) (given_are others)
-
-pub stmts_are : (all : List Stmt) → stmts_of (map stmt_of all) ≡ all_stated all
-stmts_are [] = refl
-stmts_are (first ∷ others) = ap (form.AndStmt (stmt_of first)) (stmts_are others)
 
 pub apply_is : (primitive : Primitive) (operands : List Expr) → expr_of (expr.Apply primitive operands) ≡ form.Apply primitive (all_of operands)
 apply_is primitive operands =
@@ -49,10 +41,6 @@ call_is function operands =
 pub hook_is : (hook : HookNo) (operands : List Expr) → expr_of (expr.Hook hook operands) ≡ form.Hook hook (all_of operands)
 hook_is hook operands =
     ap expr_of (sym (expr.rolls-Hook hook operands)) ∙ fold-roll-Expr form.Expr Prefixed expr_step given_step (layer.Hook hook operands) ∙ ap (form.Hook hook) (operands_are operands)
-
-pub block_is : (all : List Stmt) → stmt_of (stmt.Block all) ≡ form.Block (all_stated all)
-block_is all =
-    ap stmt_of (sym (stmt.rolls-Block all)) ∙ fold-roll-Stmt form.Stmt stmt_step (opened.Block all) ∙ ap form.Block (stmts_are all)
 
 pub exprs_are_all : (program : Program) (all : List Expr) → spec.exprs_blind program (all_of all) ≡ list_all (spec.expr_blind program) (map expr_of all)
 exprs_are_all program [] = refl

@@ -1,17 +1,21 @@
 ghost use Rattle.std.specs.Prelude.{◌≡◌, List, IfOk};
-ghost use Rattle.zk_operator.specs.Views.{all_typed};
+ghost use Rattle.zk_expression.specs.Envs.{locals_of};
+ghost use Rattle.zk_operator.specs.Views.{all_typed, typed_of};
 ghost use Rattle.zk_typed.specs.Checked.{Checked};
 ghost use Rattle.zk_typed.specs.Forms as form;
 ghost use Rattle.zk_typed.specs.Tells.{Tells};
 ghost use Rattle.zk_typed.specs.Typing as typing;
 ghost use Rattle.zk_typed.specs.View.{all_of, expr_of, stmt_of};
-ghost use Rattle.zk_check.specs.Acting.{acted};
+ghost use Rattle.zk_check.specs.Acting.{acted, print_of};
+ghost use Rattle.zk_check.specs.Bodies.{context_of};
 
+use crate::context::{Context, env_in, place_of};
 use crate::made::done;
 use sqlite_items::Items;
 use std::alloc::{AllocError, Global};
+use zk_expression::{LocalName, each_printed};
 use zk_operator::{Typed, operands_of};
-use zk_tree::Place;
+use zk_tree::{Expr as Syntax, Place};
 use zk_typed::Refusal;
 use zk_typed::script::{Action, Expr, Stmt};
 
@@ -43,4 +47,22 @@ pub fn with_first(
     all.push(first)?;
     all.append(others)?;
     Ok(all)
+}
+
+/// `print`
+pub fn print_stmt(
+    context: &Context<'_, '_>,
+    locals: &[LocalName<'_>],
+    place: u64,
+    values: &[Syntax],
+) -> Result<Stmt, Refusal>
+    ensures { Tells stmt_of result (print_of (context_of context.now) (locals_of locals.now) place values.now) }
+{
+    let values = each_printed(context.alloc, &env_in(context, locals), values);
+    do_with(
+        context.alloc,
+        place_of(context, place),
+        Action::Print,
+        values,
+    )
 }

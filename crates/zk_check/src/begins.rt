@@ -1,10 +1,14 @@
 ghost use Rattle.std.specs.Prelude.{◌≡◌, length, IfOk, Some, None};
-ghost use Rattle.zk_expression.specs.Envs.{locals_of};
+ghost use Rattle.std.specs.Option.{option_map};
+ghost use Rattle.zk_expression.specs.Envs.{env_of, locals_of};
+ghost use Rattle.zk_names.specs.Scripted.{scripts_in};
+ghost use Rattle.zk_names.specs.Lent.{home_of};
 ghost use Rattle.zk_operator.specs.Gather.{Told};
-ghost use Rattle.zk_operator.specs.Views.{typed_of};
+ghost use Rattle.zk_operator.specs.Views.{typed_of, wanted_in};
 ghost use Rattle.zk_typed.specs.Checked.{Checked, each};
 ghost use Rattle.zk_typed.specs.Declarations.{nothing};
 ghost use Rattle.zk_typed.specs.Forms as form;
+ghost use Rattle.zk_typed.specs.Resolving as resolving;
 ghost use Rattle.zk_typed.specs.Statements as spec;
 ghost use Rattle.zk_typed.specs.Tells.{Tells};
 ghost use Rattle.zk_typed.specs.Types as types;
@@ -13,18 +17,18 @@ ghost use Rattle.zk_typed.specs.declared.script.action.Action.TheVariants as act
 ghost use Rattle.zk_typed.specs.declared.script.action.Left.TheVariants as left;
 ghost use Rattle.zk_typed.specs.View.{expr_of, stmt_of, type_of};
 ghost use Rattle.zk_check.specs.Begins.{Begins, IsKnown, declared_type, given_of, once, seen};
-ghost use Rattle.zk_check.specs.Bodies.{context_of};
+ghost use Rattle.zk_check.specs.Bodies.{Gives, context_of};
 ghost use Rattle.zk_check.specs.Turns.{names_lent};
 
-use crate::context::{Context, place_of};
+use crate::context::{Context, env_in, place_of};
 use crate::made::done;
 use crate::mentions::mentions;
 use sqlite_items::Items;
-use std::alloc::Global;
+use std::alloc::{AllocError, Global};
 use zk_base::Mem;
-use zk_expression::{LocalName, local_named};
-use zk_operator::{Typed, also, both, empty_of, one_operand};
-use zk_tree::{Name, Place, Type};
+use zk_expression::{LocalName, init_typed, local_named};
+use zk_operator::{Typed, Wanted, also, both, empty_of, one_operand};
+use zk_tree::{Init, Name, Place, Type};
 use zk_typed::script::{Action, Expr, Left, Stmt, ValueType};
 use zk_typed::{Refusal, Rule, one_broken};
 
@@ -74,7 +78,7 @@ fn all_seen(
 
 /// The type that a `local` is declared with, whose names no local hides.
 #[tactic(auto, using(zk_operator::proofs::BothLaws::passed))]
-pub fn local_type(
+fn local_type(
     context: &Context<'_, '_>,
     locals: &[LocalName<'_>],
     tree: &Type,
@@ -136,7 +140,7 @@ fn give_local(
 }
 
 /// A local of a type, without an initial value.
-pub fn typed_local(
+fn typed_local(
     context: &Context<'_, '_>,
     locals: &[LocalName<'_>],
     place: Place,
@@ -162,8 +166,52 @@ pub fn typed_local(
     }
 }
 
+/// A local of the type of its initial value.
+fn given_local(
+    context: &Context<'_, '_>,
+    locals: &[LocalName<'_>],
+    place: Place,
+    init: &Init,
+) -> Begun
+    ensures { Begins result None (spec.local_value (context_of context.now) (locals_of locals.now) place None (Some init.now)) }
+{
+    let alloc = context.alloc;
+    match init_typed(alloc, &env_in(context, locals), Wanted::Nothing, init) {
+        Ok(one) => match give_local(alloc, locals, place, one.expr) {
+            Ok(made) => Begun {
+                value_type: Some(one.value_type),
+                made: Ok(made),
+            },
+            Err(_) => Begun {
+                value_type: None,
+                made: Err(Refusal::NoMemory),
+            },
+        },
+        Err(refusal) => Begun {
+            value_type: None,
+            made: Err(refusal),
+        },
+    }
+}
+
+/// An initial value where a type is declared.
+fn wanted_init(
+    context: &Context<'_, '_>,
+    locals: &[LocalName<'_>],
+    declared: &Result<ValueType, Refusal>,
+    init: &Init,
+) -> Result<Typed, Refusal>
+    ensures { (type : Checked types.ValueType) → Told declared.now → Tells type_of declared.now type → Tells typed_of result (spec.init_typed (spec.env_of (context_of context.now) (locals_of locals.now)) (spec.local_wants (Some type)) init.now) }
+{
+    let env = env_in(context, locals);
+    match declared {
+        Ok(one) => init_typed(context.alloc, &env, Wanted::Type(one), init),
+        Err(_) => init_typed(context.alloc, &env, Wanted::Unclear, init),
+    }
+}
+
 /// Whether a type is right, and the type, where it is known.
-pub fn known(declared: Result<ValueType, Refusal>) -> (Result<(), Refusal>, Option<ValueType>)
+fn known(declared: Result<ValueType, Refusal>) -> (Result<(), Refusal>, Option<ValueType>)
     ensures { IsKnown declared result }
 {
     match declared {
@@ -173,7 +221,7 @@ pub fn known(declared: Result<ValueType, Refusal>) -> (Result<(), Refusal>, Opti
 }
 
 /// A local with an initial value, of right parts.
-pub fn given_parts(
+fn given_parts(
     context: &Context<'_, '_>,
     locals: &[LocalName<'_>],
     place: Place,
@@ -193,8 +241,41 @@ pub fn given_parts(
     }
 }
 
+/// A local of a type with an initial value.
+fn typed_and_given_local(
+    context: &Context<'_, '_>,
+    locals: &[LocalName<'_>],
+    place: Place,
+    declared: Result<ValueType, Refusal>,
+    init: &Init,
+) -> Begun
+    ensures { (type : Checked types.ValueType) → Tells type_of declared type → Begins result (Some type) (spec.local_value (context_of context.now) (locals_of locals.now) place (Some type) (Some init.now)) }
+{
+    let given = wanted_init(context, locals, &declared, init);
+    let (declared, value_type) = known(declared);
+    let made = given_parts(context, locals, place, declared, given);
+    Begun { value_type, made }
+}
+
+/// What a `local` begins with, of a type that is declared.
+fn declared_local(
+    context: &Context<'_, '_>,
+    locals: &[LocalName<'_>],
+    place: Place,
+    tree: &Type,
+    init: &Option<Init>,
+) -> Begun
+    ensures { Begins result (Some (declared_type (context_of context.now) (locals_of locals.now) tree.now)) (spec.local_value (context_of context.now) (locals_of locals.now) place (Some (declared_type (context_of context.now) (locals_of locals.now) tree.now)) init.now) }
+{
+    let declared = local_type(context, locals, tree);
+    match init {
+        None => typed_local(context, locals, place, declared),
+        Some(init) => typed_and_given_local(context, locals, place, declared, init),
+    }
+}
+
 /// A local without a type and without an initial value.
-pub fn bare_local(alloc: Global, place: Place) -> Begun
+fn bare_local(alloc: Global, place: Place) -> Begun
     ensures { (context : spec.Context) (locals : spec.Locals) → Begins result None (spec.local_value context locals place None None) }
 {
     let made = match one_broken(alloc, Rule::WrongType, place) {
@@ -207,9 +288,28 @@ pub fn bare_local(alloc: Global, place: Place) -> Begun
     }
 }
 
+/// What a `local` begins with.
+fn local_begun(
+    context: &Context<'_, '_>,
+    locals: &[LocalName<'_>],
+    place: Place,
+    tree: &Option<Type>,
+    init: &Option<Init>,
+) -> Begun
+    ensures { Begins result (spec.local_type (context_of context.now) (locals_of locals.now) tree.now) (spec.local_value (context_of context.now) (locals_of locals.now) place (spec.local_type (context_of context.now) (locals_of locals.now) tree.now) init.now) }
+{
+    match tree {
+        Some(tree) => declared_local(context, locals, place, tree, init),
+        None => match init {
+            Some(init) => given_local(context, locals, place, init),
+            None => bare_local(context.alloc, place),
+        },
+    }
+}
+
 /// A declaration of a name that no other local has.
 #[tactic(auto, using(zk_operator::proofs::BothLaws::passed))]
-pub fn once(
+fn once(
     alloc: Global,
     locals: &[LocalName<'_>],
     place: Place,
@@ -225,5 +325,26 @@ pub fn once(
             Some(_) => Err(Refusal::Broken(one_broken(alloc, Rule::Twice, place)?)),
         },
         Err(refusal) => Err(refusal),
+    }
+}
+
+/// `local`, whose name is visible from its end on.
+pub fn local_stmt<'a>(
+    context: &Context<'a, '_>,
+    locals: &mut Vec<LocalName<'a>>,
+    place: u64,
+    name: &'a Name,
+    tree: &'a Option<Type>,
+    init: &'a Option<Init>,
+) -> Result<Stmt, Refusal>
+    ensures { Gives result locals.new.items (spec.local_stated (context_of context.now) (locals_of locals.old.items) place name.now tree.now init.now) }
+{
+    let place = place_of(context, place);
+    let Begun { value_type, made } = local_begun(context, locals.as_slice(), place, tree, init);
+    let made = once(context.alloc, locals.as_slice(), place, name, made);
+    let name = name.text.as_slice();
+    match locals.push(LocalName { name, value_type }) {
+        Ok(()) => made,
+        Err(_) => Err(Refusal::NoMemory),
     }
 }

@@ -1,14 +1,17 @@
 ghost use Rattle.std.specs.Prelude.{◌≡◌};
 ghost use Rattle.zk_expression.specs.Envs.{env_of, locals_of};
+ghost use Rattle.zk_operator.specs.Views.{typed_of, wanted_in};
 ghost use Rattle.zk_typed.specs.Statements as spec;
+ghost use Rattle.zk_typed.specs.Tells.{Tells};
 ghost use Rattle.zk_typed.specs.Typing as typing;
 ghost use Rattle.zk_check.specs.Bodies.{context_of};
 
 use std::alloc::Global;
-use zk_expression::{Env, Globals, LocalName};
+use zk_expression::{Env, Globals, LocalName, expr_typed};
 use zk_names::{Home, Scripts};
-use zk_operator::Wanted;
+use zk_operator::{Typed, Wanted};
 use zk_tree::{Expr, Place};
+use zk_typed::Refusal;
 
 /// What a body is of.
 #[derive(Clone, Copy)]
@@ -83,4 +86,16 @@ pub fn env_in<'e>(context: &Context<'e, '_>, locals: &'e [LocalName<'e>]) -> Env
         locals,
         globals: context.globals,
     }
+}
+
+/// An expression where a type is wanted.
+pub fn check_in(
+    context: &Context<'_, '_>,
+    locals: &[LocalName<'_>],
+    wanted: Wanted<'_>,
+    one: &Expr,
+) -> Result<Typed, Refusal>
+    ensures { Tells typed_of result (spec.check_in (context_of context.now) (locals_of locals.now) (wanted_in wanted.entry) one.now) }
+{
+    expr_typed(context.alloc, &env_in(context, locals), wanted, one)
 }

@@ -10,25 +10,26 @@ ghost use Rattle.zk_typed.specs.Types as types;
 ghost use Rattle.zk_typed.specs.Typing as typing;
 ghost use Rattle.zk_typed.specs.View.{stmt_of, type_of};
 ghost use Rattle.zk_check.specs.Bodies.{context_of};
-ghost use Rattle.zk_check.specs.Loops.{Again, for_of, loop_of, over_of, types_over};
+ghost use Rattle.zk_check.specs.Loops.{Again, for_of, loop_of, over_of, over_typed, types_over};
 ghost use Rattle.zk_check.specs.Numbers.{GivesNumbers, givens_in, items_of};
 ghost use Rattle.zk_check.specs.Turns.{names_lent};
 
-use crate::context::Context;
+use crate::context::{Context, check_in, expr_place};
 use crate::made::{index_loop, key_and_value_names, key_loop, key_names};
 use crate::numbers::for_names;
+use crate::over::for_over;
 use crate::turns::wanted_names;
 use sqlite_items::Items;
 use std::alloc::{AllocError, Global};
 use zk_base::Mem;
 use zk_expression::LocalName;
-use zk_operator::{Typed, both, copied_type, is_vector};
-use zk_tree::{Keys, Name, Place};
+use zk_operator::{Typed, Wanted, both, copied_type, is_vector};
+use zk_tree::{Expr, Keys, Name, Place};
 use zk_typed::Refusal;
 use zk_typed::script::{Names, Stmt, ValueType};
 
 /// What is broken in what a `for` goes over is told for the types of its names too.
-pub fn told_twice(alloc: Global, refusal: Refusal) -> Refusal
+fn told_twice(alloc: Global, refusal: Refusal) -> Refusal
     ensures { Again refusal result }
 {
     match refusal {
@@ -40,6 +41,31 @@ pub fn told_twice(alloc: Global, refusal: Refusal) -> Refusal
             Err(_) => Refusal::NoMemory,
         },
         Refusal::NoMemory => Refusal::NoMemory,
+    }
+}
+
+/// What a `for` goes over, and the types of its names.
+#[tactic(auto, using(crate::proofs::Turning::over_refused))]
+pub fn over_and_types(
+    context: &Context<'_, '_>,
+    locals: &[LocalName<'_>],
+    place: u64,
+    keys: &Keys,
+    named: &Option<Name>,
+    over: &Expr,
+) -> Result<(Typed, Vec<ValueType>), Refusal>
+    ensures many { IfOk result (λ made. length made.1.items ≡ length (spec.wanted_names keys.now named.now)) }
+    ensures over { Tells over_of result (over_typed (context_of context.now) (locals_of locals.now) place keys.now named.now over.now) }
+{
+    match check_in(context, locals, Wanted::Nothing, over) {
+        Ok(one) => {
+            let over_place = expr_place(context, over);
+            match for_over(context, place, over_place, keys, named, &one) {
+                Ok(types) => Ok((one, types)),
+                Err(refusal) => Err(refusal),
+            }
+        }
+        Err(refusal) => Err(told_twice(context.alloc, refusal)),
     }
 }
 

@@ -4,7 +4,7 @@ ghost use Rattle.zk_typed.specs.Forms as form;
 ghost use Rattle.zk_typed.specs.Statements as spec;
 ghost use Rattle.zk_typed.specs.Tells.{Tells};
 ghost use Rattle.zk_typed.specs.View.{all_of, expr_of, stmt_of};
-ghost use Rattle.zk_check.specs.Givens.{all_stated};
+ghost use Rattle.zk_check.specs.Blocks.{all_stated};
 ghost use Rattle.zk_check.specs.Steps.{next_where, break_where};
 
 use sqlite_items::{Boxed, Items};
@@ -27,7 +27,7 @@ pub fn done(place: Place, action: Action, operands: Items<Expr>) -> Stmt
 }
 
 /// Statements in braces.
-#[tactic(auto, using(crate::proofs::Views::block_is))]
+#[tactic(auto, using(crate::proofs::Stated::block_is))]
 pub fn block(stmts: Items<Stmt>) -> Stmt
     ensures { stmt_of result ≡ form.Block (all_stated stmts) }
 {
@@ -35,7 +35,7 @@ pub fn block(stmts: Items<Stmt>) -> Stmt
 }
 
 /// What stands for `;`.
-#[tactic(auto, using(crate::proofs::Views::block_is))]
+#[tactic(auto, using(crate::proofs::Stated::block_is))]
 pub fn no_stmt(alloc: Global) -> Stmt
     ensures { stmt_of result ≡ spec.no_stmt }
 {

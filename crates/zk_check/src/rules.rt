@@ -1,16 +1,25 @@
 //! The rules of declarations.
 
+pub mod bodies;
+pub mod decls;
 mod edges;
 mod fields;
 mod globals;
-mod ground;
+pub mod ground;
 mod heads;
 mod heights;
 mod least;
+mod listing;
+pub mod logging;
 mod naming;
+mod paths;
 mod records;
-mod rising;
+mod redefs;
+pub mod rising;
+pub mod rounds;
 mod seen;
 mod signatures;
 mod told;
 mod types;
+mod uses;
+pub mod variables;

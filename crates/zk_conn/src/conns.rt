@@ -81,30 +81,46 @@ pub fn live_instances()
         → IsLive told key number → IsLive told other number → key ≡ other }
 {}
 
-/// How many hints there are for each slot, so that few keys share one.
-const HINTS: usize = 4;
+/// How many places there are for each slot, so that few keys share one.
+const PLACES: usize = 4;
 
-/// The slot that is noted at a key's place.
-fn hint_of(hints: &[usize], key: &Key) -> usize {
+/// The slots that were noted last at a place: two, since where keys share a place they are mostly two.
+#[derive(Clone, Copy, Debug)]
+struct Hints {
+    last: usize,
+    earlier: usize,
+}
+
+const NO_HINTS: Hints = Hints {
+    last: 0,
+    earlier: 0,
+};
+
+/// The slots that are noted at a key's place.
+fn hints_of(hints: &[Hints], key: &Key) -> Hints {
     match hints.get(key.place_among(hints.len())) {
-        Some(slot) => *slot,
-        None => 0,
+        Some(hints) => *hints,
+        None => NO_HINTS,
     }
 }
 
 /// Notes a slot at a key's place.
-fn note(hints: &mut [usize], key: &Key, slot: usize) {
+fn note(hints: &mut [Hints], key: &Key, slot: usize) {
     let place = key.place_among(hints.len());
     if place < hints.len() {
-        hints[place] = slot;
+        let earlier = hints[place].last;
+        hints[place] = Hints {
+            last: slot,
+            earlier,
+        };
     }
 }
 
 /// Makes places for the hints of so many slots.
-fn make_places(hints: &mut Vec<usize>, slots: usize) -> Result<(), Mem> {
-    let places = slots.saturating_mul(HINTS);
+fn make_places(hints: &mut Vec<Hints>, slots: usize) -> Result<(), Mem> {
+    let places = slots.saturating_mul(PLACES);
     if hints.len() < places {
-        hints.resize(places, 0)?;
+        hints.resize(places, NO_HINTS)?;
     }
     Ok(())
 }
@@ -124,9 +140,9 @@ pub struct Conns {
     numbers: BTreeMap<u64, usize>,
     /// The index of removals, by slots.
     firsts: Vec<Option<Filing>>,
-    /// Slots of keys, each at its key's place. They save the walk through `keys`, and no more: one counts
+    /// Slots of keys, at their keys' places. They save the walk through `keys`, and no more: one counts
     /// where the slot's instance has that very key.
-    hints: Vec<usize>,
+    hints: Vec<Hints>,
     /// The slot of the last packet's instance, or of another: what is told of the instance behind its
     /// packet finds it there.
     recent: usize,
@@ -292,22 +308,35 @@ impl Conns {
         self.slot_numbered(conn).is_some()
     }
 
-    /// The slot of a live connection: at the key's hint, or through the keys, and then it is noted.
+    /// The slot of a live connection: at the key's hints, or through the keys, and then it is noted.
     fn find(&mut self, key: &Key) -> Option<usize>
         ensures same { SameTable self.old self.new }
         ensures some { IfSome result (λ slot. IsTable self.old → slot_of self.new key.now ≡ Some slot) }
         ensures none { IfNone result (slot_of self.new key.now ≡ None) }
         ensures there { IfSome result (ContainsKey self.new.slots) }
     {
-        let hint = hint_of(&self.hints, key);
-        if self.has_key(hint, key) {
-            self.recent = hint;
-            return Some(hint);
+        if let Some(slot) = self.hinted(key) {
+            self.recent = slot;
+            return Some(slot);
         }
         let slot = self.slot_of(key)?;
         note(&mut self.hints, key, slot);
         self.recent = slot;
         Some(slot)
+    }
+
+    /// The slot at a key's hints whose instance has this very key.
+    fn hinted(&self, key: &Key) -> Option<usize>
+        ensures { IfSome result (λ slot. has_key (get self.now.slots slot) key.now ≡ true) }
+    {
+        let Hints { last, earlier } = hints_of(&self.hints, key);
+        if self.has_key(last, key) {
+            return Some(last);
+        }
+        if self.has_key(earlier, key) {
+            return Some(earlier);
+        }
+        None
     }
 
     /// Whether the instance of a slot has this key.

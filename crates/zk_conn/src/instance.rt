@@ -30,17 +30,18 @@ fn wait(proto: Proto, orig: StreamEnd, resp: StreamEnd) -> i64
 /// What is kept of a live connection.
 #[derive(Debug, Drop)]
 pub struct Instance {
+    // What each packet asks for stands together, in this order, and what few ask for behind it.
     pub key: Key,
-    pub number: u64,
     pub originator: Endpoint,
-    pub responder: Endpoint,
-    pub start: Moment,
+    pub number: u64,
     pub last: Moment,
+    /// Where the index of removals has it: at its removal moment or before.
+    pub filed: Moment,
     pub orig: Half,
     pub resp: Half,
     pub history: History,
-    /// Where the index of removals has it: at its removal moment or before.
-    pub filed: Moment,
+    pub responder: Endpoint,
+    pub start: Moment,
 }
 
 impl Instance {
@@ -56,15 +57,15 @@ impl Instance {
         let is_answer = p.has(SYN) && p.has(ACK);
         Instance {
             key: Key::of(p),
-            number,
             originator: if is_answer { to } else { from },
-            responder: if is_answer { from } else { to },
-            start: t,
+            number,
             last: t,
+            filed: t,
             orig: Half::new(),
             resp: Half::new(),
             history: History::new(),
-            filed: t,
+            responder: if is_answer { from } else { to },
+            start: t,
         }
     }
 

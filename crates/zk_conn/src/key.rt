@@ -95,10 +95,9 @@ impl Key {
     /// A place among so many that two keys seldom share: for hints alone, since whoever writes a capture
     /// can choose keys that share one.
     pub fn place_among(&self, places: usize) -> usize {
-        if places == 0 {
-            return 0;
-        }
         let ends = self.low.scattered().rotate_left(29) ^ self.high.scattered();
-        ((ends.wrapping_mul(SPREAD) >> 32) % places as u64) as usize
+        // The upper half as a part of 2^32, of so many places.
+        let part = ends.wrapping_mul(SPREAD) >> 32;
+        (part.wrapping_mul(places as u64) >> 32) as usize
     }
 }

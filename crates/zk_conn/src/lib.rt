@@ -15,6 +15,3 @@ pub use conns::{Conns, Removed, Touched};
 pub use facts::{ConnState, EndFacts, Facts};
 pub use history::History;
 pub use view::L4View;
-
-#[cfg(test)]
-mod tests;

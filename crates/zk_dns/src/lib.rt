@@ -24,6 +24,3 @@ pub use message::Message;
 pub use parts::{AnswerPart, QuestionPart};
 pub use record::{Answer, AnswerKind, DnsRecord, Question};
 pub use tcp::{DnsStep, TcpDns};
-
-#[cfg(test)]
-mod tests;

@@ -1,5 +1,5 @@
 -- One more fragment after those that a value stands for.
-use Rattle.std.proofs.Common.{◌≡◌, Bool, true, false, cond, not, ◌&&◌, ◌||◌, ltb, ◌≤◌, List, [], ◌∷◌, ◌++◌, Option, None, Some, IsSome, fold, refl, sym, ap, subst, ◌∙◌}
+use Rattle.std.proofs.Common.{◌≡◌, ◌≢◌, Bool, true, false, cond, not, ◌&&◌, ◌||◌, ltb, ◌≤◌, List, [], ◌∷◌, ◌++◌, Option, None, Some, IsSome, fold, refl, sym, ap, subst, ◌∙◌}
 use Rattle.std.specs.Option.{option_map_or}
 use Rattle.std.proofs.lemmas.Bool.{cases_Bool, true≢false, ltb-false}
 use Rattle.std.proofs.lemmas.List.Elements.{filter-append}
@@ -14,7 +14,7 @@ use Rattle.zk_frag.specs.declared.key.Key.{Key}
 use Rattle.zk_frag.specs.Fragment.{Fragment, end, same_key, is_ignored}
 use Rattle.zk_frag.specs.Group.{first_moment, is_later, comes_late, joined_by, is_covered}
 use Rattle.zk_frag.specs.Histories.{fragments_of, open_group, group_of, joined_of, datagram_of}
-use Rattle.zk_frag.specs.Standing.{StandsFor}
+use Rattle.zk_frag.specs.Standing.{StandsFor, whole_of}
 use Rattle.zk_frag.specs.Table.{group_at, Keeps, Takes, Stays}
 use Rattle.zk_frag.proofs.GroupLaws.{step}
 use Rattle.zk_frag.proofs.KeyLemmas.{is_eq-key_cmp, same_key_is}
@@ -87,6 +87,14 @@ answer_ignored given last ignored = sym (ap (λ b. cond b Ignored (cond (is_cove
 pub answer_taken : (old new : Frags) (given : List Fragment) (last : Fragment) (joined : Joined) → is_ignored last ≡ false
     → Takes old new last.key joined (group_of given last) → joined ≡ joined_of given last
 answer_taken old new given last joined counted takes = takes.answer ∙ sym (joined_of_counted given last counted)
+
+-- a fragment that makes no datagram whole leaves the bytes of the last one
+pub whole_stays : (old new : Frags) (given : List Fragment) (last : Fragment) (joined : Joined)
+    → Takes old new last.key joined (group_of given last) → joined ≢ Whole → whole_of new ≡ whole_of old
+unfolding whole_of
+whole_stays old new given last joined takes other =
+    takes.stays (⊎_elim (λ covered. absurd (other (takes.answer ∙ ap (λ b. cond b Whole Held) covered))) (λ not_yet. not_yet)
+    (cases_Bool (is_covered (group_of given last))))
 
 -- the value that took a fragment that counts
 pub stands_taken : (old new : Frags) (given : List Fragment) (last : Fragment) (joined : Joined) → is_ignored last ≡ false

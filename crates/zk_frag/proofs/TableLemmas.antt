@@ -25,14 +25,15 @@ first_moment-append [] last since is = cc
 first_moment-append (first ∷ rest) last since is = is
 
 pub takes_held : (old new : Frags) (key : Key) (group : Group) (fragments : List Fragment) → Changes old new key (Some group)
-    → is_covered fragments ≡ false → IsGroup group fragments → Takes old new key Held fragments
+    → is_covered fragments ≡ false → IsGroup group fragments → new.whole.items ≡ old.whole.items → Takes old new key Held fragments
 unfolding group_at
-takes_held old new key group fragments changes not_yet is_group = record {
+takes_held old new key group fragments changes not_yet is_group same = record {
   answer = sym (ap (λ b. cond b Whole Held) not_yet);
   here = subst (λ held. Keeps held (left_of fragments)) (sym changes.1)
       (subst (IsGroup group) (sym (ap (λ b. cond b [] fragments) not_yet)) is_group);
   others = changes.2;
   whole = λ covered. absurd (true≢false (sym covered ∙ not_yet));
+  stays = λ _. same;
 }
 
 pub takes_whole : (old new : Frags) (key : Key) (fragments : List Fragment) → group_at new key ≡ None
@@ -43,6 +44,7 @@ takes_whole old new key fragments gone others covered whole = record {
   here = subst (λ held. Keeps held (left_of fragments)) (sym gone) (ap (λ b. cond b [] fragments) covered);
   others = others;
   whole = λ _. whole;
+  stays = λ not_yet. absurd (true≢false (sym covered ∙ not_yet));
 }
 
 pub stays_changed : (old new : Frags) (key : Key) (was is : Group) → group_at old key ≡ Some was → Changes old new key (Some is)

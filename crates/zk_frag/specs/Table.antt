@@ -38,6 +38,7 @@ pub record Takes (old new : Frags) (key : Key) (joined : Joined) (fragments : Li
   pub here : Keeps (group_at new key) (left_of fragments)
   pub others : (other : Key) → is_eq (key_cmp key other) ≡ false → group_at new other ≡ group_at old other
   pub whole : is_covered fragments ≡ true → new.whole.items ≡ datagram fragments
+  pub stays : is_covered fragments ≡ false → new.whole.items ≡ old.whole.items
 
 -- a key's group has the same fragments as before, and the groups of other keys stay
 pub record Stays (old new : Frags) (key : Key) : Type 0 where

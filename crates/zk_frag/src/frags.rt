@@ -1,4 +1,4 @@
-ghost use Rattle.std.specs.Prelude.{◌≡◌, ◌↔◌, ◌+◌, ◌*◌, ◌≤◌, true, false, not, List, [], ◌∷◌, ◌++◌, length, vec_len, IsSome, IfOk, OnErr};
+ghost use Rattle.std.specs.Prelude.{◌≡◌, ◌≢◌, ◌↔◌, ◌+◌, ◌*◌, ◌≤◌, true, false, not, List, [], ◌∷◌, ◌++◌, length, vec_len, IsSome, IfOk, OnErr};
 ghost use Rattle.std.specs.Option.{option_map_or};
 ghost use Rattle.zk_base.specs.declared.time.Moment.{Moment};
 ghost use Rattle.zk_link_ip.specs.Ip4.{offset, payload};
@@ -63,13 +63,14 @@ pub struct Frags {
 }
 
 impl Frags {
-    ghost use Rattle.zk_frag.specs.Standing.{StandsFor};
+    ghost use Rattle.zk_frag.specs.Standing.{StandsFor, whole_of};
     ghost use Rattle.zk_frag.specs.Table.{group_at, Keeps, Stays, Takes};
 
     /// No fragments. No memory is taken.
-    #[tactic(auto, unfolding(crate::specs::Table::group_at))]
+    #[tactic(auto, unfolding(crate::specs::Table::group_at, crate::specs::Standing::whole_of))]
     pub fn new(alloc: Global) -> Frags
-        ensures { StandsFor result [] }
+        ensures empty { StandsFor result [] }
+        ensures none { whole_of result ≡ [] }
     {
         Frags {
             alloc,
@@ -95,7 +96,10 @@ impl Frags {
             → joined ≡ joined_of given (fragment_of t (packet ip.now).now)) }
         ensures taken { IfOk result (λ joined. (given : List Fragment) → StandsFor self.old given
             → StandsFor self.new (given ++ fragment_of t (packet ip.now).now ∷ [])) }
-        ensures ignored { is_ignored (fragment_of t (packet ip.now).now) ≡ true → result ≡ Ok Joined.Ignored }
+        ensures ignored { is_ignored (fragment_of t (packet ip.now).now) ≡ true → (result ≡ Ok Joined.Ignored) × (self.new ≡ self.old) }
+        ensures stays { IfOk result (λ joined. (given : List Fragment) → StandsFor self.old given → joined ≢ Joined.Whole
+            → whole_of self.new ≡ whole_of self.old) }
+        ensures unchanged { OnErr result (whole_of self.new ≡ whole_of self.old) }
         ensures memory { OnErr result ((given : List Fragment) → StandsFor self.old given → StandsFor self.new given) }
     {
         if is_ignored(ip) {
@@ -109,8 +113,11 @@ impl Frags {
         }
     }
 
-    /// The bytes of the datagram, after a fragment that made it whole and before the next one.
+    /// The bytes of the datagram that was last made whole, up to the next one that is; none before the
+    /// first.
+    #[tactic(auto, unfolding(crate::specs::Standing::whole_of))]
     pub fn whole(&self) -> &[u8]
+        ensures last { result.now ≡ whole_of self.now }
         ensures value { (given : List Fragment) (last : Fragment) → StandsFor self.now (given ++ last ∷ [])
             → joined_of given last ≡ Joined.Whole → result.now ≡ datagram_of given last }
         ensures bound { length result.now ≤ 65535 }

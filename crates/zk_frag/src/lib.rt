@@ -7,6 +7,3 @@ mod group;
 mod key;
 
 pub use frags::{Frags, Joined, fragment_groups};
-
-#[cfg(test)]
-mod tests;

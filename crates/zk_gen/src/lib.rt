@@ -10,8 +10,6 @@ ghost use Rattle.zk_gen.specs.Capture.{capture_of, HasRightChecksums};
 mod conversations;
 mod headers;
 mod packet;
-#[cfg(test)]
-mod tests;
 
 use std::alloc::Global;
 use zk_base::{Bytes, Mem};

@@ -8,9 +8,6 @@ ghost use Rattle.zk_http.specs.Pairing.{between_answered, between_behind};
 ghost use Rattle.zk_http.specs.Places.{Both, Stream, of_side, other};
 ghost use Rattle.zk_http.specs.Units.{add, next, no_units};
 
-#[cfg(test)]
-mod exchanges;
-
 use crate::body::{
     Asked, Body, asked_by, holds_back, is_interim, makes_tunnel, request_body, response_body,
 };

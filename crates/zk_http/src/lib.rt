@@ -9,8 +9,6 @@ mod http;
 mod laws;
 mod search;
 mod state;
-#[cfg(test)]
-mod tests;
 mod turn;
 mod units;
 

@@ -49,38 +49,39 @@ sum_words-pseudo_header src dst protocol len rest small =
     let even_c : length c % 2 ≡ 0 = protocol_and_length-even src protocol len in
     sum_words-pieces a b c rest (protocol + len) even_a even_b even_c (sum_words-protocol_and_length src protocol len small)
 
--- the sum of the high halves of words of 32 bits
-abbrev pub high_sum : List ℕ → ℕ
-high_sum (a ∷ b ∷ c ∷ d ∷ rest) = 256 * a + b + high_sum rest
-high_sum (a ∷ b ∷ c ∷ []) = 0
-high_sum (a ∷ b ∷ []) = 0
-high_sum (a ∷ []) = 0
-high_sum [] = 0
+-- by how many times 2^16 - 1 the words of 32 bits, read from their low end and taken 256 times, are more than
+-- the words of 16 bits
+abbrev pub carried : List ℕ → ℕ
+carried (a ∷ b ∷ c ∷ d ∷ rest) = b + 256 * c + 65537 * d + carried rest
+carried (a ∷ b ∷ c ∷ []) = 0
+carried (a ∷ b ∷ []) = 0
+carried (a ∷ []) = 0
+carried [] = 0
 
-pub high_sum-short : (bytes : List ℕ) → length bytes < 4 → high_sum bytes ≡ 0
-high_sum-short [] short = refl
-high_sum-short (a ∷ []) short = refl
-high_sum-short (a ∷ b ∷ []) short = refl
-high_sum-short (a ∷ b ∷ c ∷ []) short = refl
-high_sum-short (a ∷ b ∷ c ∷ d ∷ rest) short = absurd (omega (arith, short))
+pub carried-short : (bytes : List ℕ) → length bytes < 4 → carried bytes ≡ 0
+carried-short [] short = refl
+carried-short (a ∷ []) short = refl
+carried-short (a ∷ b ∷ []) short = refl
+carried-short (a ∷ b ∷ c ∷ []) short = refl
+carried-short (a ∷ b ∷ c ∷ d ∷ rest) short = absurd (omega (arith, short))
 
--- each of them is a word of 16 bits
-pub high_sum-le : (bytes : List ℕ) → high_sum bytes ≤ sum (words bytes)
-high_sum-le [] = omega arith
-high_sum-le (a ∷ []) = omega arith
-high_sum-le (a ∷ b ∷ []) = omega arith
-high_sum-le (a ∷ b ∷ c ∷ []) = omega arith
-high_sum-le (a ∷ b ∷ c ∷ d ∷ rest) =
-    omega (arith, high_sum-le rest, sum_by-cons (λ w. w) (256 * a + b) (words (c ∷ d ∷ rest)), sum_by-cons (λ w. w) (256 * c + d) (words rest))
+-- so they are none where the words are all 0
+pub carried-le : (bytes : List ℕ) → carried bytes ≤ 65537 * sum (words bytes)
+carried-le [] = omega arith
+carried-le (a ∷ []) = omega arith
+carried-le (a ∷ b ∷ []) = omega arith
+carried-le (a ∷ b ∷ c ∷ []) = omega arith
+carried-le (a ∷ b ∷ c ∷ d ∷ rest) =
+    omega (arith, carried-le rest, sum_by-cons (λ w. w) (256 * a + b) (words (c ∷ d ∷ rest)), sum_by-cons (λ w. w) (256 * c + d) (words rest))
 
--- 2^16 - 1 more in a sum, so often as a part of it says, makes no difference to what is left of it
-folded-wide : (n high : ℕ) → high ≤ n → folded (n + 65535 * high) ≡ folded n
+-- 2^16 - 1 more in a sum, however often, makes no difference to what is left of it, but where the sum is 0
+folded-wide : (n times : ℕ) → times ≤ 65537 * n → folded (n + 65535 * times) ≡ folded n
 unfolding folded
-folded-wide zero high low = ap folded (let none : 0 + 65535 * high ≡ 0 = omega (arith, low) in none)
-folded-wide (suc n) high low =
-    ap folded (let same : suc n + 65535 * high ≡ suc (n + 65535 * high) = omega arith in same)
-    ∙ (let same : (n + 65535 * high) % 65535 + 1 ≡ n % 65535 + 1 = omega arith in same)
+folded-wide zero times low = ap folded (let none : 0 + 65535 * times ≡ 0 = omega (arith, low) in none)
+folded-wide (suc n) times low =
+    ap folded (let same : suc n + 65535 * times ≡ suc (n + 65535 * times) = omega arith in same)
+    ∙ (let same : (n + 65535 * times) % 65535 + 1 ≡ n % 65535 + 1 = omega arith in same)
 
 -- and so it is as right
-pub right-wide : (n high : ℕ) → high ≤ n → is_right_sum (n + 65535 * high) ≡ is_right_sum n
-right-wide n high low = ap (λ m. m == 0xffff) (folded-wide n high low)
+pub right-wide : (n times : ℕ) → times ≤ 65537 * n → is_right_sum (n + 65535 * times) ≡ is_right_sum n
+right-wide n times low = ap (λ m. m == 0xffff) (folded-wide n times low)

@@ -26,6 +26,3 @@ mod udp;
 pub use fault::L4Fault;
 pub use tcp::Tcp;
 pub use udp::Udp;
-
-#[cfg(test)]
-mod tests;

@@ -16,19 +16,20 @@ fn address_sum(address: Addr) -> u64
 }
 
 /// A sum that is as right as that of the 16-bit words of `bytes`, whatever is added to both. Words of
-/// 32 bits are added, in each of which 2^16 counts as 1 (RFC 1071, section 2, C).
+/// 32 bits are added, in each of which 2^16 counts as 1, and read from their low end, where 256 times a
+/// word is as right as the word itself with its bytes in their order (RFC 1071, section 2, B and C).
 fn wide_sum(bytes: &[u8]) -> u64
     requires { length bytes.now ≤ 65535 }
     ensures value { (more : ℕ) → is_right_sum (more + result) ≡ is_right_sum (more + sum (words bytes.now)) }
-    ensures bound { result ≤ 2 ^ 32 * length bytes.now }
+    ensures bound { result ≤ 2 ^ 40 * length bytes.now }
 {
     let mut rest = bytes;
     let mut total: u64 = 0;
     while let [a, b, c, d, after @ ..] = rest {
-        total += u64::from(u32::from_be_bytes([*a, *b, *c, *d]));
+        total += u64::from(u32::from_le_bytes([*a, *b, *c, *d]));
         rest = after;
     }
-    total + word_sum(rest)
+    256 * total + word_sum(rest)
 }
 
 /// Whether the checksum in a datagram of `protocol` is right: that over the pseudo header of its

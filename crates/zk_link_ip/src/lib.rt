@@ -7,6 +7,3 @@ mod ip4;
 
 pub use frame::{content, ip_part};
 pub use ip4::{Ip4, IpFault};
-
-#[cfg(test)]
-mod tests;

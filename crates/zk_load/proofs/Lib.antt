@@ -1,4 +1,5 @@
 pub mod Doing
 mod Finding
 mod LoadLaws
+mod Rows
 pub mod SoFar

@@ -19,6 +19,3 @@ pub use copies::{default_copy, literal_value};
 pub use laws::{code_ends, code_means, told_stays};
 pub use op::Op;
 pub use program::lower;
-
-#[cfg(test)]
-mod tests;

@@ -37,6 +37,3 @@ pub use same::{copied_keys, copied_type, same_keys, same_simple, same_type, same
 pub use shapes::{added_type, empty_of, is_vector, keys_in, plain_shape, update_of};
 pub use table::{arithmetic_of, takes_left};
 pub use texts::{verb_takes, verbs, verbs_take};
-
-#[cfg(test)]
-mod tests;

@@ -12,6 +12,3 @@ pub use faults::CaptureFault;
 pub use feed::{Feed, Next, feeds_read_captures};
 pub use headers::{HEADER_LEN, Header};
 pub use records::{Packet, PacketView};
-
-#[cfg(test)]
-mod tests;

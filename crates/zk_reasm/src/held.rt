@@ -22,10 +22,10 @@ pub struct Held {
     pub above: u64,
     /// How many bytes are held.
     pub kept: u64,
-    /// The bytes from the taken places on to the first gap or the front.
-    run: ByteQueue,
     /// The place behind the run.
     run_end: u64,
+    /// The bytes from the taken places on to the first gap or the front.
+    run: ByteQueue,
     /// The bytes behind the run, which lie behind a gap or above a hole.
     apart: Apart,
     ghost start: { length (bytes_of run) ≤ run_end },
@@ -53,8 +53,8 @@ impl Held {
             front: 0,
             above: 0,
             kept: 0,
-            run: ByteQueue::new(alloc),
             run_end: 0,
+            run: ByteQueue::new(alloc),
             apart: Apart::new(alloc),
         }
     }
@@ -158,6 +158,7 @@ impl Held {
     }
 
     /// Moves the front to the first place at or past the reach without a byte, but at most to `most`.
+    /// Where nothing is held and the reach is no further than the front, that is known at once.
     pub fn advance(&mut self, reach: u64, most: u64)
         requires reach { reach ≤ PLACES }
         requires most { most ≤ PLACES }
@@ -170,6 +171,9 @@ impl Held {
         ensures kept { self.new.kept ≡ self.old.kept }
         ensures settled { IsSettled self.new }
     {
+        if self.is_clear() && reach <= self.front {
+            return;
+        }
         self.pass(reach, most);
         self.settle();
     }

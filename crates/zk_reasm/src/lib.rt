@@ -14,6 +14,3 @@ mod stretch;
 pub use laws::stream_laws;
 pub use place::PLACES;
 pub use stream::{Put, Stream};
-
-#[cfg(test)]
-mod tests;

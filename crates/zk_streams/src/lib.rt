@@ -8,6 +8,3 @@ mod streams;
 pub use filter::Filter;
 pub use kept::LogStream;
 pub use streams::Streams;
-
-#[cfg(test)]
-mod tests;

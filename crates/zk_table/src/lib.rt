@@ -12,6 +12,3 @@ pub use heap::{Heap, Lent};
 pub use slot::{Pair, moment_after};
 pub use table::Table;
 pub use zk_tree::Expiry;
-
-#[cfg(test)]
-mod tests;

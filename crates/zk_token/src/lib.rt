@@ -11,6 +11,3 @@ mod words;
 
 pub use fault::LexFault;
 pub use splitting::{script_tokens, tokens};
-
-#[cfg(test)]
-mod tests;

@@ -16,16 +16,16 @@ use Rattle.zk_pcap.specs.Header.{counted, header_of, number_of}
 use Rattle.zk_pcap.specs.Record.{record_at, is_too_long, end_of}
 use Rattle.zk_pcap.specs.Standing.{StandsFor, RestIs}
 use Rattle.zk_top.specs.declared.capture.CaptureReader.{CaptureReader}
-use Rattle.zk_top.specs.declared.stop.Stop.{Stop}
-use Rattle.zk_top.specs.Parts.{DoesPart}
-use Rattle.zk_top.specs.Reading.{HasRead, SameInput, IsReading, IsReadThrough, IsCapture, SaysPart}
+use Rattle.zk_load.specs.declared.stop.Stop.{Stop}
+use Rattle.zk_load.specs.Parts.{DoesPart}
+use Rattle.zk_top.specs.Reading.{HasRead, SameInput, IsReading, IsReadThrough, IsCapture, SaysPart, OverCapture}
 use Rattle.zk_pcap.specs.Feed.{IsSure}
 use Rattle.zk_pcap.proofs.FeedLemmas.{record_place, record_stays, too_long_stays, feeds_read}
 use Rattle.zk_pcap.proofs.HeaderLemmas.{header_of_counted}
 use Rattle.zk_pcap.proofs.FrontLemmas.{header_stays, fronts_begin}
 use Rattle.zk_pcap.proofs.RecordLemmas.{end_from-stand, stand_more}
 use Rattle.zk_pcap.proofs.StandingLemmas.{stand_along}
-use Rattle.zk_top.proofs.SoFar.{IsReadSoFar, read_more}
+use Rattle.zk_load.proofs.SoFar.{IsReadSoFar, read_more}
 
 -- ---- pieces
 
@@ -227,13 +227,19 @@ pub capture_begun : (whole : Option (List ℕ)) (header : Header) (bytes : List 
 capture_begun whole header bytes packets reader now is =
     begun whole header bytes packets reader.feed.place reader.left is.counted is.opens is.stands.stand (rest_of now) is.read.rest
 
+-- what holds of some packets whatever comes behind them
+pub over_capture_begun : (whole : Option (List ℕ)) (header : Header) (bytes : List ℕ) (packets : List Packet) (reader : CaptureReader) (now : Outside) (holds : List Packet → Type 0)
+    → IsReading whole header bytes packets reader now → ((others : List Packet) → holds (packets ++ others)) → OverCapture whole holds
+over_capture_begun whole header bytes packets reader now holds is there =
+    let (all, others, ending, capture, same) = capture_begun whole header bytes packets reader now is in
+    record { packets = all; ending = ending; all = capture; there = subst holds (sym same) (there others) }
+
 -- stopped on the way, behind some packets
 pub says_part : (whole : Option (List ℕ)) (header : Header) (bytes : List ℕ) (packets : List Packet) (reader : CaptureReader) (now : Outside) (wanted : List Packet → List ℕ)
     (old : Outside) (stop : Stop) (new : Outside) → IsReading whole header bytes packets reader now → ((others : List Packet) → DoesPart [] (wanted (packets ++ others)) [] old stop new)
     → SaysPart whole wanted old stop new
 says_part whole header bytes packets reader now wanted old stop new is part =
-    let (all, others, ending, capture, same) = capture_begun whole header bytes packets reader now is in
-    record { packets = all; ending = ending; all = capture; says = subst (λ ps. DoesPart [] (wanted ps) [] old stop new) (sym same) (part others) }
+    over_capture_begun whole header bytes packets reader now (λ ps. DoesPart [] (wanted ps) [] old stop new) is part
 
 -- ---- how far it goes
 
@@ -275,10 +281,17 @@ told_header whole header bytes packets reader now is = header_by whole (rest_of 
     header_by there (Some rest) same =
         subst (λ w. IfSome w (λ file. header_of file ≡ Ok header)) (sym same) (header_stays bytes rest (subst IsSure (sym is.opens) tt) ∙ is.opens)
 
+-- what holds of some packets and the one that stands next, whatever comes behind them
+pub over_capture_next : (whole : Option (List ℕ)) (header : Header) (bytes : List ℕ) (packets : List Packet) (packet : Packet) (reader : CaptureReader) (now : Outside) (holds : List Packet → Type 0)
+    → IsReading whole header bytes packets reader now → record_at header bytes (end_from 24 packets) ≡ Some packet → ((others : List Packet) → holds ((packets ++ packet ∷ []) ++ others))
+    → OverCapture whole holds
+over_capture_next whole header bytes packets packet reader now holds is at there =
+    let (all, others, ending, capture, same) = capture_begun_next whole header bytes packets packet reader now is at in
+    record { packets = all; ending = ending; all = capture; there = subst holds (sym same) (there others) }
+
 -- stopped while the packet that stands next is taken
 pub says_part_next : (whole : Option (List ℕ)) (header : Header) (bytes : List ℕ) (packets : List Packet) (packet : Packet) (reader : CaptureReader) (now : Outside) (wanted : List Packet → List ℕ)
     (old : Outside) (stop : Stop) (new : Outside) → IsReading whole header bytes packets reader now → record_at header bytes (end_from 24 packets) ≡ Some packet
     → ((others : List Packet) → DoesPart [] (wanted ((packets ++ packet ∷ []) ++ others)) [] old stop new) → SaysPart whole wanted old stop new
 says_part_next whole header bytes packets packet reader now wanted old stop new is at part =
-    let (all, others, ending, capture, same) = capture_begun_next whole header bytes packets packet reader now is at in
-    record { packets = all; ending = ending; all = capture; says = subst (λ ps. DoesPart [] (wanted ps) [] old stop new) (sym same) (part others) }
+    over_capture_next whole header bytes packets packet reader now (λ ps. DoesPart [] (wanted ps) [] old stop new) is at part

@@ -1,300 +1,332 @@
 -- The command line in the subject's own words.
-use Rattle.std.proofs.Common.{◌≡◌, ◌↔◌, ℕ, suc, ◌+◌, ◌<◌, ◌≤◌, Bool, true, false, ◌&&◌, ◌||◌, ◌⊎◌, inl, inr, cond, List, [], ◌∷◌, ◌++◌, take, map, length, length-append, append_assoc, codes, Some, None, IsTrue, refl, sym, ap, subst, ◌∙◌, arith}
-use Rattle.std.proofs.lemmas.Bool.{cases_lt}
+use Rattle.std.proofs.Common.{◌≡◌, ◌↔◌, ℕ, zero, suc, ◌+◌, ◌<◌, ◌≤◌, Bool, true, false, ◌⊎◌, inl, inr, if◌then◌else◌, List, [], ◌∷◌, ◌++◌, take, length, option_map, is_none, length-append, append-nil, codes, add-one, Option, Some, None, Result, Ok, Err, is_ok, is_some, IsTrue, slice_get, refl, sym, ap, subst, ◌∙◌, arith}
 use Rattle.std.specs.Str.{bytes_eq}
-use Rattle.std.proofs.lemmas.Slice.Eq.{bytes_eq-Decides}
-use Rattle.std.proofs.lemmas.List.{append-nil}
-use Rattle.std.proofs.Math.Seq.{take-append_seam}
-use Rattle.zk_top.specs.declared.command.Slot.{Slot}
-use Rattle.zk_top.specs.declared.command.Slot.TheVariants as slot
-use Rattle.zk_top.specs.Command.{Command, ListItems, RunScript, Help, Version, IsCommand, IsFirstNotUnderstood, is_file_name, fits, list_slots, run_slots, help_slots, version_slots, begins_with, command_of, begins, first_not_understood}
+use Rattle.zk_top.specs.declared.command.Next.{Next}
+use Rattle.zk_top.specs.declared.command.Next.TheVariants as next
+use Rattle.zk_top.specs.declared.command.Run.{Run}
+use Rattle.zk_top.specs.declared.command.Standing.{Standing}
+use Rattle.zk_top.specs.declared.command.Standing.TheVariants as standing
+use Rattle.zk_top.specs.Command.{budget_max, buffer_max, IsFirstNotUnderstood, begins, is_whole, is_whole_at, no_options, is_file_name, number_in, once, with_option, with_script, with_word, run_on, verb, step, stand_from, settings_of, words_from, run_of, command_of}
 
-both : (a b : Bool) → (a && b) ≡ true → (a ≡ true) × (b ≡ true)
-both true b h = (refl, h)
-both false b h = absurd (let never : ⊥ = cc in never)
+-- Words one after another --------------------------------------------------------------------------------------------
 
-of_both : (a b : Bool) → a ≡ true → b ≡ true → (a && b) ≡ true
-of_both true b g h = h
-of_both false b g h = absurd (let never : ⊥ = cc in never)
+-- where the words so far stand, the others go on
+abbrev stand_on : Result Standing ℕ → ℕ → List (List ℕ) → Result Standing ℕ
+stand_on (Err place) number words = Err place
+stand_on (Ok so_far) number words = stand_from so_far number words
 
-one_of : (a b : Bool) → (a || b) ≡ true → (a ≡ true) ⊎ (b ≡ true)
-one_of true b h = inl refl
-one_of false b h = inr h
+abbrev goes_on : Option Standing → ℕ → List (List ℕ) → Result Standing ℕ
+goes_on found number words = elim found [
+  | None ↦ Err number
+  | Some more ↦ stand_from more (number + 1) words
+]
 
-or_left : (a b : Bool) → a ≡ true → (a || b) ≡ true
-or_left true b h = refl
-or_left false b h = absurd (let never : ⊥ = cc in never)
+stand_append : (so_far : Standing) (number : ℕ) (words more : List (List ℕ)) → stand_from so_far number (words ++ more) ≡ stand_on (stand_from so_far number words) (number + length words) more
+stand_append so_far number [] more = ap (λ n. stand_from so_far n more) (let same : number ≡ number + 0 = omega arith in same)
+stand_append so_far number (word ∷ words) more = by (step so_far number word) (λ further. stand_append further (number + 1) words more)
+  where
+    by : (found : Option Standing) → ((further : Standing) → stand_from further (number + 1) (words ++ more) ≡ stand_on (stand_from further (number + 1) words) (number + 1 + length words) more)
+        → goes_on found number (words ++ more) ≡ stand_on (goes_on found number words) (number + suc (length words)) more
+    by None behind = refl
+    by (Some further) behind = behind further
+        ∙ ap (λ n. stand_on (stand_from further (number + 1) words) n more) (let same : number + 1 + length words ≡ number + suc (length words) = omega arith in same)
 
-or_right : (a b : Bool) → b ≡ true → (a || b) ≡ true
-or_right true b h = refl
-or_right false b h = h
+-- The first word that isn't understood ---------------------------------------------------------------------------------
 
-same_word : (a b : List ℕ) → bytes_eq a b ≡ true → a ≡ b
-same_word a b h = (bytes_eq-Decides a b).0 h
+record Refused (so_far : Standing) (number : ℕ) (words : List (List ℕ)) (place : ℕ) : Type 0 where
+  at : ℕ
+  is : place ≡ number + at
+  within : at < length words
+  before : (n : ℕ) → n < at → is_ok (stand_from so_far number (take (suc n) words)) ≡ true
+  there : is_ok (stand_from so_far number (take (suc at) words)) ≡ false
 
--- Words that fill slots -------------------------------------------------------------------------------------------
+-- the word before these leads there
+record RefusedBehind (next : Option Standing) (number : ℕ) (words : List (List ℕ)) (place : ℕ) : Type 0 where
+  at : ℕ
+  is : place ≡ number + at
+  within : at < suc (length words)
+  before : (n : ℕ) → n < at → is_ok (goes_on next number (take n words)) ≡ true
+  there : is_ok (goes_on next number (take at words)) ≡ false
 
--- there is a word for each slot, and no other
-Fill : List Slot → List (List ℕ) → Type 0
-Fill [] [] = Unit {0}
-Fill [] (word ∷ words) = ⊥
-Fill (slot ∷ slots) [] = ⊥
-Fill (slot ∷ slots) (word ∷ words) = (fits slot word ≡ true) × Fill slots words
+refused_here : (number : ℕ) (words : List (List ℕ)) (place : ℕ) → number ≡ place → RefusedBehind None number words place
+refused_here number words place same = record {
+  at = 0;
+  is = let here : place ≡ number + 0 = omega (arith, same) in here;
+  within = omega arith;
+  before = λ n less. absurd (omega (arith, less));
+  there = refl;
+}
 
--- a word for a slot
-sample : Slot → List ℕ
-sample slot.List = codes "list"
-sample slot.Run = codes "run"
-sample slot.Bare = codes "-b"
-sample slot.Read = codes "-r"
-sample slot.Help = codes "--help"
-sample slot.Version = codes "--version"
-sample slot.File = codes "a"
+earlier_words : (further : Standing) (number : ℕ) (words : List (List ℕ)) (at : ℕ) → ((n : ℕ) → n < at → is_ok (stand_from further (number + 1) (take (suc n) words)) ≡ true)
+    → (n : ℕ) → n < suc at → is_ok (goes_on (Some further) number (take n words)) ≡ true
+earlier_words further number words at before zero less = refl
+earlier_words further number words at before (suc n) less = before n (omega (arith, less))
 
-sample_fits : (s : Slot) → fits s (sample s) ≡ true
-unfolding sample
-sample_fits slot.List = refl
-sample_fits slot.Run = refl
-sample_fits slot.Bare = refl
-sample_fits slot.Read = refl
-sample_fits slot.Help = refl
-sample_fits slot.Version = refl
-sample_fits slot.File = refl
+refused_further : (further : Standing) (number : ℕ) (words : List (List ℕ)) (place : ℕ) → Refused further (number + 1) words place → RefusedBehind (Some further) number words place
+refused_further further number words place far = record {
+  at = suc far.at;
+  is = let here : place ≡ number + suc far.at = omega (arith, far.is) in here;
+  within = omega (arith, far.within);
+  before = earlier_words further number words far.at far.before;
+  there = far.there;
+}
 
-samples_fill : (slots : List Slot) → Fill slots (map sample slots)
-unfolding Fill
-samples_fill [] = tt
-samples_fill (s ∷ slots) = (sample_fits s, samples_fill slots)
+behind_word : (so_far : Standing) (number : ℕ) (word : List ℕ) (words : List (List ℕ)) (place : ℕ) → RefusedBehind (step so_far number word) number words place → Refused so_far number (word ∷ words) place
+behind_word so_far number word words place far = record { at = far.at; is = far.is; within = far.within; before = far.before; there = far.there }
 
--- words that begin a command go on to fill its slots
-completed : (slots : List Slot) (words : List (List ℕ)) → begins_with slots words ≡ true → (more : List (List ℕ)) × Fill slots (words ++ more)
-unfolding Fill
-completed slots [] h = (map sample slots, samples_fill slots)
-completed [] (word ∷ words) h = absurd (let never : ⊥ = cc in never)
-completed (s ∷ slots) (word ∷ words) h =
-    let parts = both (fits s word) (begins_with slots words) h in
-    let rest = completed slots words parts.1 in
-    (rest.0, (parts.0, rest.1))
+refused_from : (so_far : Standing) (number : ℕ) (words : List (List ℕ)) (place : ℕ) → stand_from so_far number words ≡ Err place → Refused so_far number words place
+refused_from so_far number [] place is = absurd (let never : ⊥ = cc in never)
+refused_from so_far number (word ∷ words) place is =
+    behind_word so_far number word words place (by (step so_far number word) (λ further. refused_from further (number + 1) words place) is)
+  where
+    by : (found : Option Standing) → ((further : Standing) → stand_from further (number + 1) words ≡ Err place → Refused further (number + 1) words place)
+        → goes_on found number words ≡ Err place → RefusedBehind found number words place
+    by None behind same = refused_here number words place (let here : number ≡ place = cc in here)
+    by (Some further) behind same = refused_further further number words place (behind further same)
 
--- the first of words that fill slots begin the command
-begun_of : (slots : List Slot) (words more : List (List ℕ)) → Fill slots (words ++ more) → begins_with slots words ≡ true
-unfolding Fill
-begun_of [] [] more h = refl
-begun_of (s ∷ slots) [] more h = refl
-begun_of [] (word ∷ words) more h = absurd h
-begun_of (s ∷ slots) (word ∷ words) more h = of_both (fits s word) (begins_with slots words) h.0 (begun_of slots words more h.1)
+pub first : (words : List (List ℕ)) (place : ℕ) → stand_from standing.Nothing 0 words ≡ Err place → IsFirstNotUnderstood words place
+first words place is =
+    let far : Refused standing.Nothing 0 words place = refused_from standing.Nothing 0 words place is in
+    let here : place ≡ far.at = omega (arith, far.is) in
+    record {
+      within = omega (arith, here, far.within);
+      before = λ n less. rw add-one (far.before n (omega (arith, less, here)));
+      there = rw add-one (subst (λ k. begins (take (suc k) words) ≡ false) (sym here) far.there);
+    }
 
--- as many words as slots
-filled : (slots : List Slot) (words : List (List ℕ)) → length words ≡ length slots → begins_with slots words ≡ true → Fill slots words
-unfolding Fill
-filled [] [] same h = tt
-filled [] (word ∷ words) same h = absurd (let never : ⊥ = cc in never)
-filled (s ∷ slots) [] same h = absurd (omega arith)
-filled (s ∷ slots) (word ∷ words) same h =
-    let parts = both (fits s word) (begins_with slots words) h in
-    (parts.0, filled slots words (omega arith) parts.1)
+-- What a command's first words are -------------------------------------------------------------------------------------
 
--- The commands ----------------------------------------------------------------------------------------------------
+-- a run so far, of so many words
+record Sound (number : ℕ) (run : Run) : Type 0 where
+  named : (at : ℕ) → run.file ≡ Some at → at < number
+  order : is_some run.scripts ≡ true → (is_some run.file ≡ true) × (run.next ≡ next.Word)
 
-slots_of : Command → List Slot
-slots_of (ListItems file) = list_slots
-slots_of (RunScript file script) = run_slots
-slots_of Help = help_slots
-slots_of Version = version_slots
+abbrev Valid : ℕ → Standing → Type 0
+Valid number standing.Nothing = Unit {0}
+Valid number standing.List = 1 ≤ number
+Valid number standing.Listed = 2 ≤ number
+Valid number (standing.Run run) = Sound number run
+Valid number standing.Help = Unit {0}
+Valid number standing.Version = Unit {0}
 
-is_listing : (verb file : List ℕ) → Fill list_slots (verb ∷ file ∷ []) → IsCommand (verb ∷ file ∷ []) (ListItems file)
-unfolding Fill
-is_listing verb file h = (ap (λ v. v ∷ file ∷ []) (same_word verb (codes "list") h.0), h.1.0)
+one_or : {A : Type 0} (b : Bool) (p rest : Option A) (y : A) → (if b then p else rest) ≡ Some y → (p ≡ Some y) ⊎ (rest ≡ Some y)
+one_or true p rest y is = inl is
+one_or false p rest y is = inr is
 
-is_run : (verb bare read file script : List ℕ) → Fill run_slots (verb ∷ bare ∷ read ∷ file ∷ script ∷ []) → IsCommand (verb ∷ bare ∷ read ∷ file ∷ script ∷ []) (RunScript file script)
-unfolding Fill
-is_run verb bare read file script h =
-    let first = same_word verb (codes "run") h.0 in
-    let second = same_word bare (codes "-b") h.1.0 in
-    let third = same_word read (codes "-r") h.1.1.0 in (
-      ap (λ v. v ∷ bare ∷ read ∷ file ∷ script ∷ []) first
-          ∙ (ap (λ b. codes "run" ∷ b ∷ read ∷ file ∷ script ∷ []) second ∙ ap (λ r. codes "run" ∷ codes "-b" ∷ r ∷ file ∷ script ∷ []) third),
-      of_both (is_file_name file) (is_file_name script) h.1.1.1.0 h.1.1.1.1.0,
-    )
+once_is : (there : Bool) (run found : Run) → once there run ≡ Some found → run ≡ found
+once_is true run found is = absurd (let never : ⊥ = cc in never)
+once_is false run found is = cc
 
--- words that fill the slots of a listing are one
-listing_of : (words : List (List ℕ)) → Fill list_slots words → (command : Command) × IsCommand words command
-unfolding Fill
-listing_of [] h = absurd h
-listing_of (verb ∷ []) h = absurd h.1
-listing_of (verb ∷ file ∷ []) h = (ListItems file, is_listing verb file h)
-listing_of (verb ∷ file ∷ more ∷ others) h = absurd h.1.1
+-- an option leaves the file and the scripts as they are
+record KeepsNames (run found : Run) : Type 0 where
+  file : found.file ≡ run.file
+  scripts : found.scripts ≡ run.scripts
 
-run_of : (words : List (List ℕ)) → Fill run_slots words → (command : Command) × IsCommand words command
-unfolding Fill
-run_of [] h = absurd h
-run_of (verb ∷ []) h = absurd h.1
-run_of (verb ∷ bare ∷ []) h = absurd h.1.1
-run_of (verb ∷ bare ∷ read ∷ []) h = absurd h.1.1.1
-run_of (verb ∷ bare ∷ read ∷ file ∷ []) h = absurd h.1.1.1.1
-run_of (verb ∷ bare ∷ read ∷ file ∷ script ∷ []) h = (RunScript file script, is_run verb bare read file script h)
-run_of (verb ∷ bare ∷ read ∷ file ∷ script ∷ more ∷ others) h = absurd h.1.1.1.1.1
+by_option : (run other found : Run) (there : Bool) → KeepsNames run other → once there other ≡ Some found → KeepsNames run found
+by_option run other found there keeps is = subst (KeepsNames run) (once_is there other found is) keeps
 
-is_help : (word : List ℕ) → Fill help_slots (word ∷ []) → IsCommand (word ∷ []) Help
-unfolding Fill
-is_help word h = (ap (λ w. w ∷ []) (same_word word (codes "--help") h.0), refl)
-
-is_version : (word : List ℕ) → Fill version_slots (word ∷ []) → IsCommand (word ∷ []) Version
-unfolding Fill
-is_version word h = (ap (λ w. w ∷ []) (same_word word (codes "--version") h.0), refl)
-
-help_of : (words : List (List ℕ)) → Fill help_slots words → (command : Command) × IsCommand words command
-unfolding Fill
-help_of [] h = absurd h
-help_of (word ∷ []) h = (Help, is_help word h)
-help_of (word ∷ more ∷ others) h = absurd h.1
-
-version_of : (words : List (List ℕ)) → Fill version_slots words → (command : Command) × IsCommand words command
-unfolding Fill
-version_of [] h = absurd h
-version_of (word ∷ []) h = (Version, is_version word h)
-version_of (word ∷ more ∷ others) h = absurd h.1
-
--- the words of a command fill its slots
-fill_of : (words : List (List ℕ)) (command : Command) → IsCommand words command → Fill (slots_of command) words
-unfolding Fill slots_of
-fill_of words (ListItems file) is = subst (Fill list_slots) (sym is.0) (refl, (is.1, tt))
-fill_of words (RunScript file script) is =
-    let names = both (is_file_name file) (is_file_name script) is.1 in
-    subst (Fill run_slots) (sym is.0) (refl, (refl, (refl, (names.0, (names.1, tt)))))
-fill_of words Help is = subst (Fill help_slots) (sym is.0) (refl, tt)
-fill_of words Version is = subst (Fill version_slots) (sym is.0) (refl, tt)
-
-if_filled : (slots : List Slot) (words : List (List ℕ)) (it command : Command) → length words ≡ length slots → (Fill slots words → IsCommand words it)
-    → cond (begins_with slots words) (Some it) None ≡ Some command → IsCommand words command
-if_filled slots words it command size give =
-    elim (begins_with slots words) as (λ b. begins_with slots words ≡ b → cond b (Some it) None ≡ Some command → IsCommand words command) [
-      | true ↦ λ is h. let same : it ≡ command = cc in subst (λ c. IsCommand words c) same (give (filled slots words size is))
-      | false ↦ λ is h. absurd (let never : ⊥ = cc in never)
-    ] refl
-
--- a word alone is one of two commands, or none
-if_alone : (word : List ℕ) (command : Command) (help version : Bool) → (help ≡ true → IsCommand (word ∷ []) Help) → (version ≡ true → IsCommand (word ∷ []) Version)
-    → cond help (Some Help) (cond version (Some Version) None) ≡ Some command → IsCommand (word ∷ []) command
-if_alone word command true version is_first is_second h = let same : Help ≡ command = cc in subst (IsCommand (word ∷ [])) same (is_first refl)
-if_alone word command false true is_first is_second h = let same : Version ≡ command = cc in subst (IsCommand (word ∷ [])) same (is_second refl)
-if_alone word command false false is_first is_second h = absurd (let never : ⊥ = cc in never)
-
-spelled_by : (words : List (List ℕ)) (command : Command) → command_of words ≡ Some command → IsCommand words command
-spelled_by [] command h = absurd (let never : ⊥ = cc in never)
-spelled_by (word ∷ []) command h =
-    if_alone word command (begins_with help_slots (word ∷ [])) (begins_with version_slots (word ∷ []))
-    (λ is. is_help word (filled help_slots (word ∷ []) refl is)) (λ is. is_version word (filled version_slots (word ∷ []) refl is)) h
-spelled_by (verb ∷ file ∷ []) command h = if_filled list_slots (verb ∷ file ∷ []) (ListItems file) command refl (is_listing verb file) h
-spelled_by (verb ∷ bare ∷ read ∷ []) command h = absurd (let never : ⊥ = cc in never)
-spelled_by (verb ∷ bare ∷ read ∷ file ∷ []) command h = absurd (let never : ⊥ = cc in never)
-spelled_by (verb ∷ bare ∷ read ∷ file ∷ script ∷ []) command h =
-    if_filled run_slots (verb ∷ bare ∷ read ∷ file ∷ script ∷ []) (RunScript file script) command refl (is_run verb bare read file script) h
-spelled_by (verb ∷ bare ∷ read ∷ file ∷ script ∷ more ∷ others) command h = absurd (let never : ⊥ = cc in never)
-
-read_as : (words : List (List ℕ)) (command : Command) → IsCommand words command → command_of words ≡ Some command
-read_as words (ListItems file) is =
-    ap command_of is.0 ∙ ap (λ b. cond (b && true) (Some (ListItems file)) None) is.1
-read_as words (RunScript file script) is =
-    let names = both (is_file_name file) (is_file_name script) is.1 in
-    ap command_of is.0
-    ∙ (ap (λ b. cond (b && (is_file_name script && true)) (Some (RunScript file script)) None) names.0
-    ∙ ap (λ b. cond (b && true) (Some (RunScript file script)) None) names.1)
-read_as words Help is = ap command_of is.0
-read_as words Version is = ap command_of is.0
-
-pub spelled : (words : List (List ℕ)) (command : Command) → (command_of words ≡ Some command) ↔ IsCommand words command
-spelled words command = (spelled_by words command, read_as words command)
-
--- Words that begin a command --------------------------------------------------------------------------------------
-
-Begun : List (List ℕ) → Type 0
-Begun words = (more : List (List ℕ)) × (command : Command) × IsCommand (words ++ more) command
-
-begun_by : (words : List (List ℕ)) → IsTrue (begins words) → Begun words
-unfolding Begun
-begun_by words h =
-    let four = one_of (begins_with list_slots words || begins_with run_slots words || begins_with help_slots words) (begins_with version_slots words) h in
-    elim four [
-      | inr version ↦ let found = completed version_slots words version in let is = version_of (words ++ found.0) found.1 in (found.0, is.0, is.1)
-      | inl three ↦ elim (one_of (begins_with list_slots words || begins_with run_slots words) (begins_with help_slots words) three) [
-        | inr help ↦ let found = completed help_slots words help in let is = help_of (words ++ found.0) found.1 in (found.0, is.0, is.1)
-        | inl two ↦ elim (one_of (begins_with list_slots words) (begins_with run_slots words) two) [
-          | inl list ↦ let found = completed list_slots words list in let is = listing_of (words ++ found.0) found.1 in (found.0, is.0, is.1)
-          | inr run ↦ let found = completed run_slots words run in let is = run_of (words ++ found.0) found.1 in (found.0, is.0, is.1)
+option_keeps : (run found : Run) (word : List ℕ) → with_option run word ≡ Some found → KeepsNames run found
+option_keeps run found word is = elim (one_or (bytes_eq word (codes "-C")) _ _ found is) [
+  | inl here ↦ by_option run _ found _ (record { file = refl; scripts = refl }) here
+  | inr is ↦ elim (one_or (bytes_eq word (codes "-b")) _ _ found is) [
+    | inl here ↦ by_option run _ found _ (record { file = refl; scripts = refl }) here
+    | inr is ↦ elim (one_or (bytes_eq word (codes "--budget")) _ _ found is) [
+      | inl here ↦ by_option run _ found _ (record { file = refl; scripts = refl }) here
+      | inr is ↦ elim (one_or (bytes_eq word (codes "--buffer")) _ _ found is) [
+        | inl here ↦ by_option run _ found _ (record { file = refl; scripts = refl }) here
+        | inr is ↦ elim (one_or (bytes_eq word (codes "-r")) _ _ found is) [
+          | inl here ↦ by_option run _ found _ (record { file = refl; scripts = refl }) here
+          | inr none ↦ absurd (let never : ⊥ = cc in never)
         ]
       ]
     ]
+  ]
+]
 
-begins_by : (words more : List (List ℕ)) (command : Command) → IsCommand (words ++ more) command → IsTrue (begins words)
-unfolding slots_of
-begins_by words more (ListItems file) is =
-    or_left (begins_with list_slots words || begins_with run_slots words || begins_with help_slots words) (begins_with version_slots words)
-    (or_left (begins_with list_slots words || begins_with run_slots words) (begins_with help_slots words)
-    (or_left (begins_with list_slots words) (begins_with run_slots words) (begun_of list_slots words more (fill_of (words ++ more) (ListItems file) is))))
-begins_by words more (RunScript file script) is =
-    or_left (begins_with list_slots words || begins_with run_slots words || begins_with help_slots words) (begins_with version_slots words)
-    (or_left (begins_with list_slots words || begins_with run_slots words) (begins_with help_slots words)
-    (or_right (begins_with list_slots words) (begins_with run_slots words) (begun_of run_slots words more (fill_of (words ++ more) (RunScript file script) is))))
-begins_by words more Help is =
-    or_left (begins_with list_slots words || begins_with run_slots words || begins_with help_slots words) (begins_with version_slots words)
-    (or_right (begins_with list_slots words || begins_with run_slots words) (begins_with help_slots words) (begun_of help_slots words more (fill_of (words ++ more) Help is)))
-begins_by words more Version is =
-    or_right (begins_with list_slots words || begins_with run_slots words || begins_with help_slots words) (begins_with version_slots words)
-    (begun_of version_slots words more (fill_of (words ++ more) Version is))
+more_words : (number : ℕ) (run : Run) → Sound number run → Sound (number + 1) run
+more_words number run sound = record { named = λ at is. omega (arith, sound.named at is); order = sound.order }
 
-pub begun : (words : List (List ℕ)) → IsTrue (begins words) ↔ ((more : List (List ℕ)) × (command : Command) × IsCommand (words ++ more) command)
-unfolding Begun
-begun words = (begun_by words, λ found. begins_by words found.0 found.1 found.2)
+-- a run whose next word is an option or a script
+script_sound : (run found : Run) (number : ℕ) → Sound number run → run.next ≡ next.Word → with_script run number ≡ Some found → Sound (number + 1) found
+script_sound run found number sound here is = of_file run.file refl
+  where
+    unchanged : run ≡ found → Sound (number + 1) found
+    unchanged same = subst (Sound (number + 1)) same (more_words number run sound)
 
--- from words on that begin a command
-record IsFirstFrom (whole : List (List ℕ)) (least place : ℕ) : Type 0 where
-  within : place ≤ length whole
-  before : (n : ℕ) → least ≤ n → n < place → IsTrue (begins (take (n + 1) whole))
-  there : place < length whole → begins (take (place + 1) whole) ≡ false
+    first_script : (at : ℕ) → run.file ≡ Some at → record run { scripts = Some number } ≡ found → Sound (number + 1) found
+    first_script at there same = subst (Sound (number + 1)) same (record {
+      named = λ other named. omega (arith, sound.named other named);
+      order = λ some. (ap is_some there, here);
+    })
 
-first_at_end : (whole prefix : List (List ℕ)) → whole ≡ prefix ++ [] → IsFirstFrom whole (length prefix) (length prefix)
-first_at_end whole prefix is =
-    let size : length whole ≡ length prefix = ap length (is ∙ append-nil prefix) in
-    record {
-      within = omega arith;
-      before = λ n above below. absurd (omega arith);
-      there = λ below. absurd (omega arith);
-    }
+    of_scripts : (at : ℕ) → run.file ≡ Some at → (scripts : Option ℕ) → (if is_some scripts then Some run else Some (record run { scripts = Some number })) ≡ Some found → Sound (number + 1) found
+    of_scripts at there None same = first_script at there cc
+    of_scripts at there (Some script) same = unchanged cc
 
--- the words before, and one more
-prefix_taken : (whole prefix rest : List (List ℕ)) (word : List ℕ) → whole ≡ prefix ++ word ∷ rest → take (length prefix + 1) whole ≡ prefix ++ word ∷ []
-prefix_taken whole prefix rest word is =
-    let one : List (List ℕ) = prefix ++ word ∷ [] in
-    let size : length one ≡ length prefix + 1 = length-append prefix (word ∷ []) in
-    subst (λ n. take n whole ≡ one) size (ap (take (length one)) (is ∙ sym (append_assoc prefix (word ∷ []) rest)) ∙ take-append_seam one rest)
+    of_file : (file : Option ℕ) → run.file ≡ file → Sound (number + 1) found
+    of_file None there = absurd (let gone : None ≡ Some found = sym (ap (λ f. if is_none f then None else (if is_some run.scripts then Some run else Some (record run { scripts = Some number }))) there) ∙ is in let never : ⊥ = cc in never)
+    of_file (Some at) there = of_scripts at there run.scripts (sym (ap (λ f. if is_none f then None else (if is_some run.scripts then Some run else Some (record run { scripts = Some number }))) there) ∙ is)
 
-first_from : (whole prefix rest : List (List ℕ)) → whole ≡ prefix ++ rest → IsFirstFrom whole (length prefix) (first_not_understood prefix rest)
-first_from whole prefix [] is = first_at_end whole prefix is
-first_from whole prefix (word ∷ rest) is =
-    let one : List (List ℕ) = prefix ++ word ∷ [] in
-    let taken : take (length prefix + 1) whole ≡ one = prefix_taken whole prefix rest word is in
-    let size : length one ≡ length prefix + 1 = length-append prefix (word ∷ []) in
-    let long : length whole ≡ length prefix + suc (length rest) = ap length is ∙ length-append prefix (word ∷ rest) in
-    elim (begins one) as (λ b. begins one ≡ b → IsFirstFrom whole (length prefix) (cond b (first_not_understood one rest) (length prefix))) [
-      | true ↦ λ begun.
-          let later = first_from whole one rest (is ∙ sym (append_assoc prefix (word ∷ []) rest)) in
-          record {
-            within = later.within;
-            before = λ n above below. elim (cases_lt (length prefix) n) [
-              | inl beyond ↦ later.before n (omega arith) below
-              | inr upto ↦ let here : length prefix ≡ n = omega arith in subst (λ m. IsTrue (begins (take (m + 1) whole))) here (ap begins taken ∙ begun)
-            ];
-            there = later.there;
-          }
-      | false ↦ λ begun. record {
-        within = omega arith;
-        before = λ n above below. absurd (omega arith);
-        there = λ below. ap begins taken ∙ begun;
-      }
-    ] refl
+word_sound : (run found : Run) (number : ℕ) (word : List ℕ) → Sound number run → run.next ≡ next.Word → with_word run number word ≡ Some found → Sound (number + 1) found
+word_sound run found number word sound here is = elim (one_or (is_file_name word) _ _ found is) [
+  | inl script ↦ script_sound run found number sound here script
+  | inr option ↦ of_scripts run.scripts refl option
+]
+  where
+    of_scripts : (scripts : Option ℕ) → run.scripts ≡ scripts → (if is_some run.scripts then None else with_option run word) ≡ Some found → Sound (number + 1) found
+    of_scripts (Some script) there same = absurd (let gone : None ≡ Some found = sym (ap (λ s. if is_some s then None else with_option run word) there) ∙ same in let never : ⊥ = cc in never)
+    of_scripts None there same =
+        let keeps = option_keeps run found word (sym (ap (λ s. if is_some s then None else with_option run word) there) ∙ same) in
+        record {
+          named = λ at is. omega (arith, sound.named at (sym keeps.file ∙ is));
+          order = λ some. absurd (let none : is_some found.scripts ≡ false = ap is_some (keeps.scripts ∙ there) in let never : ⊥ = cc in never);
+        }
 
-pub first : (words : List (List ℕ)) → IsFirstNotUnderstood words (first_not_understood [] words)
-first words =
-    let from = first_from words [] words refl in
-    record { within = from.within; before = λ n below. from.before n (omega arith) below; there = from.there }
+-- a value behind an option
+no_scripts : (number : ℕ) (run : Run) → Sound number run → (run.next ≡ next.Word → ⊥) → is_some run.scripts ≡ true → ⊥
+no_scripts number run sound waits some = waits (sound.order some).1
+
+valued : (run found : Run) (number value : ℕ) (given : Option ℕ) (with_value : ℕ → Run) → Sound number run → (run.next ≡ next.Word → ⊥)
+    → ((n : ℕ) → KeepsNames run (with_value n)) → option_map with_value given ≡ Some found → Sound (number + 1) found
+valued run found number value None with_value sound waits keeps is = absurd (let never : ⊥ = cc in never)
+valued run found number value (Some n) with_value sound waits keeps is =
+    let same : with_value n ≡ found = cc in
+    subst (Sound (number + 1)) same (record {
+      named = λ at there. omega (arith, sound.named at (sym (keeps n).file ∙ there));
+      order = λ some. absurd (no_scripts number run sound waits (sym (ap is_some (keeps n).scripts) ∙ some));
+    })
+
+run_sound : (run found : Run) (number : ℕ) (word : List ℕ) → Sound number run → run_on run number word ≡ Some found → Sound (number + 1) found
+run_sound run found number word sound is = of_next run.next refl
+  where
+    on : Next → Option Run
+    on now = elim now [
+      | next.Word ↦ with_word run number word
+      | next.Budget ↦ option_map (λ n. record run { budget = Some n; next = next.Word }) (number_in budget_max word)
+      | next.Buffer ↦ option_map (λ n. record run { buffer = Some n; next = next.Word }) (number_in buffer_max word)
+      | next.File ↦ if is_file_name word then Some (record run { file = Some number; next = next.Word }) else None
+    ]
+
+    of_next : (now : Next) → run.next ≡ now → Sound (number + 1) found
+    of_next next.Word there = word_sound run found number word sound there (sym (ap on there) ∙ is)
+    of_next next.Budget there = valued run found number 0 (number_in budget_max word) (λ n. record run { budget = Some n; next = next.Word }) sound
+        (λ is_word. let clash : next.Budget ≡ next.Word = sym there ∙ is_word in let never : ⊥ = cc in never) (λ n. record { file = refl; scripts = refl }) (sym (ap on there) ∙ is)
+    of_next next.Buffer there = valued run found number 0 (number_in buffer_max word) (λ n. record run { buffer = Some n; next = next.Word }) sound
+        (λ is_word. let clash : next.Buffer ≡ next.Word = sym there ∙ is_word in let never : ⊥ = cc in never) (λ n. record { file = refl; scripts = refl }) (sym (ap on there) ∙ is)
+    of_next next.File there = of_name (is_file_name word) (sym (ap on there) ∙ is)
+      where
+        of_name : (good : Bool) → (if good then Some (record run { file = Some number; next = next.Word }) else None) ≡ Some found → Sound (number + 1) found
+        of_name false same = absurd (let never : ⊥ = cc in never)
+        of_name true same =
+            let found_is : record run { file = Some number; next = next.Word } ≡ found = cc in
+            subst (Sound (number + 1)) found_is (record {
+              named = λ at here. let is : number ≡ at = cc in omega (arith, is);
+              order = λ some. (refl, refl);
+            })
+
+verb_valid : (word : List ℕ) (number : ℕ) (more : Standing) → verb word ≡ Some more → Valid (number + 1) more
+verb_valid word number more is = elim (one_or (bytes_eq word (codes "list")) _ _ more is) [
+  | inl here ↦ subst (Valid (number + 1)) (let same : standing.List ≡ more = cc in same) (let one : 1 ≤ number + 1 = omega arith in one)
+  | inr is ↦ elim (one_or (bytes_eq word (codes "run")) _ _ more is) [
+    | inl here ↦ subst (Valid (number + 1)) (let same : standing.Run no_options ≡ more = cc in same) no_names
+    | inr is ↦ elim (one_or (bytes_eq word (codes "--help")) _ _ more is) [
+      | inl here ↦ subst (Valid (number + 1)) (let same : standing.Help ≡ more = cc in same) tt
+      | inr is ↦ elim (one_or (bytes_eq word (codes "--version")) _ _ more is) [
+        | inl here ↦ subst (Valid (number + 1)) (let same : standing.Version ≡ more = cc in same) tt
+        | inr none ↦ absurd (let never : ⊥ = cc in never)
+      ]
+    ]
+  ]
+]
+  where
+    no_names : Sound (number + 1) no_options
+    no_names = record { named = λ at is. absurd (let never : ⊥ = cc in never); order = λ some. absurd (let never : ⊥ = cc in never) }
+
+step_valid : (so_far more : Standing) (number : ℕ) (word : List ℕ) → Valid number so_far → step so_far number word ≡ Some more → Valid (number + 1) more
+step_valid standing.Nothing more number word valid is = verb_valid word number more is
+step_valid standing.List more number word valid is = by (is_file_name word) is
+  where
+    by : (good : Bool) → (if good then Some standing.Listed else None) ≡ Some more → Valid (number + 1) more
+    by true same = subst (Valid (number + 1)) (let here : standing.Listed ≡ more = cc in here) (let two : 2 ≤ number + 1 = omega (arith, valid) in two)
+    by false same = absurd (let never : ⊥ = cc in never)
+step_valid standing.Listed more number word valid is = absurd (let never : ⊥ = cc in never)
+step_valid (standing.Run run) more number word valid is = by (run_on run number word) refl is
+  where
+    by : (found : Option Run) → run_on run number word ≡ found → option_map standing.Run found ≡ Some more → Valid (number + 1) more
+    by None there same = absurd (let never : ⊥ = cc in never)
+    by (Some found) there same = subst (Valid (number + 1)) (let here : standing.Run found ≡ more = cc in here) (run_sound run found number word valid there)
+step_valid standing.Help more number word valid is = absurd (let never : ⊥ = cc in never)
+step_valid standing.Version more number word valid is = absurd (let never : ⊥ = cc in never)
+
+stands_valid : (so_far : Standing) (number : ℕ) (words : List (List ℕ)) (all : Standing) → Valid number so_far → stand_from so_far number words ≡ Ok all → Valid (number + length words) all
+stands_valid so_far number [] all valid is =
+    subst (λ n. Valid n all) (let same : number ≡ number + 0 = omega arith in same) (subst (Valid number) (let here : so_far ≡ all = cc in here) valid)
+stands_valid so_far number (word ∷ words) all valid is = by (step so_far number word) (λ further. stands_valid further (number + 1) words all) refl is
+  where
+    by : (found : Option Standing) → ((further : Standing) → Valid (number + 1) further → stand_from further (number + 1) words ≡ Ok all → Valid (number + 1 + length words) all)
+        → step so_far number word ≡ found → goes_on found number words ≡ Ok all → Valid (number + suc (length words)) all
+    by None behind there same = absurd (let never : ⊥ = cc in never)
+    by (Some further) behind there same =
+        subst (λ n. Valid n all) (let sum : number + 1 + length words ≡ number + suc (length words) = omega arith in sum)
+        (behind further (step_valid so_far further number word valid there) same)
+
+-- Words that make a command whole -----------------------------------------------------------------------------------------
+
+got : (words : List (List ℕ)) (at : ℕ) → at < length words → is_some (slice_get words at) ≡ true
+got [] at less = absurd (omega (arith, less))
+got (word ∷ words) zero less = refl
+got (word ∷ words) (suc at) less = got words at (omega (arith, less))
+
+mapped : {A B : Type 0} (f : A → B) (found : Option A) → is_some found ≡ true → is_some (option_map f found) ≡ true
+mapped f None is = absurd (let never : ⊥ = cc in never)
+mapped f (Some a) is = refl
+
+file_there : {B : Type 0} (words more : List (List ℕ)) (f : List ℕ → B) (at : ℕ) → at < length words + length more → is_some (option_map f (slice_get (words ++ more) at)) ≡ true
+file_there words more f at less = mapped f (slice_get (words ++ more) at) (got (words ++ more) at (omega (arith, less, length-append words more)))
+
+abbrev Completes : List (List ℕ) → Standing → Type 0
+Completes words all = (more : List (List ℕ)) × (is_whole_at (words ++ more) (stand_from all (length words) more) ≡ true)
+
+complete_run : (words : List (List ℕ)) (unchecked bare : Bool) (budget buffer file scripts : Option ℕ) (now : Next)
+    → Sound (length words) (record { unchecked = unchecked; bare = bare; budget = budget; buffer = buffer; file = file; scripts = scripts; next = now })
+    → Completes words (standing.Run (record { unchecked = unchecked; bare = bare; budget = budget; buffer = buffer; file = file; scripts = scripts; next = now }))
+complete_run words u b bu bf (Some at) sc next.Word sound = ([], file_there words [] _ at (omega (arith, sound.named at refl)))
+complete_run words u b bu bf (Some at) sc next.Budget sound = (codes "1" ∷ [], file_there words (codes "1" ∷ []) _ at (omega (arith, sound.named at refl)))
+complete_run words u b bu bf (Some at) sc next.Buffer sound = (codes "1" ∷ [], file_there words (codes "1" ∷ []) _ at (omega (arith, sound.named at refl)))
+complete_run words u b bu bf file sc next.File sound = (codes "a" ∷ [], file_there words (codes "a" ∷ []) _ (length words) (omega arith))
+complete_run words u b bu bf None (Some script) next.Word sound = absurd (let never : ⊥ = (let clash : false ≡ true = (sound.order refl).0 in cc) in never)
+complete_run words u b bu bf None None next.Word sound = (codes "-r" ∷ codes "a" ∷ [], file_there words (codes "-r" ∷ codes "a" ∷ []) _ (length words + 1) (omega arith))
+complete_run words u b bu bf None (Some script) next.Budget sound = absurd (let never : ⊥ = (let clash : false ≡ true = (sound.order refl).0 in cc) in never)
+complete_run words u b bu bf None None next.Budget sound = (codes "1" ∷ codes "-r" ∷ codes "a" ∷ [], file_there words (codes "1" ∷ codes "-r" ∷ codes "a" ∷ []) _ (length words + 1 + 1) (omega arith))
+complete_run words u b bu bf None (Some script) next.Buffer sound = absurd (let never : ⊥ = (let clash : false ≡ true = (sound.order refl).0 in cc) in never)
+complete_run words u b bu bf None None next.Buffer sound = (codes "1" ∷ codes "-r" ∷ codes "a" ∷ [], file_there words (codes "1" ∷ codes "-r" ∷ codes "a" ∷ []) _ (length words + 1 + 1) (omega arith))
+
+complete : (words : List (List ℕ)) (all : Standing) → Valid (length words) all → Completes words all
+complete words standing.Nothing valid = (codes "--help" ∷ [], refl)
+complete words standing.List valid = (codes "a" ∷ [], file_there words (codes "a" ∷ []) _ 1 (omega (arith, valid)))
+complete words standing.Listed valid = ([], file_there words [] _ 1 (omega (arith, valid)))
+complete words (standing.Run run) valid = complete_run words run.unchecked run.bare run.budget run.buffer run.file run.scripts run.next valid
+complete words standing.Help valid = ([], refl)
+complete words standing.Version valid = ([], refl)
+
+begun_whole : (words : List (List ℕ)) (stands : Result Standing ℕ) → stand_from standing.Nothing 0 words ≡ stands → is_ok stands ≡ true → (more : List (List ℕ)) × IsTrue (is_whole (words ++ more))
+begun_whole words (Err place) is ok = absurd (let never : ⊥ = cc in never)
+begun_whole words (Ok all) is ok =
+    let none_before : 0 + length words ≡ length words = omega arith in
+    let (more, whole) = complete words all (subst (λ n. Valid n all) none_before (stands_valid standing.Nothing 0 words all tt is)) in
+    let joined : stand_from standing.Nothing 0 (words ++ more) ≡ stand_from all (length words) more =
+    stand_append standing.Nothing 0 words more ∙ ap (λ s. stand_on s (0 + length words) more) is ∙ ap (λ n. stand_from all n more) none_before in
+    (more, ap (is_whole_at (words ++ more)) joined ∙ whole)
+
+whole_begun : (words more : List (List ℕ)) (stands : Result Standing ℕ) → stand_from standing.Nothing 0 words ≡ stands → is_whole (words ++ more) ≡ true → is_ok stands ≡ true
+whole_begun words more (Ok all) is whole = refl
+whole_begun words more (Err place) is whole =
+    let joined : stand_from standing.Nothing 0 (words ++ more) ≡ Err place = stand_append standing.Nothing 0 words more ∙ ap (λ s. stand_on s (0 + length words) more) is in
+    let clash : false ≡ true = sym (ap (is_whole_at (words ++ more)) joined) ∙ whole in
+    absurd (let never : ⊥ = cc in never)
+
+pub begun : (words : List (List ℕ)) → IsTrue (begins words) ↔ ((more : List (List ℕ)) × IsTrue (is_whole (words ++ more)))
+begun words = (
+  λ ok. begun_whole words (stand_from standing.Nothing 0 words) refl ok,
+  λ found. whole_begun words found.0 (stand_from standing.Nothing 0 words) refl found.1,
+)

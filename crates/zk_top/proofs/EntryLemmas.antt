@@ -6,51 +6,50 @@ use Rattle.zk_base.specs.declared.endings.Ending.{Ending}
 use Rattle.zk_base.specs.declared.endings.Ending.TheVariants.{Done, Usage}
 use Rattle.zk_base.specs.Shelf.{Files, Outside, HasRisen, appended}
 use Rattle.zk_pcap.specs.declared.captures.Capture.{Capture}
-use Rattle.zk_typed.specs.declared.program.Program.{Program}
-use Rattle.zk_top.specs.declared.found.Found.{Found}
-use Rattle.zk_top.specs.declared.found.Found.TheVariants.{Accepted, Refused}
-use Rattle.zk_top.specs.declared.stop.Stop.{Stop}
-use Rattle.zk_top.specs.Command.{Command, ListItems, RunScript, Help, Version, understand}
+use Rattle.zk_typed.specs.Program.{Program}
+use Rattle.zk_load.specs.Loading.{Loading, Scripts, loading}
+use Rattle.zk_load.specs.declared.found.Found.{Found}
+use Rattle.zk_load.specs.declared.found.Found.TheVariants.{Accepted, Refused}
+use Rattle.zk_load.specs.declared.stop.Stop.{Stop}
+use Rattle.zk_top.specs.Command.{Command, ListItems, RunScripts, Help, Version, understand}
 use Rattle.zk_top.specs.Complaint.{complaint_of}
-use Rattle.zk_top.specs.Outcome.{Outcome, Report, no_files, ending_so, opened, loaded, over_capture, list_report, link_in, run_report, running, outcome_of, outcome}
-use Rattle.zk_top.specs.Parts.{DoesAll, DoesPart, Fulfils, BreaksOff}
-use Rattle.zk_top.specs.Run.{IsPrefix, files_over, IsDone, OutputsBegun, StaysWithin}
-use Rattle.zk_top.proofs.Doing.{prefix_of_none, prefix_all, does_nothing_without_fault, does_both, without_fault_both, cause_since}
+use Rattle.zk_top.specs.declared.command.Settings.{Settings}
+use Rattle.zk_top.specs.Outcome.{Outcome, Report, no_files, ending_so, opened, over_capture, list_report, link_in, run_report, running, run_of, outcome_of, outcome}
+use Rattle.zk_top.specs.Script.{program_of}
+use Rattle.zk_load.specs.Parts.{DoesAll, DoesPart, IsPrefix}
+use Rattle.zk_top.specs.Parts.{Fulfils, BreaksOff, IsAllButComplaint, but_outputs}
+use Rattle.zk_top.specs.Run.{IsDone, StaysWithin}
+use Rattle.zk_top.proofs.Giving.{does_beside, without_fault_beside, no_file_begun, no_file_written, whole_begun}
+use Rattle.zk_load.proofs.Doing.{prefix_of_none, prefix_all, does_nothing_without_fault, does_both, without_fault_both, cause_since}
 
--- Of what is wanted: no file is written, and the complaint is that of the ending ---------------------------------
+-- Of what is wanted: the complaint is that of the ending -----------------------------------------------------------
 
-record IsPlain (wanted : Outcome) : Type 0 where
-  files : wanted.files ≡ no_files
-  complained : wanted.complained ≡ complaint_of wanted.ending
+plain_over : (report : Capture → Report) (names : List (List ℕ)) (found : Found Capture)
+    → (over_capture report names found).complained ≡ complaint_of (over_capture report names found).ending
+plain_over report names (Accepted capture) = refl
+plain_over report names (Refused e) = refl
 
-plain_over : (report : Capture → Report) (names : List (List ℕ)) (found : Found Capture) → IsPlain (over_capture report names found)
-plain_over report names (Accepted capture) = record { files = refl; complained = refl }
-plain_over report names (Refused e) = record { files = refl; complained = refl }
+plain_running : (file : List ℕ) (settings : Settings) (asked : List (List ℕ)) (found : Found Program) (input : Option (List ℕ))
+    → (running file settings asked found input).complained ≡ complaint_of (running file settings asked found input).ending
+plain_running file settings asked (Accepted program) input =
+    plain_over (run_report file settings program (link_in input)) (asked ++ file ∷ []) (opened file input)
+plain_running file settings asked (Refused e) input = refl
 
-plain_running : (file script : List ℕ) (found : Found Program) (inputs : Files) → IsPlain (running file script found inputs)
-plain_running file script (Accepted program) inputs =
-    plain_over (run_report file program) (script ∷ file ∷ []) (opened file (inputs file))
-plain_running file script (Refused e) inputs = record { files = refl; complained = refl }
+plain_scripts : (file : List ℕ) (settings : Settings) (asked : List (List ℕ)) (found : Found Scripts) (input : Option (List ℕ))
+    → (run_of file settings asked found input).complained ≡ complaint_of (run_of file settings asked found input).ending
+plain_scripts file settings asked (Accepted scripts) input = plain_running file settings asked (program_of scripts) input
+plain_scripts file settings asked (Refused e) input = refl
 
-plain_of : (asked : Result Command ℕ) (inputs : Files) → IsPlain (outcome_of asked inputs)
-plain_of (Err word) inputs = record { files = refl; complained = refl }
+plain_of : (asked : Result Command ℕ) (inputs : Files) → (outcome_of asked inputs).complained ≡ complaint_of (outcome_of asked inputs).ending
+plain_of (Err word) inputs = refl
 plain_of (Ok (ListItems file)) inputs = plain_over (list_report file (link_in (inputs file))) (file ∷ []) (opened file (inputs file))
-plain_of (Ok (RunScript file script)) inputs = plain_running file script (loaded script (inputs script)) inputs
-plain_of (Ok Help) inputs = record { files = refl; complained = refl }
-plain_of (Ok Version) inputs = record { files = refl; complained = refl }
+plain_of (Ok (RunScripts settings file scripts)) inputs =
+    plain_scripts file settings (loading scripts inputs).asked (loading scripts inputs).found (inputs file)
+plain_of (Ok Help) inputs = refl
+plain_of (Ok Version) inputs = refl
 
-plain : (words : List (List ℕ)) (inputs : Files) → IsPlain (outcome words inputs)
+plain : (words : List (List ℕ)) (inputs : Files) → (outcome words inputs).complained ≡ complaint_of (outcome words inputs).ending
 plain words inputs = plain_of (understand words) inputs
-
--- Outputs that stay ------------------------------------------------------------------------------------------------
-
-outputs_over : (written : Files) (old new : Option Files) → written ≡ no_files → new ≡ old → new ≡ option_map (files_over written) old
-outputs_over written None new none same = same
-outputs_over written (Some files) new none same = same ∙ ap (λ w. Some (files_over w files)) (sym none)
-
-outputs_begun : (written : Files) (old new : Option Files) → new ≡ old → OutputsBegun written old new
-outputs_begun written None new same = same
-outputs_begun written (Some files) new same = (files, same, λ name. inl refl)
 
 -- A run ------------------------------------------------------------------------------------------------------------
 
@@ -58,9 +57,9 @@ pub is_done : (words : List (List ℕ)) (inputs : Files) (old : Outside) (ending
     → Fulfils (outcome words) (complaint_of ending) old ending new → IsDone (outcome words inputs) old ending new
 is_done words inputs old ending new told does = record {
   ends = does.ends inputs told;
-  files = outputs_over (outcome words inputs).files old.outputs new.outputs (plain words inputs).files does.does.does.outputs_stay;
+  files = does.files_are inputs told;
   said = does.does.does.says ∙ ap (appended old.said) (does.said_is inputs told);
-  complained = does.does.does.complains ∙ ap (appended old.complained) (ap complaint_of (does.ends inputs told) ∙ sym (plain words inputs).complained);
+  complained = does.does.does.complains ∙ ap (appended old.complained) (ap complaint_of (does.ends inputs told) ∙ sym (plain words inputs));
   started = does.does.does.starts ∙ ap (λ names. option_map (λ before. before ++ names) old.started) (does.names_are inputs told);
 }
 
@@ -69,7 +68,7 @@ pub within_of_done : (words : List (List ℕ)) (inputs : Files) (old : Outside) 
 within_of_done words inputs old ending new told does =
     let done : IsDone (outcome words inputs) old ending new = is_done words inputs old ending new told does in
     record {
-      files = outputs_begun (outcome words inputs).files old.outputs new.outputs does.does.does.outputs_stay;
+      files = whole_begun (outcome words inputs).files old.outputs new.outputs (does.files_are inputs told);
       said = (outcome words inputs).said;
       said_prefix = prefix_all (outcome words inputs).said;
       said_is = done.said;
@@ -85,7 +84,7 @@ within_of_done words inputs old ending new told does =
 pub within_of_broken : (words : List (List ℕ)) (inputs : Files) (old : Outside) (stop : Stop) (new : Outside) → old.inputs ≡ Some inputs
     → BreaksOff (outcome words) old stop new → StaysWithin (outcome words inputs) old new
 within_of_broken words inputs old stop new told broken = record {
-  files = outputs_begun (outcome words inputs).files old.outputs new.outputs broken.does.outputs_stay;
+  files = broken.files_begun inputs told;
   said = broken.said;
   said_prefix = broken.said_prefix inputs told;
   said_is = broken.does.says;
@@ -98,9 +97,9 @@ within_of_broken words inputs old stop new told broken = record {
   complaint_last = elim (broken.complaint_last inputs told) [
     | inl none ↦ inl none
     | inr all ↦ inr (record {
-      files = outputs_over (outcome words inputs).files old.outputs new.outputs (plain words inputs).files broken.does.outputs_stay;
-      said = broken.does.says ∙ ap (appended old.said) all.1;
-      started = broken.does.starts ∙ ap (appended old.started) all.0;
+      files = all.files;
+      said = broken.does.says ∙ ap (appended old.said) all.all_said;
+      started = broken.does.starts ∙ ap (appended old.started) all.asked;
     })
   ];
 }
@@ -111,13 +110,15 @@ pub with_complaint : (words : List (List ℕ)) (old mid : Outside) (ending : End
 with_complaint words old mid ending new does complains = record {
   names = does.names ++ [];
   said = does.said ++ [];
-  does = without_fault_both does.names [] does.said [] [] (complaint_of ending) old mid new does.does complains.all;
+  does = without_fault_both does.names [] does.said [] [] (complaint_of ending) old (but_outputs old mid) (but_outputs old new) does.does
+      (without_fault_beside [] [] (complaint_of ending) old mid new complains.all);
   whole = does.whole;
   absent = λ name is. subst (HasRisen old.absences) (sym complains.present) (does.absent name is);
   present = λ other. complains.present ∙ does.present other;
   ends = does.ends;
   names_are = λ inputs told. append-nil does.names ∙ does.names_are inputs told;
   said_is = λ inputs told. append-nil does.said ∙ does.said_is inputs told;
+  files_are = λ inputs told. complains.all.does.outputs_stay ∙ does.files_are inputs told;
 }
 
 -- stopped while it complains
@@ -132,13 +133,19 @@ broken_complaint words old mid ending stop new does part =
       names = does.names ++ part.names_part;
       said = does.said ++ part.said_part;
       complained = part.complained_part;
-      does = does_both does.names part.names_part does.said part.said_part [] part.complained_part old mid new does.does.does part.does;
-      cause = cause_since old mid stop new does.does.faults part.cause;
+      does = does_both does.names part.names_part does.said part.said_part [] part.complained_part old (but_outputs old mid) (but_outputs old new) does.does.does
+          (does_beside part.names_part part.said_part part.complained_part old mid new part.does);
+      cause = cause_since old mid stop new (record { read = does.does.faults.read; write = does.does.faults.write }) part.cause;
       quiet = part.quiet;
       names_prefix = λ inputs told. subst (λ xs. IsPrefix xs (outcome words inputs).asked) (sym (names ∙ does.names_are inputs told)) (prefix_all (outcome words inputs).asked);
       said_prefix = λ inputs told. subst (λ xs. IsPrefix xs (outcome words inputs).said) (sym (said ∙ does.said_is inputs told)) (prefix_all (outcome words inputs).said);
-      complained_prefix = λ inputs told. subst (λ text. IsPrefix part.complained_part text) (ap complaint_of (does.ends inputs told) ∙ sym (plain words inputs).complained) part.complained_prefix;
-      complaint_last = λ inputs told. inr (names ∙ does.names_are inputs told, said ∙ does.said_is inputs told);
+      files_begun = λ inputs told. whole_begun (outcome words inputs).files old.outputs new.outputs (part.does.outputs_stay ∙ does.files_are inputs told);
+      complained_prefix = λ inputs told. subst (λ text. IsPrefix part.complained_part text) (ap complaint_of (does.ends inputs told) ∙ sym (plain words inputs)) part.complained_prefix;
+      complaint_last = λ inputs told. inr (record {
+        asked = names ∙ does.names_are inputs told;
+        all_said = said ∙ does.said_is inputs told;
+        files = part.does.outputs_stay ∙ does.files_are inputs told;
+      });
     }
 
 -- words that are no command
@@ -153,6 +160,7 @@ not_understood words word old is = record {
   ends = λ inputs told. ap (λ asked. (outcome_of asked inputs).ending) (sym is);
   names_are = λ inputs told. ap (λ asked. (outcome_of asked inputs).asked) (sym is);
   said_is = λ inputs told. ap (λ asked. (outcome_of asked inputs).said) (sym is);
+  files_are = λ inputs told. no_file_written (outcome words inputs).files old.outputs old.outputs (ap (λ asked. (outcome_of asked inputs).files) is) refl;
 }
 
 -- A text alone ---------------------------------------------------------------------------------------------------
@@ -161,13 +169,14 @@ pub answered : (text : List ℕ) (old new : Outside) → DoesAll [] text [] old 
 answered text old new says = record {
   names = [];
   said = text;
-  does = says.all;
+  does = without_fault_beside [] text [] old old new says.all;
   whole = tt;
   absent = λ name same. absurd (let never : ⊥ = cc in never);
   present = λ other. says.present;
   ends = λ inputs told. refl;
   names_are = λ inputs told. refl;
   said_is = λ inputs told. refl;
+  files_are = λ inputs told. no_file_written no_files old.outputs new.outputs refl says.all.does.outputs_stay;
 }
 
 pub answer_broken : (text : List ℕ) (old : Outside) (stop : Stop) (new : Outside) → DoesPart [] text [] old stop new → BreaksOff (λ _. ending_so Done text []) old stop new
@@ -175,11 +184,12 @@ answer_broken text old stop new part = record {
   names = part.names_part;
   said = part.said_part;
   complained = part.complained_part;
-  does = part.does;
+  does = does_beside part.names_part part.said_part part.complained_part old old new part.does;
   cause = part.cause;
   quiet = part.quiet;
   names_prefix = λ inputs told. part.names_prefix;
   said_prefix = λ inputs told. part.said_prefix;
+  files_begun = λ inputs told. no_file_begun no_files old.outputs new.outputs part.does.outputs_stay;
   complained_prefix = λ inputs told. part.complained_prefix;
   complaint_last = λ inputs told. inl (prefix_of_none part.complained_part part.complained_prefix);
 }

@@ -18,14 +18,15 @@ use Rattle.zk_pcap.specs.Header.{counted, header_of}
 use Rattle.zk_pcap.proofs.FrontLemmas.{header_stays}
 use Rattle.zk_pcap.proofs.HeaderLemmas.{header_of_counted}
 use Rattle.zk_top.specs.declared.capture.CaptureReader.{CaptureReader}
-use Rattle.zk_top.specs.declared.found.Found.{Found}
-use Rattle.zk_top.specs.declared.found.Found.TheVariants.{Accepted, Refused}
-use Rattle.zk_top.specs.Outcome.{judged, opened}
-use Rattle.zk_top.specs.Parts.{IsRefusal, DoesWithoutFault, DoesAll, Finds}
+use Rattle.zk_load.specs.declared.found.Found.{Found}
+use Rattle.zk_load.specs.declared.found.Found.TheVariants.{Accepted, Refused}
+use Rattle.zk_top.specs.Outcome.{link_by, link_in, judged, opened}
+use Rattle.zk_load.specs.Parts.{IsRefusal, DoesWithoutFault, DoesAll, Finds}
 use Rattle.zk_top.specs.Reading.{HasRead, is_short, IsOpen, IsJudged, IsCapture, OpensCapture, FindsCapture}
-use Rattle.zk_top.proofs.Doing.{none_appended, start_all, does_both_all}
+use Rattle.zk_load.proofs.Doing.{none_appended, start_all, does_both_all}
+use Rattle.zk_top.proofs.CaptureReading.{told_header}
 use Rattle.zk_top.proofs.OverCapture.{found_no_capture}
-use Rattle.zk_top.proofs.SoFar.{none_of_input}
+use Rattle.zk_load.proofs.SoFar.{none_of_input}
 
 -- an input that is opened can be read
 readable : (inputs : Option Files) (name : List ℕ) → IsTrue (is_open (opened_reading inputs name))
@@ -131,3 +132,17 @@ capture_found name old reader new packets e opens is = record {
   absent = λ absentee same. absurd (let never : ⊥ = cc in never);
   present = λ other. opens.does.present;
 }
+
+-- ---- the link type
+
+told_link : (there : Option (List ℕ)) (header : Header) → IsSome there → IfSome there (λ file. header_of file ≡ Ok header) → link_in there ≡ header.link
+told_link None header holds is = absurd (let never : ⊥ = cc in never)
+told_link (Some file) header holds is = ap link_by is
+
+-- the told input has the link type that was read
+pub opened_link : (name : List ℕ) (old : Outside) (reader : CaptureReader) (now : Outside) → (opens : OpensCapture name old reader now)
+    → (inputs : Files) → old.inputs ≡ Some inputs → link_in (inputs name) ≡ opens.header.link
+opened_link name old reader now opens inputs told =
+    told_link (inputs name) opens.header (subst (λ o. IfSome o (λ files. IsSome (files name))) told opens.holds)
+    (subst (λ i. IfSome (lies_under i name) (λ file. header_of file ≡ Ok opens.header)) told
+    (told_header (lies_under old.inputs name) opens.header opens.bytes [] reader now opens.reading))

@@ -1,26 +1,24 @@
 -- What is done over a capture, or over none.
-use Rattle.std.proofs.Common.{◌≡◌, ◌≢◌, ℕ, ◌^◌, ◌<◌, inl, inr, cond, length, length-append, arith, List, [], ◌∷◌, Option, Some, None, Result, Ok, Err, IfSome, refl, sym, ap, subst, ◌∙◌}
-use Rattle.std.proofs.lemmas.Bool.{lt-ltb}
+use Rattle.std.proofs.Common.{◌≡◌, ◌≢◌, ℕ, ◌^◌, inl, List, [], ◌∷◌, Option, Some, None, IfSome, refl, sym, ap, subst, ◌∙◌}
+use Rattle.std.specs.Option.{option_map}
 use Rattle.zk_base.specs.declared.endings.Ending.{Ending}
 use Rattle.zk_base.specs.declared.endings.Ending.TheVariants as ending
+use Rattle.zk_base.specs.declared.time.Moment.{Moment}
 use Rattle.zk_base.specs.Shelf.{Files, Outside, HasRisen}
 use Rattle.zk_pcap.specs.declared.captures.Capture.{Capture}
 use Rattle.zk_pcap.specs.declared.captures.CaptureEnding.{CaptureEnding}
 use Rattle.zk_pcap.specs.declared.captures.CaptureEnding.TheVariants.{Whole, Cut}
-use Rattle.zk_pcap.specs.declared.faults.CaptureFault.{CaptureFault}
-use Rattle.zk_pcap.specs.declared.faults.CaptureFault.TheVariants as fault
-use Rattle.zk_base.specs.declared.endings.ScriptKind.TheVariants.{TooLarge}
-use Rattle.zk_pcap.specs.Capture.{UnlessNoMemory}
-use Rattle.zk_typed.specs.declared.program.Program.{Program}
-use Rattle.zk_top.specs.declared.found.Found.{Found}
-use Rattle.zk_top.specs.declared.found.Found.TheVariants.{Accepted, Refused}
-use Rattle.zk_top.specs.declared.stop.Stop.{Stop}
-use Rattle.zk_top.specs.Script.{Refusal, script_max, program_read, script_of}
-use Rattle.zk_token.specs.Tokens.{tokens_of}
-use Rattle.zk_top.specs.Outcome.{Report, over_capture, opened, accepted, loaded, end_of_capture}
-use Rattle.zk_top.specs.Parts.{IsRefusal, IsOfCommand, IsReadBeyond, IsReadOf, DoesWithoutFault, DoesAll, DoesPart, Finds, Fulfils, BreaksOff}
-use Rattle.zk_top.specs.Run.{IsNotStopped, IsPrefix, SameAbsences}
-use Rattle.zk_top.proofs.Doing.{prefix_none, prefix_of_none, prefix_trans, without_fault_both, does_both_part}
+use Rattle.zk_load.specs.declared.found.Found.{Found}
+use Rattle.zk_load.specs.declared.found.Found.TheVariants.{Accepted, Refused}
+use Rattle.zk_load.specs.declared.stop.Stop.{Stop}
+use Rattle.zk_load.specs.Parts.{IsPrefix, IsRefusal, IsReadOf, DoesWithoutFault, DoesAll, DoesPart, Finds, SameAbsences}
+use Rattle.zk_load.proofs.Doing.{prefix_none, prefix_of_none, prefix_trans, without_fault_both, does_both_part}
+use Rattle.zk_logs.specs.Outputs.{files_over, OutputsBegun}
+use Rattle.zk_top.specs.Outcome.{Report, no_files, over_capture, opened, end_of_capture}
+use Rattle.zk_top.specs.Parts.{IsOfCommand, Fulfils, BreaksOff, but_outputs}
+use Rattle.zk_top.specs.Run.{IsNotStopped}
+use Rattle.zk_top.specs.Writing.{GivesAll, GivesPart}
+use Rattle.zk_top.proofs.Giving.{all_beside, cause_of_beside, does_beside, no_file_begun, no_file_written, part_beside, without_fault_beside}
 
 -- Endings -------------------------------------------------------------------------------------------------------
 
@@ -69,9 +67,10 @@ broken_before report file old stop new part = record {
   names = part.names_part;
   said = part.said_part;
   complained = part.complained_part;
-  does = part.does;
+  does = does_beside part.names_part part.said_part part.complained_part old old new part.does;
   cause = part.cause;
   quiet = part.quiet;
+  files_begun = λ inputs told. no_file_begun (over_capture (report (inputs file)) (file ∷ []) (opened file (inputs file))).files old.outputs new.outputs part.does.outputs_stay;
   names_prefix = λ inputs told. subst (λ names. IsPrefix part.names_part names) (sym (asked (report (inputs file)) (file ∷ []) (opened file (inputs file)))) part.names_prefix;
   said_prefix = λ inputs told. let whole : List ℕ = (over_capture (report (inputs file)) (file ∷ []) (opened file (inputs file))).said in
       prefix_trans part.said_part [] whole part.said_prefix (prefix_none whole);
@@ -80,42 +79,90 @@ broken_before report file old stop new part = record {
   complaint_last = λ inputs told. inl (prefix_of_none part.complained_part part.complained_prefix);
 }
 
--- stopped while its lines were said
-pub broken_within : (report : Option (List ℕ) → Capture → Report) (file : List ℕ) (capture : Capture) (said : List ℕ) (old mid : Outside) (stop : Stop) (new : Outside)
-    → Finds file (opened file) old (Accepted capture) mid → ((inputs : Files) → old.inputs ≡ Some inputs → said ≡ (report (inputs file) capture).said)
-    → DoesPart [] said [] mid stop new → BreaksOff (λ inputs. over_capture (report (inputs file)) (file ∷ []) (opened file (inputs file))) old stop new
-broken_within report file capture said old mid stop new found reported says =
-    let part : DoesPart (file ∷ []) said [] old stop new = does_both_part (file ∷ []) [] [] said [] old mid stop new found.does says in
+-- what was given out is what the report says
+pub record IsReport (text : List ℕ) (written : Files) (report : Report) : Type 0 where
+  pub said : text ≡ report.said
+  pub files : written ≡ report.files
+
+-- what stands beside outputs that were the same before
+pub beside_from : (old mid new : Outside) → mid.outputs ≡ old.outputs → but_outputs mid new ≡ but_outputs old new
+beside_from old mid new same = ap (λ outputs. record new { outputs = outputs }) same
+
+-- stopped while it was given out
+pub broken_within : (report : Option (List ℕ) → Capture → Report) (file : List ℕ) (capture : Capture) (said : List ℕ) (files : Files) (old mid : Outside) (stop : Stop) (new : Outside)
+    → Finds file (opened file) old (Accepted capture) mid → ((inputs : Files) → old.inputs ≡ Some inputs → IsReport said files (report (inputs file) capture))
+    → GivesPart said files mid stop new → BreaksOff (λ inputs. over_capture (report (inputs file)) (file ∷ []) (opened file (inputs file))) old stop new
+broken_within report file capture said files old mid stop new found reported gives =
+    let same : mid.outputs ≡ old.outputs = found.does.does.outputs_stay in
+    let part : DoesPart (file ∷ []) said [] old stop (but_outputs old new) = subst (λ now. DoesPart (file ∷ []) said [] old stop now) (beside_from old mid new same)
+    (does_both_part (file ∷ []) [] [] said [] old mid stop (but_outputs mid new) found.does gives.says) in
     record {
       names = part.names_part;
       said = part.said_part;
       complained = part.complained_part;
       does = part.does;
-      cause = part.cause;
+      cause = cause_of_beside old old stop new part.cause;
       quiet = part.quiet;
       names_prefix = λ inputs told. subst (λ names. IsPrefix part.names_part names) (sym (asked (report (inputs file)) (file ∷ []) (opened file (inputs file)))) part.names_prefix;
       said_prefix = λ inputs told. subst (λ text. IsPrefix part.said_part text)
-          (reported inputs told ∙ ap (λ r. (over_capture (report (inputs file)) (file ∷ []) r).said) (found.told inputs told)) part.said_prefix;
+          ((reported inputs told).said ∙ ap (λ r. (over_capture (report (inputs file)) (file ∷ []) r).said) (found.told inputs told)) part.said_prefix;
+      files_begun = λ inputs told. subst (λ written. OutputsBegun written old.outputs new.outputs)
+          ((reported inputs told).files ∙ ap (λ r. (over_capture (report (inputs file)) (file ∷ []) r).files) (found.told inputs told))
+          (subst (λ before. OutputsBegun files before new.outputs) same gives.begun);
       complained_prefix = λ inputs told. let whole : List ℕ = (over_capture (report (inputs file)) (file ∷ []) (opened file (inputs file))).complained in
           prefix_trans part.complained_part [] whole part.complained_prefix (prefix_none whole);
       complaint_last = λ inputs told. inl (prefix_of_none part.complained_part part.complained_prefix);
     }
 
--- its lines were said
-pub fulfilled : (report : Option (List ℕ) → Capture → Report) (file : List ℕ) (capture : Capture) (said : List ℕ) (old mid : Outside) (e : Ending) (new : Outside)
-    → Finds file (opened file) old (Accepted capture) mid → e ≡ end_of_capture file capture.ending
-    → ((inputs : Files) → old.inputs ≡ Some inputs → (said ≡ (report (inputs file) capture).said) × ((report (inputs file) capture).ending ≡ end_of_capture file capture.ending))
-    → DoesAll [] said [] mid new → Fulfils (λ inputs. over_capture (report (inputs file)) (file ∷ []) (opened file (inputs file))) [] old e new
-fulfilled report file capture said old mid e new found is reported says = record {
-  names = file ∷ [];
-  said = said;
-  does = without_fault_both (file ∷ []) [] [] said [] [] old mid new found.does says.all;
-  whole = subst IsNotStopped (sym is) (whole_end file capture.ending);
-  absent = λ name same. absurd (not_absent file capture.ending name (sym is ∙ same));
-  present = λ other. says.present ∙ found.present (λ name same. let never : ⊥ = cc in never);
-  ends = λ inputs told. is ∙ sym (reported inputs told).1 ∙ ap (λ r. (over_capture (report (inputs file)) (file ∷ []) r).ending) (found.told inputs told);
-  names_are = λ inputs told. sym (asked (report (inputs file)) (file ∷ []) (opened file (inputs file)));
-  said_is = λ inputs told. (reported inputs told).0 ∙ ap (λ r. (over_capture (report (inputs file)) (file ∷ []) r).said) (found.told inputs told);
+-- how a command ends that read a capture to its end, or whose run ended in a flood
+pub record EndsItself (e : Ending) : Type 0 where
+  pub whole : IsNotStopped e
+  pub there : (name : List ℕ) → e ≡ ending.NoInput name → ⊥
+
+pub capture_ends : (file : List ℕ) (e : Ending) (end : CaptureEnding) → e ≡ end_of_capture file end → EndsItself e
+capture_ends file e end is = record {
+  whole = subst IsNotStopped (sym is) (whole_end file end);
+  there = λ name same. not_absent file end name (sym is ∙ same);
+}
+
+pub flood_ends : (moment : Moment) → EndsItself (ending.Flood moment)
+flood_ends moment = record { whole = tt; there = λ name same. let never : ⊥ = cc in never }
+
+-- all was given out
+pub fulfilled : (report : Option (List ℕ) → Capture → Report) (file : List ℕ) (capture : Capture) (said : List ℕ) (files : Files) (old mid : Outside) (e : Ending) (new : Outside)
+    → Finds file (opened file) old (Accepted capture) mid → EndsItself e
+    → ((inputs : Files) → old.inputs ≡ Some inputs → (IsReport said files (report (inputs file) capture)) × (e ≡ (report (inputs file) capture).ending))
+    → GivesAll said files mid new → Fulfils (λ inputs. over_capture (report (inputs file)) (file ∷ []) (opened file (inputs file))) [] old e new
+fulfilled report file capture said files old mid e new found ends reported gives =
+    let same : mid.outputs ≡ old.outputs = found.does.does.outputs_stay in
+    record {
+      names = file ∷ [];
+      said = said;
+      does = subst (λ now. DoesWithoutFault (file ∷ []) said [] old now) (beside_from old mid new same)
+          (without_fault_both (file ∷ []) [] [] said [] [] old mid (but_outputs mid new) found.does gives.says.all);
+      whole = ends.whole;
+      absent = λ name is. absurd (ends.there name is);
+      present = λ other. gives.says.present ∙ found.present (λ name is. let never : ⊥ = cc in never);
+      ends = λ inputs told. (reported inputs told).1 ∙ ap (λ r. (over_capture (report (inputs file)) (file ∷ []) r).ending) (found.told inputs told);
+      names_are = λ inputs told. sym (asked (report (inputs file)) (file ∷ []) (opened file (inputs file)));
+      said_is = λ inputs told. (reported inputs told).0.said ∙ ap (λ r. (over_capture (report (inputs file)) (file ∷ []) r).said) (found.told inputs told);
+      files_are = λ inputs told.
+          let written : files ≡ (over_capture (report (inputs file)) (file ∷ []) (opened file (inputs file))).files =
+          (reported inputs told).0.files ∙ ap (λ r. (over_capture (report (inputs file)) (file ∷ []) r).files) (found.told inputs told) in
+          gives.outputs ∙ ap (λ before. option_map (files_over files) before) same ∙ ap (λ w. option_map (files_over w) old.outputs) written;
+    }
+
+-- what is said alone
+pub said_alone : (said : List ℕ) (old new : Outside) → DoesAll [] said [] old new → GivesAll said no_files old new
+said_alone said old new says = record {
+  says = all_beside [] said [] old old new says;
+  outputs = no_file_written no_files old.outputs new.outputs refl says.all.does.outputs_stay;
+}
+
+pub said_part_alone : (said : List ℕ) (old : Outside) (stop : Stop) (new : Outside) → DoesPart [] said [] old stop new → GivesPart said no_files old stop new
+said_part_alone said old stop new part = record {
+  says = part_beside [] said [] old old stop new part;
+  begun = no_file_begun no_files old.outputs new.outputs part.does.outputs_stay;
 }
 
 -- there is no capture
@@ -124,13 +171,15 @@ pub fulfilled_refused : (report : Option (List ℕ) → Capture → Report) (fil
 fulfilled_refused report file old e new found = record {
   names = file ∷ [];
   said = [];
-  does = found.does;
+  does = without_fault_beside (file ∷ []) [] [] old old new found.does;
   whole = whole_refusal e (found.refusal e refl);
   absent = λ name same. found.absent name (ap Refused same);
   present = λ other. found.present (λ name same. other name (let is : e ≡ ending.NoInput name = cc in is));
   ends = λ inputs told. ap (λ r. (over_capture (report (inputs file)) (file ∷ []) r).ending) (found.told inputs told);
   names_are = λ inputs told. sym (asked (report (inputs file)) (file ∷ []) (opened file (inputs file)));
   said_is = λ inputs told. ap (λ r. (over_capture (report (inputs file)) (file ∷ []) r).said) (found.told inputs told);
+  files_are = λ inputs told. no_file_written (over_capture (report (inputs file)) (file ∷ []) (opened file (inputs file))).files old.outputs new.outputs
+      (sym (ap (λ r. (over_capture (report (inputs file)) (file ∷ []) r).files) (found.told inputs told))) found.does.does.outputs_stay;
 }
 
 -- What is found in a file -----------------------------------------------------------------------------------------
@@ -149,54 +198,6 @@ pub found_no_capture : (file : List ℕ) (old new : Outside) → DoesWithoutFaul
 found_no_capture file old new read lacks risen = record {
   does = read;
   told = λ inputs t. lacks_capture file (inputs file) (told old.inputs inputs file None (2 ^ 40) t lacks);
-  refusal = λ e same. let is : ending.NoInput file ≡ e = cc in subst IsRefusal is tt;
-  absent = λ name same. risen;
-  present = λ other. absurd (other file refl);
-}
-
-accepted_refusal : (file : List ℕ) (read : Result Program Refusal) (e : Ending) → accepted file read ≡ Refused e → IsRefusal e
-accepted_refusal file (Ok program) e same = absurd (let never : ⊥ = cc in never)
-accepted_refusal file (Err refusal) e same = let is : ending.ScriptRefused file refusal.place refusal.kind ≡ e = cc in subst IsRefusal is tt
-
-accepted_there : (file : List ℕ) (read : Result Program Refusal) (name : List ℕ) → accepted file read ≡ Refused (ending.NoInput name) → ⊥
-accepted_there file (Ok program) name same = let never : ⊥ = cc in never
-accepted_there file (Err refusal) name same = let never : ⊥ = cc in never
-
--- a text that is too large
-too_large : (text : List ℕ) → script_max < length text → script_of text ≡ Err (record { place = script_max; kind = TooLarge })
-too_large text long = ap (λ b. cond b (Err (record { place = script_max; kind = TooLarge })) (program_read (tokens_of text))) (lt-ltb script_max (length text) long)
-
-script_read : (whole text : List ℕ) → IsReadBeyond script_max whole text → script_of text ≡ script_of whole
-script_read whole text read = elim read.enough [
-  | inl same ↦ ap script_of same
-  | inr long ↦ too_large text long ∙ sym (too_large whole (omega (arith, ap length read.prefix.joined, length-append text read.prefix.rest)))
-]
-
-loaded_as : (file text : List ℕ) (input : Option (List ℕ)) → IsReadOf script_max input (Some text) → accepted file (script_of text) ≡ loaded file input
-loaded_as file text None read = absurd read
-loaded_as file text (Some whole) read = ap (accepted file) (script_read whole text read)
-
--- a script was read
-pub found_script : (file text : List ℕ) (old new : Outside) → DoesWithoutFault (file ∷ []) [] [] old new → SameAbsences old new
-    → IfSome old.inputs (λ files. IsReadOf script_max (files file) (Some text)) → Finds file (loaded file) old (accepted file (script_of text)) new
-found_script file text old new read present holds = record {
-  does = read;
-  told = λ inputs t. loaded_as file text (inputs file) (told old.inputs inputs file (Some text) script_max t holds);
-  refusal = accepted_refusal file (script_of text);
-  absent = λ name same. absurd (accepted_there file (script_of text) name same);
-  present = λ other. present;
-}
-
--- there is no script
-lacks_script : (file : List ℕ) (input : Option (List ℕ)) → IsReadOf script_max input None → Refused (ending.NoInput file) ≡ loaded file input
-lacks_script file None read = refl
-lacks_script file (Some whole) read = absurd read
-
-pub found_no_script : (file : List ℕ) (old new : Outside) → DoesWithoutFault (file ∷ []) [] [] old new → IfSome old.inputs (λ files. IsReadOf script_max (files file) None) → HasRisen old.absences new.absences
-    → Finds file (loaded file) old (Refused (ending.NoInput file)) new
-found_no_script file old new read lacks risen = record {
-  does = read;
-  told = λ inputs t. lacks_script file (inputs file) (told old.inputs inputs file None script_max t lacks);
   refusal = λ e same. let is : ending.NoInput file ≡ e = cc in subst IsRefusal is tt;
   absent = λ name same. risen;
   present = λ other. absurd (other file refl);

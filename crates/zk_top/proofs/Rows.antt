@@ -15,7 +15,7 @@ use Rattle.zk_http.specs.declared.units.Reason.TheVariants as reason
 use Rattle.zk_http.specs.declared.units.UnitKind.{UnitKind}
 use Rattle.zk_http.specs.declared.units.UnitKind.TheVariants as unit
 use Rattle.zk_text.specs.Span.{span_decimal}
-use Rattle.zk_typed.specs.Run.{dispatches_max}
+use Rattle.zk_load.specs.Loading.{load_from, loading}
 use Rattle.zk_tree.specs.Opening.{trees}
 use Rattle.zk_parse.specs.Opening.{reading}
 use Rattle.zk_top.specs.Line.{line_of}
@@ -70,6 +70,15 @@ a_list_of_no_file_ends_too_soon = refl
 a_list_of_two_files_is_not_understood : (outcome (codes "list" ∷ codes "a" ∷ codes "b" ∷ []) (one header)).ending ≡ Usage 2
 a_list_of_two_files_is_not_understood = refl
 
+options_stand_before_scripts : (outcome (codes "run" ∷ codes "-r" ∷ codes "c" ∷ codes "s.zeek" ∷ codes "-C" ∷ []) (one header)).ending ≡ Usage 4
+options_stand_before_scripts = refl
+
+a_capture_has_to_be_named : (outcome (codes "run" ∷ codes "-r" ∷ []) (one header)).ending ≡ Usage 2
+a_capture_has_to_be_named = refl
+
+a_budget_has_no_leading_zero : (outcome (codes "run" ∷ codes "--budget" ∷ codes "09" ∷ codes "-b" ∷ []) (one header)).ending ≡ Usage 2
+a_budget_has_no_leading_zero = refl
+
 words_that_are_not_understood_start_nothing : (outcome (codes "list" ∷ codes "-x" ∷ []) (one header)).asked ≡ []
 words_that_are_not_understood_start_nothing = refl
 
@@ -116,91 +125,39 @@ two capture script name = if bytes_eq name (codes "s.zeek") then Some script els
 run : List (List ℕ)
 run = codes "run" ∷ codes "-b" ∷ codes "-r" ∷ codes "c.pcap" ∷ codes "s.zeek" ∷ []
 
-a_run_begins_and_ends_at_time_0_over_no_packet : (outcome run (two header (codes "event zeek_init() { print network_time(); } event zeek_done() { print network_time(); }"))).said ≡ codes "0.000000\n0.000000\n"
-unfolding reading trees one two run header span_decimal digits dispatches_max
-a_run_begins_and_ends_at_time_0_over_no_packet = refl
-
-a_packet_is_seen_by_its_handler : (outcome run (two (header ++ cut) (codes "event packet_seen(t: time, caplen: count, len: count) { print t, caplen, len, \"x\"; }"))).said ≡ codes "1.000000, 2, 2, x\n"
-unfolding reading trees one two run header cut span_decimal digits dispatches_max
-a_packet_is_seen_by_its_handler = refl
-
-a_run_over_a_cut_capture_ends_cut : (outcome run (two (header ++ cut) [])).ending ≡ CutShort (codes "c.pcap") 42
-unfolding reading trees one two run header cut dispatches_max
-a_run_over_a_cut_capture_ends_cut = refl
-
--- no bytes at 5 s, and then none at 3 s
-backwards : List ℕ
-backwards = 5 ∷ 0 ∷ 0 ∷ 0 ∷ 0 ∷ 0 ∷ 0 ∷ 0 ∷ 0 ∷ 0 ∷ 0 ∷ 0 ∷ 0 ∷ 0 ∷ 0 ∷ 0 ∷ 3 ∷ 0 ∷ 0 ∷ 0 ∷ 0 ∷ 0 ∷ 0 ∷ 0 ∷ 0 ∷ 0 ∷ 0 ∷ 0 ∷ 0 ∷ 0 ∷ 0 ∷ 0 ∷ []
-
-the_end_has_the_last_network_time : (outcome run (two (header ++ backwards) (codes "event zeek_done() { print network_time(); }"))).said ≡ codes "5.000000\n"
-unfolding reading trees one two run header backwards span_decimal digits dispatches_max
-the_end_has_the_last_network_time = refl
-
-handlers_run_in_load_order : (outcome run (two header (codes "event zeek_init() { print \"b\"; } event zeek_init() { print \"a\", T; }"))).said ≡ codes "b\na, T\n"
-unfolding reading trees one two run header dispatches_max
-handlers_run_in_load_order = refl
-
 a_declaration_that_does_not_read_is_refused : (outcome run (two header (codes "event zeek_init() { print 1; } if"))).ending ≡ ScriptRefused (codes "s.zeek") 31 NoTree
-unfolding reading trees one two run header dispatches_max
+unfolding reading trees loading load_from one two run header
 a_declaration_that_does_not_read_is_refused = refl
 
-a_form_that_is_not_run_is_refused_before_what_does_not_read : (outcome run (two header (codes "event zeek_init() { print 1; } global x: count; if"))).ending ≡ ScriptRefused (codes "s.zeek") 31 NoTree
-unfolding reading trees one two run header dispatches_max
-a_form_that_is_not_run_is_refused_before_what_does_not_read = refl
-
-what_does_not_read_is_refused_before_a_form_that_is_not_run : (outcome run (two header (codes "if global x: count;"))).ending ≡ ScriptRefused (codes "s.zeek") 0 NoTree
-unfolding reading trees one two run header dispatches_max
-what_does_not_read_is_refused_before_a_form_that_is_not_run = refl
-
 a_refused_script_is_complained_of : (outcome run (two header (codes "print 1;"))).complained ≡ codes "zeekoff: s.zeek, byte 0: NoTree\n"
-unfolding reading trees one two run header digits dispatches_max
+unfolding reading trees loading load_from one two run header digits
 a_refused_script_is_complained_of = refl
 
 a_refused_script_asks_for_no_capture : (outcome run (two header (codes "print 1;"))).asked ≡ codes "s.zeek" ∷ []
-unfolding reading trees one two run header dispatches_max
+unfolding reading trees loading load_from one two run header
 a_refused_script_asks_for_no_capture = refl
 
 -- Tokens are judged before the tree.
 a_bad_byte_is_refused_at_its_place : (outcome run (two header (codes "print 1; ~"))).ending ≡ ScriptRefused (codes "s.zeek") 9 BadByte
-unfolding one two run header
+unfolding loading load_from one two run header
 a_bad_byte_is_refused_at_its_place = refl
 
 a_string_that_is_not_closed_is_refused_at_its_quote : (outcome run (two header (codes "global x = \"a"))).ending ≡ ScriptRefused (codes "s.zeek") 11 OpenString
-unfolding one two run header
+unfolding loading load_from one two run header
 a_string_that_is_not_closed_is_refused_at_its_quote = refl
 
 a_great_number_is_complained_of : (outcome run (two header (codes "print 18446744073709551616;"))).complained ≡ codes "zeekoff: s.zeek, byte 6: BigNumber\n"
-unfolding one two run header digits
+unfolding loading load_from one two run header digits
 a_great_number_is_complained_of = refl
-
-a_script_is_asked_for_before_its_capture : (outcome run (two header [])).asked ≡ codes "s.zeek" ∷ codes "c.pcap" ∷ []
-unfolding reading trees one two run header dispatches_max
-a_script_is_asked_for_before_its_capture = refl
 
 -- neither of these two is there: the script is missed, and the capture is not asked for
 missing : List (List ℕ)
 missing = codes "run" ∷ codes "-b" ∷ codes "-r" ∷ codes "x.pcap" ∷ codes "x.zeek" ∷ []
 
 of_two_missing_files_the_script_is_named : (outcome missing (two header [])).ending ≡ NoInput (codes "x.zeek")
-unfolding one two missing
+unfolding loading load_from one two missing
 of_two_missing_files_the_script_is_named = refl
 
 of_two_missing_files_the_script_alone_is_asked_for : (outcome missing (two header [])).asked ≡ codes "x.zeek" ∷ []
-unfolding one two missing
+unfolding loading load_from one two missing
 of_two_missing_files_the_script_alone_is_asked_for = refl
-
--- one file that is the script and the capture
-both : List (List ℕ)
-both = codes "run" ∷ codes "-b" ∷ codes "-r" ∷ codes "s.zeek" ∷ codes "s.zeek" ∷ []
-
-a_file_named_twice_is_asked_for_twice : (outcome both (two header [])).asked ≡ codes "s.zeek" ∷ codes "s.zeek" ∷ []
-unfolding reading trees one two both dispatches_max
-a_file_named_twice_is_asked_for_twice = refl
-
-an_empty_file_is_a_script_and_no_capture : (outcome both (two header [])).ending ≡ CaptureRefused (codes "s.zeek") 0
-unfolding reading trees one two both dispatches_max
-an_empty_file_is_a_script_and_no_capture = refl
-
-a_refused_capture_lets_nothing_run : (outcome run (two [] (codes "event zeek_init() { print 1; }"))).said ≡ []
-unfolding reading trees one two run dispatches_max
-a_refused_capture_lets_nothing_run = refl

@@ -1,17 +1,22 @@
 -- The command line: which words are a command, and which word is the first that isn't understood.
-use Rattle.std.specs.Prelude.{◌≡◌, ℕ, ◌+◌, ◌<◌, ◌≤◌, take, Bool, true, false, not, ◌&&◌, ◌||◌, ◌==◌, List, [], ◌∷◌, ◌++◌, length, codes, Option, Some, None, Result, Ok, Err, IsTrue, if◌then◌else◌}
+use Rattle.std.specs.Prelude.{◌≡◌, ℕ, ◌+◌, ◌-◌, ◌*◌, ◌<◌, nat_le, take, is_ok, IsTrue, Bool, true, false, not, ◌&&◌, ◌==◌, List, [], ◌∷◌, drop, length, slice_get, codes, Option, Some, None, Result, Ok, Err, if◌then◌else◌}
+use Rattle.std.specs.Char.{is_ascii_digit}
+use Rattle.std.specs.Option.{is_some, is_none, option_map, option_map_or}
 use Rattle.std.specs.Str.{bytes_eq}
-use Rattle.zk_top.specs.declared.command.Slot.{Slot}
-use Rattle.zk_top.specs.declared.command.Slot.TheVariants as slot
 use Rattle.zk_top.specs.declared.command.Command as code
 use Rattle.zk_top.specs.declared.command.Command.TheVariants as variants
+use Rattle.zk_top.specs.declared.command.Next.TheVariants as next
+use Rattle.zk_top.specs.declared.command.Run.{Run}
+use Rattle.zk_top.specs.declared.command.Settings.{Settings}
+use Rattle.zk_top.specs.declared.command.Standing.{Standing}
+use Rattle.zk_top.specs.declared.command.Standing.TheVariants as standing
 
 -- what the program is asked to do
 pub data Command : Type 0 where
   -- say a line for each item of a capture
   ListItems : (file : List ℕ) → Command
-  -- run a script over a capture
-  RunScript : (file script : List ℕ) → Command
+  -- run scripts over a capture
+  RunScripts : (settings : Settings) (file : List ℕ) (scripts : List (List ℕ)) → Command
   -- say what commands there are
   Help : Command
   -- say the name and the version
@@ -22,89 +27,169 @@ abbrev pub is_file_name : List ℕ → Bool
 is_file_name [] = false
 is_file_name (first ∷ others) = not (first == 45)
 
--- the words of a command
-abbrev pub words_of : Command → List (List ℕ)
-words_of (ListItems file) = codes "list" ∷ file ∷ []
-words_of (RunScript file script) = codes "run" ∷ codes "-b" ∷ codes "-r" ∷ file ∷ script ∷ []
-words_of Help = codes "--help" ∷ []
-words_of Version = codes "--version" ∷ []
+-- Numbers -----------------------------------------------------------------------------------------------------
 
--- the files that it names are named so
-abbrev pub is_well_named : Command → Bool
-is_well_named (ListItems file) = is_file_name file
-is_well_named (RunScript file script) = is_file_name file && is_file_name script
-is_well_named Help = true
-is_well_named Version = true
+-- a number that digits go on with, where it stays within a limit
+abbrev pub number_from : ℕ → ℕ → List ℕ → Option ℕ
+number_from most number [] = Some number
+number_from most number (byte ∷ bytes) =
+    if is_ascii_digit byte && nat_le (number * 10 + (byte - 48)) most then number_from most (number * 10 + (byte - 48)) bytes else None
 
--- the words are those of this command
-abbrev pub IsCommand : List (List ℕ) → Command → Type 0
-IsCommand words command = (words ≡ words_of command) × IsTrue (is_well_named command)
+-- the number from 1 to a limit that a word spells in decimal digits, the first of which is not 0
+abbrev pub number_in : ℕ → List ℕ → Option ℕ
+number_in most [] = None
+number_in most (first ∷ others) = if first == 48 then None else number_from most 0 (first ∷ others)
 
--- the word is one for this slot of a command
-abbrev pub fits : Slot → List ℕ → Bool
-fits slot.List word = bytes_eq word (codes "list")
-fits slot.Run word = bytes_eq word (codes "run")
-fits slot.Bare word = bytes_eq word (codes "-b")
-fits slot.Read word = bytes_eq word (codes "-r")
-fits slot.Help word = bytes_eq word (codes "--help")
-fits slot.Version word = bytes_eq word (codes "--version")
-fits slot.File word = is_file_name word
+abbrev pub budget_max : ℕ
+budget_max = 1_000_000_000
 
-abbrev pub list_slots : List Slot
-list_slots = slot.List ∷ slot.File ∷ []
+abbrev pub buffer_max : ℕ
+buffer_max = 67_108_864
 
-abbrev pub run_slots : List Slot
-run_slots = slot.Run ∷ slot.Bare ∷ slot.Read ∷ slot.File ∷ slot.File ∷ []
+-- Words, one after another ------------------------------------------------------------------------------------
 
-abbrev pub help_slots : List Slot
-help_slots = slot.Help ∷ []
+-- an option stands once at most
+abbrev pub once : Bool → Run → Option Run
+once there run = if there then None else Some run
 
-abbrev pub version_slots : List Slot
-version_slots = slot.Version ∷ []
+-- a run whose next word is an option
+abbrev pub with_option : Run → List ℕ → Option Run
+with_option run word =
+    if bytes_eq word (codes "-C") then once run.unchecked (record run { unchecked = true })
+    else if bytes_eq word (codes "-b") then once run.bare (record run { bare = true })
+    else if bytes_eq word (codes "--budget") then once (is_some run.budget) (record run { next = next.Budget })
+    else if bytes_eq word (codes "--buffer") then once (is_some run.buffer) (record run { next = next.Buffer })
+    else if bytes_eq word (codes "-r") then once (is_some run.file) (record run { next = next.File })
+    else None
 
--- the words are the first ones of a command with these slots
-abbrev pub begins_with : List Slot → List (List ℕ) → Bool
-begins_with slots [] = true
-begins_with [] (word ∷ words) = false
-begins_with (slot ∷ slots) (word ∷ words) = fits slot word && begins_with slots words
+-- Where the first script stands. The capture is named before it.
+abbrev pub with_script : Run → ℕ → Option Run
+with_script run number =
+    if is_none run.file then None
+    else if is_some run.scripts then Some run
+    else Some (record run { scripts = Some number })
 
--- the words are the first ones of some command
-abbrev pub begins : List (List ℕ) → Bool
-begins words = begins_with list_slots words || begins_with run_slots words || begins_with help_slots words || begins_with version_slots words
+-- options stand before the first script
+abbrev pub with_word : Run → ℕ → List ℕ → Option Run
+with_word run number word =
+    if is_file_name word then with_script run number
+    else if is_some run.scripts then None
+    else with_option run word
 
--- the command that the words are, if they are one
-abbrev pub command_of : List (List ℕ) → Option Command
-command_of (word ∷ []) =
-    if begins_with help_slots (word ∷ []) then Some Help else (if begins_with version_slots (word ∷ []) then Some Version else None)
-command_of (verb ∷ file ∷ []) =
-    if begins_with list_slots (verb ∷ file ∷ []) then Some (ListItems file) else None
-command_of (verb ∷ bare ∷ read ∷ file ∷ script ∷ []) =
-    if begins_with run_slots (verb ∷ bare ∷ read ∷ file ∷ script ∷ []) then Some (RunScript file script) else None
-command_of words = None
+-- a run whose word of this number is this one
+abbrev pub run_on : Run → ℕ → List ℕ → Option Run
+run_on run number word = elim run.next [
+  | next.Word ↦ with_word run number word
+  | next.Budget ↦ option_map (λ n. record run { budget = Some n; next = next.Word }) (number_in budget_max word)
+  | next.Buffer ↦ option_map (λ n. record run { buffer = Some n; next = next.Word }) (number_in buffer_max word)
+  | next.File ↦ if is_file_name word then Some (record run { file = Some number; next = next.Word }) else None
+]
 
--- with words that begin a command before them: the number of words up to the first with which they don't
-abbrev pub first_not_understood : List (List ℕ) → List (List ℕ) → ℕ
-first_not_understood before [] = length before
-first_not_understood before (word ∷ words) =
-    if begins (before ++ word ∷ []) then first_not_understood (before ++ word ∷ []) words else length before
+-- a run without options
+abbrev pub no_options : Run
+no_options = record { unchecked = false; bare = false; budget = None; buffer = None; file = None; scripts = None; next = next.Word }
 
--- the command, or the number of the first word that isn't understood
-abbrev pub command_or : Option Command → List (List ℕ) → Result Command ℕ
-command_or (Some command) words = Ok command
-command_or None words = Err (first_not_understood [] words)
+-- what the first word begins
+abbrev pub verb : List ℕ → Option Standing
+verb word =
+    if bytes_eq word (codes "list") then Some standing.List
+    else if bytes_eq word (codes "run") then Some (standing.Run no_options)
+    else if bytes_eq word (codes "--help") then Some standing.Help
+    else if bytes_eq word (codes "--version") then Some standing.Version
+    else None
 
+-- what words are with one more, by its number and itself, if they are the first ones of a command
+abbrev pub step : Standing → ℕ → List ℕ → Option Standing
+step standing.Nothing number word = verb word
+step standing.List number word = if is_file_name word then Some standing.Listed else None
+step standing.Listed number word = None
+step (standing.Run run) number word = option_map standing.Run (run_on run number word)
+step standing.Help number word = None
+step standing.Version number word = None
+
+-- what all words are, or the number of the first with which they begin no command
+abbrev pub stand_from : Standing → ℕ → List (List ℕ) → Result Standing ℕ
+stand_from so_far number [] = Ok so_far
+stand_from so_far number (word ∷ words) = elim (step so_far number word) [
+  | None ↦ Err number
+  | Some more ↦ stand_from more (number + 1) words
+]
+
+-- The command ---------------------------------------------------------------------------------------------------
+
+-- what is told otherwise or not: 1,000,000 units for a body, and 1,048,576 bytes above a front
+abbrev pub settings_of : Run → Settings
+settings_of run = record {
+  check = not run.unchecked;
+  bare = run.bare;
+  budget = option_map_or (λ n. n) run.budget 1_000_000;
+  buffer = option_map_or (λ n. n) run.buffer 1_048_576;
+}
+
+-- the words from a number on
+abbrev pub words_from : List (List ℕ) → Option ℕ → List (List ℕ)
+words_from words None = []
+words_from words (Some number) = drop number words
+
+abbrev pub run_of : List (List ℕ) → Run → Option ℕ → Option Command
+run_of words run None = None
+run_of words run (Some number) = elim run.next [
+  | next.Word ↦ option_map (λ file. RunScripts (settings_of run) file (words_from words run.scripts)) (slice_get words number)
+  | next.Budget ↦ None
+  | next.Buffer ↦ None
+  | next.File ↦ None
+]
+
+-- the command that words are, if they are a whole one
+abbrev pub command_of : List (List ℕ) → Standing → Option Command
+command_of words standing.Nothing = None
+command_of words standing.List = None
+command_of words standing.Listed = option_map ListItems (slice_get words 1)
+command_of words (standing.Run run) = run_of words run run.file
+command_of words standing.Help = Some Help
+command_of words standing.Version = Some Version
+
+-- Until the default scripts are loaded a run has to leave them out.
+abbrev pub is_carried_out : Command → Bool
+is_carried_out (RunScripts settings file scripts) = settings.bare
+is_carried_out other = true
+
+abbrev pub command_or : Option Command → ℕ → Result Command ℕ
+command_or (Some command) number = if is_carried_out command then Ok command else Err number
+command_or None number = Err number
+
+abbrev pub judged : List (List ℕ) → Result Standing ℕ → Result Command ℕ
+judged words (Err number) = Err number
+judged words (Ok all) = command_or (command_of words all) (length words)
+
+-- The command, or the number of the first word that isn't understood: the least n such that words 0 to n begin no
+-- command, or the number of words.
 abbrev pub understand : List (List ℕ) → Result Command ℕ
-understand words = command_or (command_of words) words
-
--- No word before this place is one with which the words begin no command; the word at this place is.
-pub record IsFirstNotUnderstood (words : List (List ℕ)) (place : ℕ) : Type 0 where
-  pub within : place ≤ length words
-  pub before : (n : ℕ) → n < place → IsTrue (begins (take (n + 1) words))
-  pub there : place < length words → begins (take (place + 1) words) ≡ false
+understand words = judged words (stand_from standing.Nothing 0 words)
 
 -- the command that the code has read
 abbrev pub command_seen : code.Command → Command
 command_seen (variants.List file) = ListItems file.now
-command_seen (variants.Run file script) = RunScript file.now script.now
+command_seen (variants.Run settings file scripts) = RunScripts settings file.now scripts.now
 command_seen variants.Help = Help
 command_seen variants.Version = Version
+
+-- In the subject's own words ----------------------------------------------------------------------------------------
+
+-- the words are the first ones of some command
+abbrev pub begins : List (List ℕ) → Bool
+begins words = is_ok (stand_from standing.Nothing 0 words)
+
+-- the words are a whole command, whether or not it is carried out yet
+abbrev pub is_whole_at : List (List ℕ) → Result Standing ℕ → Bool
+is_whole_at words (Err number) = false
+is_whole_at words (Ok all) = is_some (command_of words all)
+
+abbrev pub is_whole : List (List ℕ) → Bool
+is_whole words = is_whole_at words (stand_from standing.Nothing 0 words)
+
+-- No word before this place is one with which the words begin no command; the word at this place is.
+pub record IsFirstNotUnderstood (words : List (List ℕ)) (place : ℕ) : Type 0 where
+  pub within : place < length words
+  pub before : (n : ℕ) → n < place → IsTrue (begins (take (n + 1) words))
+  pub there : begins (take (place + 1) words) ≡ false

@@ -15,11 +15,11 @@ use Rattle.zk_pcap.specs.Standing.{StandsFor}
 use Rattle.zk_base.specs.declared.endings.Ending.TheVariants.{CaptureRefused}
 use Rattle.zk_pcap.specs.CaptureFault.{place_of}
 use Rattle.zk_top.specs.declared.capture.CaptureReader.{CaptureReader}
-use Rattle.zk_top.specs.declared.found.Found.{Found}
-use Rattle.zk_top.specs.declared.found.Found.TheVariants.{Accepted, Refused}
+use Rattle.zk_load.specs.declared.found.Found.{Found}
+use Rattle.zk_load.specs.declared.found.Found.TheVariants.{Accepted, Refused}
 use Rattle.zk_top.specs.Outcome.{opened}
-use Rattle.zk_top.specs.declared.stop.Stop.{Stop}
-use Rattle.zk_top.specs.Parts.{DoesAll, DoesPart, Finds}
+use Rattle.zk_load.specs.declared.stop.Stop.{Stop}
+use Rattle.zk_load.specs.Parts.{DoesAll, DoesPart, Finds}
 
 -- the open input stays as it was
 abbrev pub SameInput : Outside → Outside → Type 0
@@ -70,12 +70,16 @@ pub record SaysAll (whole : Option (List ℕ)) (header : Header) (wanted : List 
   pub through : IsReadThrough header bytes packets reader
   pub says : DoesAll [] (wanted packets) [] old new
 
--- It was stopped on the way, and a prefix of what is wanted over the packets of the capture was said.
-pub record SaysPart (whole : Option (List ℕ)) (wanted : List Packet → List ℕ) (old : Outside) (stop : Stop) (new : Outside) : Type 0 where
+-- something holds of the packets of the capture
+pub record OverCapture (whole : Option (List ℕ)) (holds : List Packet → Type 0) : Type 0 where
   pub packets : List Packet
   pub ending : CaptureEnding
   pub all : IsCapture whole packets ending
-  pub says : DoesPart [] (wanted packets) [] old stop new
+  pub there : holds packets
+
+-- It was stopped on the way, and a prefix of what is wanted over the packets of the capture was said.
+abbrev pub SaysPart : Option (List ℕ) → (List Packet → List ℕ) → Outside → Stop → Outside → Type 0
+SaysPart whole wanted old stop new = OverCapture whole (λ packets. DoesPart [] (wanted packets) [] old stop new)
 
 -- the capture in the input of a name is open, and its first packet is next
 pub record OpensCapture (name : List ℕ) (old : Outside) (reader : CaptureReader) (new : Outside) : Type 0 where

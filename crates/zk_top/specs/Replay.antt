@@ -1,62 +1,163 @@
 -- How far a replay of a capture to a program has come.
-use Rattle.std.specs.Prelude.{◌≡◌, ℕ, List, Option, [], ◌++◌, fold}
-use Rattle.zk_base.specs.Shelf.{Outside}
-use Rattle.zk_first_machine.specs.Standing.{StandsFor}
-use Rattle.zk_typed.specs.declared.program.Handler.{Handler}
-use Rattle.zk_typed.specs.declared.program.Program.{Program}
-use Rattle.zk_typed.specs.Run.{bodies}
-use Rattle.zk_typed.specs.World.{World, at_time}
-use Rattle.zk_top.specs.declared.replay.Replay.{Replay}
-use Rattle.zk_top.specs.declared.stop.Stop.{Stop}
-use Rattle.zk_base.specs.declared.numbers.HandlerNo.{HandlerNo}
+use Rattle.std.specs.Prelude.{◌≡◌, ℕ, Bool, true, false, List, Option}
 use Rattle.zk_base.specs.declared.time.Moment.{Moment}
+use Rattle.zk_base.specs.Shelf.{Files, Outside}
+use Rattle.zk_events.specs.declared.engine.ItemEnd.{ItemEnd}
+use Rattle.zk_events.specs.declared.engine.ItemEnd.TheVariants.{Done, Flood}
+use Rattle.zk_events.specs.Run.{Stage, Begun, progress_at, run}
+use Rattle.zk_events.specs.Standing as engine
+use Rattle.zk_events.specs.Standing.{end_of}
+use Rattle.zk_lower.specs.Told.{Told}
 use Rattle.zk_pcap.specs.declared.captures.CaptureEnding.{CaptureEnding}
 use Rattle.zk_pcap.specs.declared.headers.Header.{Header}
 use Rattle.zk_pcap.specs.declared.records.Packet.{Packet}
 use Rattle.zk_pcap.specs.NetworkTime.{now as network_time}
+use Rattle.zk_traffic.specs.declared.item.Item.{Item}
+use Rattle.zk_traffic.specs.declared.options.Options.{Options}
+use Rattle.zk_traffic.specs.Items.{items_of}
+use Rattle.zk_traffic.specs.Standing as traffic
+use Rattle.zk_typed.specs.Program.{Program}
+use Rattle.zk_typed.specs.Running.{Progress, Goes, Floods, world_in}
+use Rattle.zk_load.specs.declared.stop.Stop.{Stop}
+use Rattle.zk_load.specs.Parts.{IsPrefix}
 use Rattle.zk_top.specs.declared.capture.CaptureReader.{CaptureReader}
-use Rattle.zk_top.specs.Item.{Item, items_of}
-use Rattle.zk_top.specs.Named.{named}
-use Rattle.zk_top.specs.Reading.{IsCapture, IsReading, IsReadThrough}
-use Rattle.zk_top.specs.Printed.{budget, event_of, with_line_ends}
-use Rattle.zk_top.specs.Parts.{DoesAll, DoesPart}
+use Rattle.zk_top.specs.declared.player.Player.{Player}
+use Rattle.zk_top.specs.declared.replay.Came.{Came}
+use Rattle.zk_top.specs.declared.replay.Came.TheVariants.{Through, Flooded}
+use Rattle.zk_top.specs.declared.replay.Replay.{Replay}
+use Rattle.zk_top.specs.Logged.{files_of_run}
+use Rattle.zk_top.specs.Reading.{IsCapture, IsReading, IsReadThrough, OverCapture}
+use Rattle.zk_top.specs.Writing.{Output, output_of, told_by, HasGiven, GivesSome, GivesAll, GivesPart}
 
--- The program has come to this world, and these of its lines were taken: their text is what was said
--- since the first outside, and then the piece that waits.
-pub record HasCome (first : Outside) (program : Program) (taken : List (List ℕ)) (world : World) (replay : Replay) (now : Outside) : Type 0 where
-  pub stands : StandsFor replay.machine program taken world
-  pub said : List ℕ
-  pub does : DoesAll [] said [] first now
-  pub joined : with_line_ends taken ≡ said ++ replay.piece.items
+-- A program that plays ----------------------------------------------------------------------------------------------
 
--- From each world that a program has come to, with all of its lines, it goes on to the one that `after` says.
-abbrev pub GoesTo : (Program → World → World) → Replay → Outside → Replay → Outside → Type 0
-GoesTo after old before new now =
-    (first : Outside) (program : Program) (world : World) → HasCome first program world.lines world old before
-    → HasCome first program (after program world).lines (after program world) new now
+-- what a run tells so far, and gives out
+abbrev pub told_at : Program → ℕ → Stage → Told
+told_at program budget stage = told_by (world_in (progress_at program budget stage))
 
--- It is stopped on the way there, and a prefix of the lines was said.
-abbrev pub StopsBefore : (Program → World → World) → Replay → Outside → Stop → Outside → Type 0
-StopsBefore after old before stop now =
-    (first : Outside) (program : Program) (world : World) → HasCome first program world.lines world old before
-    → DoesPart [] (with_line_ends (after program world).lines) [] first stop now
+abbrev pub output_at : Program → ℕ → Stage → Output
+output_at program budget stage = output_of (told_at program budget stage)
 
--- the world after the handlers of an item
-abbrev pub after_item : List Handler → World → Item → World
-after_item handlers world item = bodies (event_of item.what).args budget (at_time item.moment world) handlers
+-- The engine stands at this stage and has given these lines and rows, which are said and written or wait.
+pub record Gives (first : Outside) (program : Program) (budget : ℕ) (stage : Stage) (told : Told) (player : Player) (now : Outside) : Type 0 where
+  pub engine : engine.StandsFor player.engine program budget stage told
+  pub given : HasGiven first (output_of told) player.writer now
 
--- The packets of a capture that is read to its end were replayed, and this is the last network time.
-pub record ReplaysAll (whole : Option (List ℕ)) (header : Header) (handlers : List HandlerNo) (old : Replay) (before : Outside) (last : Moment) (new : Replay) (reader : CaptureReader) (now : Outside) : Type 0 where
+-- It has given all.
+pub record Plays (first : Outside) (program : Program) (budget : ℕ) (stage : Stage) (player : Player) (now : Outside) : Type 0 where
+  pub told : Told
+  pub gives : Gives first program budget stage told player now
+  pub all : told ≡ told_at program budget stage
+
+-- A capture that is played -------------------------------------------------------------------------------------------
+
+-- what is replayed how: the traffic of frames of a link type, to a program
+pub record Plan : Type 0 where
+  pub options : Options
+  pub link : ℕ
+  pub program : Program
+  pub budget : ℕ
+
+-- the items of packets, and of the end or not
+abbrev pub items_in : Plan → List Packet → Bool → List Item
+items_in plan packets ended = items_of plan.options plan.link packets ended
+
+-- how far the program comes over a whole capture
+abbrev pub progress_over : Plan → List Packet → Progress
+progress_over plan packets = run plan.program plan.budget (items_in plan packets true) (network_time packets)
+
+-- what it gives out, and the log files that are made of it
+abbrev pub output_over : Plan → List Packet → Output
+output_over plan packets = output_of (told_by (world_in (progress_over plan packets)))
+
+abbrev pub files_of : Plan → List Packet → Files
+files_of plan packets = files_of_run (network_time packets) (progress_over plan packets)
+
+-- Of the items of these packets, and of the end or not, these were given; the program has come to this stage.
+pub record Comes (first : Outside) (plan : Plan) (packets : List Packet) (given : List Item) (ended : Bool) (stage : Stage) (replay : Replay) (now : Outside) : Type 0 where
+  pub traffic : traffic.StandsFor replay.traffic plan.options plan.link packets given ended
+  pub begins : IsPrefix given (items_in plan packets ended)
+  pub plays : Plays first plan.program plan.budget stage replay.player now
+
+-- all items that there are so far were played
+abbrev pub HasPlayed : Outside → Plan → List Packet → Bool → Replay → Outside → Type 0
+HasPlayed first plan packets ended replay now =
+    Comes first plan packets (items_in plan packets ended) ended (Begun (items_in plan packets ended)) replay now
+
+-- Over some first items of these packets the run ended in a flood, and what it gave out is said and written or waits.
+pub record HasFlooded (first : Outside) (plan : Plan) (packets : List Packet) (ended : Bool) (moment : Moment) (replay : Replay) (now : Outside) : Type 0 where
+  pub given : List Item
+  pub begins : IsPrefix given (items_in plan packets ended)
+  pub floods : Flood moment ≡ end_of (progress_at plan.program plan.budget (Begun given))
+  pub gives : HasGiven first (output_at plan.program plan.budget (Begun given)) replay.player.writer now
+
+-- the items so far were played, or there was a flood
+abbrev pub After : Outside → Plan → List Packet → Bool → ItemEnd → Replay → Outside → Type 0
+After first plan packets ended Done replay now = HasPlayed first plan packets ended replay now
+After first plan packets ended (Flood moment) replay now = HasFlooded first plan packets ended moment replay now
+
+-- how a run comes to its end
+abbrev pub came_of : Moment → Progress → Came
+came_of last (Goes world left) = Through last
+came_of last (Floods world) = Flooded world.time
+
+-- and when
+abbrev pub time_of : Came → Moment
+time_of (Through last) = last
+time_of (Flooded moment) = moment
+
+-- A run over a whole capture has ended so, and what it gave out is said and written or waits.
+pub record IsOver (first : Outside) (plan : Plan) (packets : List Packet) (last : Moment) (came : Came) (replay : Replay) (now : Outside) : Type 0 where
+  pub ends : came ≡ came_of last (run plan.program plan.budget (items_in plan packets true) last)
+  pub gives : HasGiven first (output_of (told_by (world_in (run plan.program plan.budget (items_in plan packets true) last)))) replay.player.writer now
+
+-- A capture that is read ---------------------------------------------------------------------------------------------
+
+-- the packets were read to their end and played
+pub record IsThrough (first : Outside) (plan : Plan) (whole : Option (List ℕ)) (header : Header) (last : Moment) (replay : Replay) (reader : CaptureReader) (now : Outside) : Type 0 where
   pub bytes : List ℕ
   pub packets : List Packet
   pub reading : IsReading whole header bytes packets reader now
   pub through : IsReadThrough header bytes packets reader
   pub last_is : last ≡ network_time packets
-  pub came : GoesTo (λ program world. fold (after_item (named handlers program)) world (items_of packets)) old before new now
+  pub played : HasPlayed first plan packets false replay now
 
--- It was stopped before all of them were.
-pub record ReplaysPart (whole : Option (List ℕ)) (handlers : List HandlerNo) (old : Replay) (before : Outside) (stop : Stop) (now : Outside) : Type 0 where
+-- the run ended in a flood over the first packets of the capture
+pub record IsFlooded (first : Outside) (plan : Plan) (whole : Option (List ℕ)) (moment : Moment) (replay : Replay) (now : Outside) : Type 0 where
   pub packets : List Packet
   pub ending : CaptureEnding
   pub all : IsCapture whole packets ending
-  pub stops : StopsBefore (λ program world. fold (after_item (named handlers program)) world (items_of packets)) old before stop now
+  pub flooded : HasFlooded first plan packets true moment replay now
+
+abbrev pub HasCome : Outside → Plan → Option (List ℕ) → Header → Came → Replay → CaptureReader → Outside → Type 0
+HasCome first plan whole header (Through last) replay reader now = IsThrough first plan whole header last replay reader now
+HasCome first plan whole header (Flooded moment) replay reader now = IsFlooded first plan whole moment replay now
+
+-- Where there was no flood, the capture was read to its end.
+abbrev pub IsRead : Came → Option (List ℕ) → Header → List Packet → CaptureReader → Outside → Type 0
+IsRead (Through last) whole header packets reader now = (bytes : List ℕ) × IsReading whole header bytes packets reader now × IsReadThrough header bytes packets reader
+IsRead (Flooded moment) whole header packets reader now = Unit {0}
+
+-- The whole run has ended so.
+pub record HasRun (first : Outside) (plan : Plan) (whole : Option (List ℕ)) (header : Header) (came : Came) (replay : Replay) (reader : CaptureReader) (now : Outside) : Type 0 where
+  pub packets : List Packet
+  pub ending : CaptureEnding
+  pub all : IsCapture whole packets ending
+  pub over : IsOver first plan packets (network_time packets) came replay now
+  pub read : IsRead came whole header packets reader now
+
+-- And all that it gave out was said and written.
+pub record Replays (plan : Plan) (whole : Option (List ℕ)) (header : Header) (old : Outside) (came : Came) (reader : CaptureReader) (new : Outside) : Type 0 where
+  pub packets : List Packet
+  pub ending : CaptureEnding
+  pub all : IsCapture whole packets ending
+  pub ends : came ≡ came_of (network_time packets) (progress_over plan packets)
+  pub gives : GivesAll (output_over plan packets).text (files_of plan packets) old new
+  pub read : IsRead came whole header packets reader new
+
+-- A run is stopped before its logs are closed.
+abbrev pub StopsOver : Option (List ℕ) → Plan → Outside → Stop → Outside → Type 0
+StopsOver whole plan old stop new = OverCapture whole (λ packets. GivesSome (output_over plan packets) old stop new)
+
+abbrev pub ReplaysPart : Option (List ℕ) → Plan → Outside → Stop → Outside → Type 0
+ReplaysPart whole plan old stop new = OverCapture whole (λ packets. GivesPart (output_over plan packets).text (files_of plan packets) old stop new)

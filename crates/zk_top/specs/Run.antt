@@ -1,9 +1,11 @@
 -- What a run leaves of the outside, beside what was there before.
-use Rattle.std.specs.Prelude.{◌≡◌, ◌⊎◌, ℕ, List, [], ◌++◌, Option, Some, None}
+use Rattle.std.specs.Prelude.{◌≡◌, ◌⊎◌, ℕ, List, []}
 use Rattle.std.specs.Option.{option_map}
 use Rattle.zk_base.specs.declared.endings.Ending.{Ending}
 use Rattle.zk_base.specs.declared.endings.Ending.TheVariants.{Done, Usage, ScriptRefused, NoInput, CaptureRefused, CutShort, ReadFault, WriteFault, NoMemory, Flood}
-use Rattle.zk_base.specs.Shelf.{Files, Outside, appended}
+use Rattle.zk_base.specs.Shelf.{Outside, appended}
+use Rattle.zk_load.specs.Parts.{IsPrefix}
+use Rattle.zk_logs.specs.Outputs.{files_over, OutputsBegun}
 use Rattle.zk_top.specs.Outcome.{Outcome}
 
 -- neither the outside nor want of memory has stopped the run
@@ -19,30 +21,6 @@ IsNotStopped WriteFault = ⊥
 IsNotStopped NoMemory = ⊥
 IsNotStopped (Flood moment) = Unit {0}
 
--- the part is a prefix of the whole
-pub record IsPrefix {X : Type 0} (part whole : List X) : Type 0 where
-  pub rest : List X
-  pub joined : whole ≡ part ++ rest
-
--- the content of a file over what lies below it
-abbrev pub over : Option (List ℕ) → Option (List ℕ) → Option (List ℕ)
-over None below = below
-over (Some content) below = Some content
-
--- files under their names, and elsewhere what was there before
-abbrev pub files_over : Files → Files → Files
-files_over written before = λ name. over (written name) (before name)
-
--- a file is absent, or a prefix of what is to be written
-abbrev pub IsBegun : List ℕ → Option (List ℕ) → Type 0
-IsBegun content None = Unit {0}
-IsBegun content (Some part) = IsPrefix part content
-
--- each file is as before, or it is to be written and is begun
-abbrev pub AreBegun : Files → Files → Files → Type 0
-AreBegun written before after =
-    (name : List ℕ) → (after name ≡ before name) ⊎ ((content : List ℕ) × (written name ≡ Some content) × IsBegun content (after name))
-
 -- A whole run ends as wanted, and has done to the outside what was wanted and nothing else.
 pub record IsDone (wanted : Outcome) (old : Outside) (ending : Ending) (new : Outside) : Type 0 where
   pub ends : ending ≡ wanted.ending
@@ -50,11 +28,6 @@ pub record IsDone (wanted : Outcome) (old : Outside) (ending : Ending) (new : Ou
   pub said : new.said ≡ appended old.said wanted.said
   pub complained : new.complained ≡ appended old.complained wanted.complained
   pub started : new.started ≡ appended old.started wanted.asked
-
--- where outputs are told, they are begun
-abbrev pub OutputsBegun : Files → Option Files → Option Files → Type 0
-OutputsBegun written None after = after ≡ None
-OutputsBegun written (Some before) after = (files : Files) × (after ≡ Some files) × AreBegun written before files
 
 -- all of what was wanted is done, but for the complaint
 pub record IsDoneButComplaint (wanted : Outcome) (old new : Outside) : Type 0 where
@@ -75,15 +48,6 @@ pub record StaysWithin (wanted : Outcome) (old new : Outside) : Type 0 where
   pub started_prefix : IsPrefix started wanted.asked
   pub started_is : new.started ≡ appended old.started started
   pub complaint_last : (complained ≡ []) ⊎ IsDoneButComplaint wanted old new
-
--- no fault was counted
-pub record SameFaults (old new : Outside) : Type 0 where
-  pub read : new.read_faults ≡ old.read_faults
-  pub write : new.write_faults ≡ old.write_faults
-
--- no input was absent
-abbrev pub SameAbsences : Outside → Outside → Type 0
-SameAbsences old new = new.absences ≡ old.absences
 
 -- nothing more was complained
 abbrev pub SameComplaints : Outside → Outside → Type 0

@@ -5,8 +5,8 @@ ghost use Rattle.zk_top.specs.Outcome.{ending_so};
 ghost use Rattle.zk_top.specs.Parts.{BreaksOff, Fulfils, IsOfCommand};
 
 use crate::output::say;
-use crate::stop::Stop;
 use zk_base::{Ending, Shelf};
+use zk_load::Stop;
 
 /// Says what commands there are.
 pub fn help<S: Shelf>(shelf: &mut S) -> Result<Ending, Stop>
@@ -16,7 +16,7 @@ pub fn help<S: Shelf>(shelf: &mut S) -> Result<Ending, Stop>
 {
     answer(
         shelf,
-        b"zeekoff list FILE: a line for each item of the capture FILE\nzeekoff run -b -r FILE SCRIPT: runs SCRIPT over the capture FILE (-r), without the default scripts (-b)\nzeekoff --help: this text\nzeekoff --version: the name and the version\n",
+        b"zeekoff list FILE: a line for each item of the capture FILE\nzeekoff run [-C] -b [--budget N] [--buffer N] -r FILE SCRIPT..: runs the scripts over the capture FILE (-r), without the default scripts (-b); -C ignores checksums, N units are the budget of a handler, and N bytes may wait in a stream\nzeekoff --help: this text\nzeekoff --version: the name and the version\n",
     )
 }
 

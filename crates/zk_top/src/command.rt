@@ -1,51 +1,101 @@
-ghost use Rattle.std.specs.Prelude.{◌≡◌, ◌↔◌, ◌++◌, List, ℕ, [], Some, IsTrue, Ok, Err, MatchResult};
-ghost use Rattle.zk_top.specs.Command.{Command as CommandMeaning, IsCommand, IsFirstNotUnderstood, is_file_name, fits, begins_with, command_of, begins, first_not_understood, understand, command_seen};
+ghost use Rattle.std.specs.Prelude.{◌≡◌, ◌<◌, ◌^◌, ◌↔◌, ◌++◌, List, ℕ, IsTrue, Ok, Err, MatchResult};
+ghost use Rattle.zk_top.specs.Command.{IsFirstNotUnderstood, begins, is_whole, is_file_name, number_in, number_from, once, with_option, with_script, with_word, run_on, verb, step, stand_from, settings_of, words_from, run_of, command_of, is_carried_out, understand, command_seen};
+ghost use Rattle.std.specs.Option.{option_map};
 
 use zk_base::Word;
+
+/// The most units that a body may be given.
+const BUDGET_MAX: u64 = 1_000_000_000;
+
+/// The most bytes that a stream may be allowed to hold above its front.
+const BUFFER_MAX: u64 = 67_108_864;
 
 /// What the command line asks for.
 #[derive(Debug, Drop)]
 pub enum Command<'a> {
     /// `list FILE`: a line for each item of a capture.
-    List { file: &'a [u8] },
-    /// `run -b -r FILE SCRIPT`: a script over a capture, without the default scripts.
-    Run { file: &'a [u8], script: &'a [u8] },
+    List {
+        file: &'a [u8],
+    },
+    /// `run [-C] [-b] [--budget N] [--buffer N] -r FILE SCRIPT*`: scripts over a capture.
+    Run {
+        settings: Settings,
+        file: &'a [u8],
+        scripts: &'a [Word],
+    },
     /// `--help`: what commands there are.
     Help,
     /// `--version`: the name and the version.
     Version,
 }
 
-/// A word of a command.
+/// How scripts are run.
+#[derive(Clone, Copy, Debug, PartialEq, Eq)]
+pub struct Settings {
+    /// Packets with a wrong checksum are passed over.
+    pub check: bool,
+    /// The default scripts are left out.
+    pub bare: bool,
+    /// The units for one body.
+    pub budget: u64,
+    /// The bytes that a stream may hold above its front.
+    pub buffer: u64,
+}
+
+/// What the next word of a run is.
 #[derive(Clone, Copy, Debug)]
-enum Slot {
+pub enum Next {
+    /// An option or a script.
+    Word,
+    /// The number of `--budget`.
+    Budget,
+    /// The number of `--buffer`.
+    Buffer,
+    /// The file of `-r`.
+    File,
+}
+
+/// What the words of a run have told so far.
+#[derive(Clone, Copy, Debug)]
+pub struct Run {
+    pub unchecked: bool,
+    pub bare: bool,
+    pub budget: Option<u64>,
+    pub buffer: Option<u64>,
+    /// The number of the word that names the capture.
+    pub file: Option<usize>,
+    /// The number of the word that names the first script.
+    pub scripts: Option<usize>,
+    pub next: Next,
+}
+
+/// A run without options.
+const NO_OPTIONS: Run = Run {
+    unchecked: false,
+    bare: false,
+    budget: None,
+    buffer: None,
+    file: None,
+    scripts: None,
+    next: Next::Word,
+};
+
+/// What words are that begin a command.
+#[derive(Clone, Copy, Debug)]
+pub enum Standing {
+    /// No words.
+    Nothing,
     /// `list`
     List,
-    /// `run`
-    Run,
-    /// `-b`
-    Bare,
-    /// `-r`
-    Read,
+    /// `list FILE`
+    Listed,
+    /// `run` and what stands behind it.
+    Run(Run),
     /// `--help`
     Help,
     /// `--version`
     Version,
-    /// The name of a file.
-    File,
 }
-
-/// The words of `list FILE`.
-const LIST: [Slot; 2] = [Slot::List, Slot::File];
-
-/// The words of `run -b -r FILE SCRIPT`.
-const RUN: [Slot; 5] = [Slot::Run, Slot::Bare, Slot::Read, Slot::File, Slot::File];
-
-/// The word of `--help`.
-const HELP: [Slot; 1] = [Slot::Help];
-
-/// The word of `--version`.
-const VERSION: [Slot; 1] = [Slot::Version];
 
 /// The command that the words are, or the number of the first word that isn't understood: the least
 /// n such that words 0 to n begin no command, or the number of words.
@@ -54,87 +104,256 @@ pub fn read_command(words: &[Word]) -> Result<Command<'_>, usize>
         (λ command. understand words.now ≡ Ok (command_seen command))
         (λ word. understand words.now ≡ Err word) }
 {
-    match words {
-        [_] if begin_with(&HELP, words) => Ok(Command::Help),
-        [_] if begin_with(&VERSION, words) => Ok(Command::Version),
-        [_, file] if begin_with(&LIST, words) => Ok(Command::List {
-            file: file.as_slice(),
-        }),
-        [_, _, _, file, script] if begin_with(&RUN, words) => Ok(Command::Run {
-            file: file.as_slice(),
-            script: script.as_slice(),
-        }),
-        _ => Err(first_not_understood(words)),
+    let standing = stand(words)?;
+    match command_of(words, standing) {
+        Some(command) if is_carried_out(&command) => Ok(command),
+        _ => Err(words.len()),
     }
 }
 
-fn first_not_understood(words: &[Word]) -> usize
-    ensures { result ≡ first_not_understood [] words.now }
+/// Until the default scripts are loaded a run has to leave them out.
+fn is_carried_out(command: &Command<'_>) -> bool
+    ensures { result ≡ is_carried_out (command_seen command.now) }
 {
-    for n in 0..words.len() {
-        if !begin(&words[..n + 1]) {
-            return n;
+    match command {
+        Command::Run { settings, .. } => settings.bare,
+        Command::List { .. } | Command::Help | Command::Version => true,
+    }
+}
+
+/// What all words are, or the number of the first with which they begin no command.
+fn stand(words: &[Word]) -> Result<Standing, usize>
+    ensures { result ≡ stand_from Standing.Nothing 0 words.now }
+{
+    let mut standing = Standing::Nothing;
+    for (number, word) in words.iter().enumerate() {
+        match step(standing, number, word.as_slice()) {
+            Some(more) => standing = more,
+            None => return Err(number),
         }
     }
-    words.len()
+    Ok(standing)
 }
 
-/// Whether words are the first ones of some command.
-fn begin(words: &[Word]) -> bool
-    ensures { result ≡ begins words.now }
+/// What words are with one more, by its number and itself, if they are the first ones of a command.
+fn step(standing: Standing, number: usize, word: &[u8]) -> Option<Standing>
+    ensures { result ≡ step standing number word.now }
 {
-    begin_with(&LIST, words)
-        || begin_with(&RUN, words)
-        || begin_with(&HELP, words)
-        || begin_with(&VERSION, words)
+    match standing {
+        Standing::Nothing => verb(word),
+        Standing::List if is_file_name(word) => Some(Standing::Listed),
+        Standing::Run(run) => run_on(run, number, word).map(Standing::Run),
+        Standing::List | Standing::Listed | Standing::Help | Standing::Version => None,
+    }
 }
 
-/// Whether words are the first ones of a command with these slots.
-fn begin_with(slots: &[Slot], words: &[Word]) -> bool
-    ensures { result ≡ begins_with slots.now words.now }
+/// What the first word begins.
+fn verb(word: &[u8]) -> Option<Standing>
+    ensures { result ≡ verb word.now }
 {
-    for (n, word) in words.iter().enumerate() {
-        if n == slots.len() || !is_for(word, slots[n]) {
-            return false;
+    if word == b"list".as_slice() {
+        Some(Standing::List)
+    } else if word == b"run".as_slice() {
+        Some(Standing::Run(NO_OPTIONS))
+    } else if word == b"--help".as_slice() {
+        Some(Standing::Help)
+    } else if word == b"--version".as_slice() {
+        Some(Standing::Version)
+    } else {
+        None
+    }
+}
+
+/// A run with one more word.
+fn run_on(run: Run, number: usize, word: &[u8]) -> Option<Run>
+    ensures { result ≡ run_on run number word.now }
+{
+    match run.next {
+        Next::Word => with_word(run, number, word),
+        Next::Budget => {
+            let budget = number_in(BUDGET_MAX, word)?;
+            Some(Run {
+                budget: Some(budget),
+                next: Next::Word,
+                ..run
+            })
         }
+        Next::Buffer => {
+            let buffer = number_in(BUFFER_MAX, word)?;
+            Some(Run {
+                buffer: Some(buffer),
+                next: Next::Word,
+                ..run
+            })
+        }
+        Next::File if is_file_name(word) => Some(Run {
+            file: Some(number),
+            next: Next::Word,
+            ..run
+        }),
+        Next::File => None,
     }
-    true
 }
 
-/// Whether a word is one for this slot of a command.
-fn is_for(word: &Word, slot: Slot) -> bool
-    ensures { result ≡ fits slot word.now }
+/// A run whose next word is an option or a script. Options stand before the first script.
+fn with_word(run: Run, number: usize, word: &[u8]) -> Option<Run>
+    ensures { result ≡ with_word run number word.now }
 {
-    match slot {
-        Slot::List => word.as_slice() == b"list".as_slice(),
-        Slot::Run => word.as_slice() == b"run".as_slice(),
-        Slot::Bare => word.as_slice() == b"-b".as_slice(),
-        Slot::Read => word.as_slice() == b"-r".as_slice(),
-        Slot::Help => word.as_slice() == b"--help".as_slice(),
-        Slot::Version => word.as_slice() == b"--version".as_slice(),
-        Slot::File => is_file_name(word),
+    if is_file_name(word) {
+        with_script(run, number)
+    } else if run.scripts.is_some() {
+        None
+    } else {
+        with_option(run, word)
     }
+}
+
+/// A run whose next word is a script. The capture is named before it.
+fn with_script(run: Run, number: usize) -> Option<Run>
+    ensures { result ≡ with_script run number }
+{
+    if run.file.is_none() {
+        None
+    } else if run.scripts.is_some() {
+        Some(run)
+    } else {
+        Some(Run {
+            scripts: Some(number),
+            ..run
+        })
+    }
+}
+
+/// A run whose next word is an option.
+fn with_option(run: Run, word: &[u8]) -> Option<Run>
+    ensures { result ≡ with_option run word.now }
+{
+    if word == b"-C".as_slice() {
+        let unchecked = true;
+        once(run.unchecked, Run { unchecked, ..run })
+    } else if word == b"-b".as_slice() {
+        once(run.bare, Run { bare: true, ..run })
+    } else if word == b"--budget".as_slice() {
+        let next = Next::Budget;
+        once(run.budget.is_some(), Run { next, ..run })
+    } else if word == b"--buffer".as_slice() {
+        let next = Next::Buffer;
+        once(run.buffer.is_some(), Run { next, ..run })
+    } else if word == b"-r".as_slice() {
+        let next = Next::File;
+        once(run.file.is_some(), Run { next, ..run })
+    } else {
+        None
+    }
+}
+
+/// An option stands once at most.
+fn once(is_there: bool, run: Run) -> Option<Run>
+    ensures { result ≡ once is_there run }
+{
+    if is_there { None } else { Some(run) }
 }
 
 /// The name of a file is neither empty nor like an option.
-fn is_file_name(word: &Word) -> bool
+fn is_file_name(word: &[u8]) -> bool
     ensures { result ≡ is_file_name word.now }
 {
-    match word.as_slice() {
+    match word {
         [] => false,
         [first, ..] => *first != b'-',
     }
 }
 
+/// The number from 1 to a limit that a word spells in decimal digits, the first of which is not 0.
+fn number_in(most: u64, word: &[u8]) -> Option<u64>
+    requires { most < 2 ^ 32 }
+    ensures { result ≡ number_in most word.now }
+{
+    match word {
+        [] | [b'0', ..] => None,
+        _ => digits_in(most, word),
+    }
+}
+
+/// The number that digits spell, where it stays within a limit.
+fn digits_in(most: u64, word: &[u8]) -> Option<u64>
+    requires { most < 2 ^ 32 }
+    ensures { result ≡ number_from most 0 word.now }
+{
+    let mut number = 0;
+    for byte in word {
+        if !byte.is_ascii_digit() {
+            return None;
+        }
+        number = number * 10 + u64::from(*byte - b'0');
+        if number > most {
+            return None;
+        }
+    }
+    Some(number)
+}
+
+/// The command that words are, if they are a whole one.
+fn command_of(words: &[Word], standing: Standing) -> Option<Command<'_>>
+    ensures { option_map command_seen result ≡ command_of words.now standing }
+{
+    match standing {
+        Standing::Nothing | Standing::List => None,
+        Standing::Listed => {
+            let file = words.get(1)?;
+            Some(Command::List {
+                file: file.as_slice(),
+            })
+        }
+        Standing::Run(run) => run_of(words, run),
+        Standing::Help => Some(Command::Help),
+        Standing::Version => Some(Command::Version),
+    }
+}
+
+/// The run that words are, if they are a whole one: the capture is named.
+fn run_of(words: &[Word], run: Run) -> Option<Command<'_>>
+    ensures { option_map command_seen result ≡ run_of words.now run run.file }
+{
+    let file = words.get(run.file?)?;
+    match run.next {
+        Next::Word => Some(Command::Run {
+            settings: settings_of(run),
+            file: file.as_slice(),
+            scripts: words_from(words, run.scripts),
+        }),
+        Next::Budget | Next::Buffer | Next::File => None,
+    }
+}
+
+/// The words from a number on.
+fn words_from(words: &[Word], number: Option<usize>) -> &[Word]
+    ensures { result.now ≡ words_from words.now number }
+{
+    match number {
+        Some(number) if number < words.len() => &words[number..],
+        _ => &[],
+    }
+}
+
+/// How scripts are run: 1,000,000 units for a body and 1,048,576 bytes above a front, where nothing
+/// else is told.
+fn settings_of(run: Run) -> Settings
+    ensures { result ≡ settings_of run }
+{
+    Settings {
+        check: !run.unchecked,
+        bare: run.bare,
+        budget: run.budget.unwrap_or(1_000_000),
+        buffer: run.buffer.unwrap_or(1_048_576),
+    }
+}
+
 /// What a command line is, in the subject's own words. There is nothing to run.
 pub fn command_line()
-    // The command that is read is the one whose words they are, and there is no other.
-    ensures spelled { (words : List (List ℕ)) (command : CommandMeaning) → (command_of words ≡ Some command) ↔ IsCommand words command }
+    // A command has as its words what begins one, and words that begin one can be made a whole one.
+    ensures begun { (words : List (List ℕ)) → IsTrue (begins words) ↔ ((more : List (List ℕ)) × IsTrue (is_whole (words ++ more))) }
 
-    // Words begin a command exactly where some words behind them make one.
-    ensures begun { (words : List (List ℕ)) → IsTrue (begins words)
-        ↔ ((more : List (List ℕ)) × (command : CommandMeaning) × IsCommand (words ++ more) command) }
-
-    // The word that is named is the least one with which the words begin no command.
-    ensures first { (words : List (List ℕ)) → IsFirstNotUnderstood words (first_not_understood [] words) }
+    // The word that is named is the least one with which the words begin no command, or else all words begin one.
+    ensures first { (words : List (List ℕ)) (place : ℕ) → stand_from Standing.Nothing 0 words ≡ Err place → IsFirstNotUnderstood words place }
 {}

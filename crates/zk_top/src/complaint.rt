@@ -2,11 +2,11 @@ ghost use Rattle.std.specs.Prelude.{◌≡◌, [], ◌++◌, codes, decimal, OnO
 ghost use Rattle.zk_text.specs.Span.{span_decimal};
 ghost use Rattle.zk_base.specs.Ending.{kind_name};
 ghost use Rattle.zk_top.specs.Complaint.{complaint_of, line};
-ghost use Rattle.zk_top.specs.Parts.{DoesAll, DoesPart};
+ghost use Rattle.zk_load.specs.Parts.{DoesAll, DoesPart};
 
-use crate::stop::{Stop, written};
 use std::alloc::{AllocError, Global};
 use zk_base::{Ending, ScriptKind, Shelf};
+use zk_load::{Stop, written};
 use zk_value::{push_count, push_span};
 
 /// Complains of an ending on standard error, where there is something to complain of.

@@ -4,16 +4,17 @@ ghost use Rattle.zk_top.specs.Command.{understand, command_seen};
 ghost use Rattle.zk_top.specs.Complaint.{complaint_of};
 ghost use Rattle.zk_top.specs.Outcome.{outcome, outcome_of};
 ghost use Rattle.zk_top.specs.Parts.{IsOfCommand, Fulfils, BreaksOff};
-ghost use Rattle.zk_top.specs.Run.{IsNotStopped, IsDone, StaysWithin, SameFaults, SameAbsences, SameComplaints};
+ghost use Rattle.zk_load.specs.Parts.{SameFaults, SameAbsences};
+ghost use Rattle.zk_top.specs.Run.{IsNotStopped, IsDone, StaysWithin, SameComplaints};
 
 use crate::about::{help, version};
 use crate::command::{Command, read_command};
 use crate::complaint::complain;
 use crate::listing::list;
-use crate::running::run_script;
-use crate::stop::Stop;
+use crate::running::run_scripts;
 use std::alloc::Global;
 use zk_base::{Ending, Shelf, Word};
+use zk_load::Stop;
 
 /// Carries out the words of a command line over a shelf, and says how that ended. The words are
 /// those behind the program's own name.
@@ -89,7 +90,11 @@ fn perform<S: Shelf>(alloc: Global, command: Command<'_>, shelf: &mut S) -> Resu
 {
     match command {
         Command::List { file } => list(alloc, shelf, file),
-        Command::Run { file, script } => run_script(alloc, shelf, file, script),
+        Command::Run {
+            settings,
+            file,
+            scripts,
+        } => run_scripts(alloc, shelf, settings, file, scripts),
         Command::Help => help(shelf),
         Command::Version => version(shelf),
     }

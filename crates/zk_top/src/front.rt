@@ -1,12 +1,12 @@
 ghost use Rattle.std.specs.Prelude.{◌≡◌, ◌⊎◌, ◌+◌, ◌≤◌, ◌<◌, ◌++◌, ℕ, List, Option, [], true, false, length, take, IsTrue, IfSome, IfOk, OnOk, IfErr};
 ghost use Rattle.zk_base.specs.Shelf.{is_open, rest_of};
 ghost use Rattle.zk_pcap.specs.Header.{header_of};
-ghost use Rattle.zk_top.specs.Parts.{DoesAll, DoesPart};
+ghost use Rattle.zk_load.specs.Parts.{DoesAll, DoesPart};
 ghost use Rattle.zk_top.specs.Reading.{HasRead, is_short};
 
-use crate::stop::Stop;
 use std::alloc::Global;
 use zk_base::{Bytes, Got, Shelf};
+use zk_load::Stop;
 use zk_pcap::{CaptureFault, Header};
 
 /// Reads the first bytes of the open input, up to those by which the header is judged.

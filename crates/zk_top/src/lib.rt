@@ -2,28 +2,21 @@
 #![tactic(auto)]
 
 mod about;
-mod bodies;
 mod capture;
 mod command;
 mod complaint;
 mod entry;
-mod firsts;
-mod forms;
-mod found;
 mod front;
 mod line;
 mod listing;
-mod lowering;
-mod mapping;
 mod output;
-mod reading;
+mod player;
 mod replay;
+mod runnable;
 mod running;
-mod script;
-mod stop;
-mod typing;
+mod scripts;
+mod writer;
 
-pub use bodies::script_bodies;
 pub use command::command_line;
 pub use entry::run;
 
@@ -31,5 +24,7 @@ pub use entry::run;
 mod grammar_tests;
 #[cfg(test)]
 mod list_tests;
+#[cfg(test)]
+mod log_tests;
 #[cfg(test)]
 mod tests;

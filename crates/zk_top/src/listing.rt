@@ -6,18 +6,18 @@ ghost use Rattle.zk_pcap.specs.declared.headers.Header.{Header as HeaderData};
 ghost use Rattle.zk_pcap.specs.declared.records.Packet.{Packet as PacketData};
 ghost use Rattle.zk_top.specs.Line.{capture_lines, lines_of, list_options};
 ghost use Rattle.zk_top.specs.Outcome.{listing};
-ghost use Rattle.zk_top.specs.Parts.{DoesAll, DoesPart, Fulfils, BreaksOff, IsOfCommand};
+ghost use Rattle.zk_load.specs.Parts.{DoesAll, DoesPart};
+ghost use Rattle.zk_top.specs.Parts.{Fulfils, BreaksOff, IsOfCommand};
 ghost use Rattle.zk_top.specs.Reading.{IsReading, IsUnderWay, SameInput, SaysAll, SaysPart};
 ghost use Rattle.zk_traffic.specs.Items.{items_of};
 ghost use Rattle.zk_traffic.specs.declared.item.Item.{Item as ItemData};
 
 use crate::capture::{CHUNK, CaptureReader, end_of};
-use crate::found::Found;
 use crate::line::push_item_line;
 use crate::output::{PIECE, make_room, say};
-use crate::stop::Stop;
 use std::alloc::Global;
 use zk_base::{Ending, Mem, Shelf};
+use zk_load::{Found, Stop};
 use zk_pcap::PacketView;
 use zk_traffic::{Options, Traffic, items_stay};
 
@@ -89,6 +89,7 @@ impl Listing {
         'items: while let Some(item) = self.traffic.next() {
             make_room(shelf, &mut self.piece)?;
             push_item_line(&mut self.piece, &item)?;
+            drop(item);
         }
         Ok(())
     }
@@ -152,10 +153,10 @@ fn list_through<S: Shelf>(
 #[cfg(test)]
 mod tests {
     use super::{CHUNK, list_through};
-    use crate::stop::Stop;
     use std::alloc::Global;
     use std::test::Fail;
     use zk_base::{Bytes, Ending, MemShelf};
+    use zk_load::Stop;
 
     /// A big-endian capture with nanoseconds: a record of 3 bytes at 1.999999999 s, one of 60 of
     /// which none were captured at 1 s, and the head of a third.

@@ -1,11 +1,12 @@
 ghost use Rattle.std.specs.Prelude.{◌≡◌, ◌≤◌, ◌+◌, [], ◌++◌, length, OnOk, IfErr};
 ghost use Rattle.zk_top.specs.Line.{line_end};
 ghost use Rattle.zk_top.specs.Reading.{SameInput};
-ghost use Rattle.zk_top.specs.Parts.{DoesAll, DoesPart, HandsOver};
+ghost use Rattle.zk_load.specs.Parts.{DoesAll, DoesPart};
+ghost use Rattle.zk_top.specs.Parts.{HandsOver};
 
-use crate::stop::{Stop, written};
 use std::alloc::AllocError;
 use zk_base::Shelf;
+use zk_load::{Stop, written};
 
 /// Output is handed over in pieces of about this many bytes.
 pub const PIECE: usize = 1 << 16;

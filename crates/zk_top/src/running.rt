@@ -1,45 +1,53 @@
 ghost use Rattle.std.specs.Prelude.{◌≡◌, ◌<◌, ◌≤◌, [], ◌∷◌, length, IfOk, IfErr};
-ghost use Rattle.zk_first_machine.specs.Lowered.{lowered};
-ghost use Rattle.zk_typed.specs.declared.program.Program.{Program};
-ghost use Rattle.zk_top.specs.Outcome.{over_capture, opened, loaded, run_report, running};
+ghost use Rattle.zk_typed.specs.Program.{Program};
+ghost use Rattle.zk_top.specs.Compiling.{Runs};
+ghost use Rattle.zk_top.specs.Outcome.{over_capture, opened, link_in, run_report, run_scripts};
 ghost use Rattle.zk_top.specs.Parts.{Fulfils, BreaksOff, IsOfCommand};
 
 use crate::capture::{CHUNK, CaptureReader, end_of};
-use crate::found::Found;
-use crate::replay::replay_packets;
-use crate::script::read_script;
-use crate::stop::Stop;
+use crate::command::Settings;
+use crate::replay::{Came, replay_capture};
+use crate::runnable::Runnable;
+use crate::scripts::read_program;
 use std::alloc::Global;
-use zk_base::{Ending, Shelf};
-use zk_value::Code;
+use zk_base::{Ending, Shelf, Word};
+use zk_load::{Found, Stop};
+use zk_traffic::Options;
 
-/// Runs a script over the capture in a file. The capture is asked for once the script is accepted.
-pub fn run_script<S: Shelf>(
+/// Runs scripts over the capture in a file. The capture is asked for once they are read and checked.
+pub fn run_scripts<S: Shelf>(
     alloc: Global,
     shelf: &mut S,
+    settings: Settings,
     file: &[u8],
-    script: &[u8],
+    scripts: &[Word],
 ) -> Result<Ending, Stop>
-    ensures done { IfOk result (λ ending. Fulfils (λ inputs. running file.now script.now (loaded script.now (inputs script.now)) inputs) [] (S.outside shelf.old) ending (S.outside shelf.new)) }
+    ensures done { IfOk result (λ ending. Fulfils (run_scripts file.now settings scripts.now) [] (S.outside shelf.old) ending (S.outside shelf.new)) }
     ensures command { IfOk result IsOfCommand }
-    ensures stopped { IfErr result (λ stop. BreaksOff (λ inputs. running file.now script.now (loaded script.now (inputs script.now)) inputs) (S.outside shelf.old) stop (S.outside shelf.new)) }
+    ensures stopped { IfErr result (λ stop. BreaksOff (run_scripts file.now settings scripts.now) (S.outside shelf.old) stop (S.outside shelf.new)) }
 {
-    match read_script(alloc, shelf, script)? {
-        Found::Accepted(code) => run_code(alloc, shelf, file, code),
+    match read_program(alloc, shelf, scripts)? {
+        Found::Accepted(runnable) => run_program(alloc, shelf, settings, file, runnable),
         Found::Refused(ending) => Ok(ending),
     }
 }
 
 /// Runs a program over the capture in a file.
-fn run_code<S: Shelf>(alloc: Global, shelf: &mut S, file: &[u8], code: Code) -> Result<Ending, Stop>
-    ensures done { IfOk result (λ ending. (program : Program) → code ≡ lowered program
-        → Fulfils (λ inputs. over_capture (run_report file.now program) (file.now ∷ []) (opened file.now (inputs file.now))) [] (S.outside shelf.old) ending (S.outside shelf.new)) }
+fn run_program<S: Shelf>(
+    alloc: Global,
+    shelf: &mut S,
+    settings: Settings,
+    file: &[u8],
+    runnable: Runnable,
+) -> Result<Ending, Stop>
+    ensures done { IfOk result (λ ending. (program : Program) → Runs runnable program
+        → Fulfils (λ inputs. over_capture (run_report file.now settings program (link_in (inputs file.now))) (file.now ∷ []) (opened file.now (inputs file.now))) [] (S.outside shelf.old) ending (S.outside shelf.new)) }
     ensures command { IfOk result IsOfCommand }
-    ensures stopped { IfErr result (λ stop. (program : Program) → code ≡ lowered program
-        → BreaksOff (λ inputs. over_capture (run_report file.now program) (file.now ∷ []) (opened file.now (inputs file.now))) (S.outside shelf.old) stop (S.outside shelf.new)) }
+    ensures stopped { IfErr result (λ stop. (program : Program) → Runs runnable program
+        → BreaksOff (λ inputs. over_capture (run_report file.now settings program (link_in (inputs file.now))) (file.now ∷ []) (opened file.now (inputs file.now))) (S.outside shelf.old) stop (S.outside shelf.new)) }
 {
     let mut chunk = vec![in alloc; 0; CHUNK]?;
-    run_through(alloc, shelf, &mut chunk, file, code)
+    run_through(alloc, shelf, &mut chunk, settings, file, runnable)
 }
 
 /// The same, read through a buffer that is not empty.
@@ -47,22 +55,38 @@ fn run_through<S: Shelf>(
     alloc: Global,
     shelf: &mut S,
     chunk: &mut [u8],
+    settings: Settings,
     file: &[u8],
-    code: Code,
+    runnable: Runnable,
 ) -> Result<Ending, Stop>
     requires room { 0 < length chunk.old }
     requires small { length chunk.old ≤ CHUNK }
-    ensures done { IfOk result (λ ending. (program : Program) → code ≡ lowered program
-        → Fulfils (λ inputs. over_capture (run_report file.now program) (file.now ∷ []) (opened file.now (inputs file.now))) [] (S.outside shelf.old) ending (S.outside shelf.new)) }
+    ensures done { IfOk result (λ ending. (program : Program) → Runs runnable program
+        → Fulfils (λ inputs. over_capture (run_report file.now settings program (link_in (inputs file.now))) (file.now ∷ []) (opened file.now (inputs file.now))) [] (S.outside shelf.old) ending (S.outside shelf.new)) }
     ensures command { IfOk result IsOfCommand }
-    ensures stopped { IfErr result (λ stop. (program : Program) → code ≡ lowered program
-        → BreaksOff (λ inputs. over_capture (run_report file.now program) (file.now ∷ []) (opened file.now (inputs file.now))) (S.outside shelf.old) stop (S.outside shelf.new)) }
+    ensures stopped { IfErr result (λ stop. (program : Program) → Runs runnable program
+        → BreaksOff (λ inputs. over_capture (run_report file.now settings program (link_in (inputs file.now))) (file.now ∷ []) (opened file.now (inputs file.now))) (S.outside shelf.old) stop (S.outside shelf.new)) }
 {
-    match CaptureReader::open(alloc, shelf, chunk, file)? {
-        Found::Accepted(mut reader) => {
-            replay_packets(alloc, shelf, chunk, code, &mut reader)?;
-            Ok(end_of(alloc, file, reader.ending())?)
-        }
-        Found::Refused(ending) => Ok(ending),
+    let mut reader = match CaptureReader::open(alloc, shelf, chunk, file)? {
+        Found::Accepted(reader) => reader,
+        Found::Refused(ending) => return Ok(ending),
+    };
+    let options = Options {
+        check: settings.check,
+        buffer: settings.buffer,
+        packets: runnable.packets,
+    };
+    let Runnable { code, packets: _ } = runnable;
+    match replay_capture(
+        alloc,
+        shelf,
+        chunk,
+        options,
+        code,
+        settings.budget,
+        &mut reader,
+    )? {
+        Came::Through(_) => Ok(end_of(alloc, file, reader.ending())?),
+        Came::Flooded(moment) => Ok(Ending::Flood { moment }),
     }
 }

@@ -26,6 +26,16 @@ const NANOSECONDS: [u8; 40] = [
     0x3b, 0x9a, 0xc9, 0xff, 0, 0, 0, 0, 0, 0, 0, 60,
 ];
 
+/// A capture whose one packet, at 25 s, is a datagram of UDP.
+pub const DATAGRAM: [u8; 83] = [
+    0xd4, 0xc3, 0xb2, 0xa1, 0x02, 0x00, 0x04, 0x00, 0x00, 0x00, 0x00, 0x00, 0x00, 0x00, 0x00, 0x00,
+    0x00, 0x00, 0x04, 0x00, 0x01, 0x00, 0x00, 0x00, 0x19, 0x00, 0x00, 0x00, 0x00, 0x00, 0x00, 0x00,
+    0x2b, 0x00, 0x00, 0x00, 0x2b, 0x00, 0x00, 0x00, 0x00, 0x00, 0x00, 0x00, 0x00, 0x00, 0x00, 0x00,
+    0x00, 0x00, 0x00, 0x00, 0x08, 0x00, 0x45, 0x00, 0x00, 0x1d, 0x00, 0x00, 0x00, 0x00, 0x00, 0x11,
+    0xa6, 0x80, 0x0a, 0x00, 0x00, 0x01, 0x0a, 0x00, 0x00, 0x50, 0x03, 0xe9, 0x27, 0x0f, 0x00, 0x09,
+    0x48, 0x93, 0x78,
+];
+
 /// The words of a command line, joined by blanks.
 pub fn words(alloc: Global, line: &[u8]) -> Result<Vec<Word>, Mem> {
     let mut words = Vec::new(alloc);
@@ -54,7 +64,7 @@ const RUN: &[u8] = b"run -b -r c.pcap s.zeek";
 
 /// A command line, the bytes of `c.pcap`, the text of `s.zeek`, the status, and what is said and
 /// complained.
-const ROWS: [(&[u8], &[u8], &[u8], u8, &[u8], &[u8]); 33] = [
+const ROWS: [(&[u8], &[u8], &[u8], u8, &[u8], &[u8]); 39] = [
     (b"list c.pcap", &HEADER, b"", 0, b"", b""),
     (
         b"list c.pcap",
@@ -191,13 +201,22 @@ const ROWS: [(&[u8], &[u8], &[u8], u8, &[u8], &[u8]); 33] = [
         b"",
         b"zeekoff: s.zeek, byte 34: NoTree\n",
     ),
+    // The tree is judged before names and types, and these before the capture is asked for.
     (
         RUN,
         &HEADER,
         b"event zeek_init() { print caplen; }",
         2,
         b"",
-        b"zeekoff: s.zeek, byte 0: NoTree\n",
+        b"zeekoff: s.zeek, byte 26: Unknown\n",
+    ),
+    (
+        b"run -b -r x.pcap s.zeek",
+        &HEADER,
+        b"global x: count = \"a\";",
+        2,
+        b"",
+        b"zeekoff: s.zeek, byte 18: WrongType\n",
     ),
     (
         RUN,
@@ -274,13 +293,54 @@ const ROWS: [(&[u8], &[u8], &[u8], u8, &[u8], &[u8]); 33] = [
         b"",
         b"zeekoff: c.pcap refused at byte 0\n",
     ),
+    // The default scripts have to be left out.
     (
         b"run -r c.pcap s.zeek",
         &HEADER,
         b"",
         1,
         b"",
-        b"zeekoff: word 1 is not understood\n",
+        b"zeekoff: word 4 is not understood\n",
+    ),
+    (
+        b"run -r",
+        &HEADER,
+        b"",
+        1,
+        b"",
+        b"zeekoff: word 2 is not understood\n",
+    ),
+    (
+        b"run -r c.pcap s.zeek -C",
+        &HEADER,
+        b"",
+        1,
+        b"",
+        b"zeekoff: word 4 is not understood\n",
+    ),
+    (
+        b"run --budget 09 -b -r c.pcap",
+        &HEADER,
+        b"",
+        1,
+        b"",
+        b"zeekoff: word 2 is not understood\n",
+    ),
+    (
+        b"run -b -r c.pcap --buffer 67108865",
+        &HEADER,
+        b"",
+        1,
+        b"",
+        b"zeekoff: word 5 is not understood\n",
+    ),
+    (
+        b"run --buffer 67108864 -C -r c.pcap --budget 1000000000 -b",
+        &HEADER,
+        b"",
+        0,
+        b"",
+        b"",
     ),
     (b"--version", b"", b"", 0, b"zeekoff 0.1.0\n", b""),
     (
@@ -299,13 +359,65 @@ const ROWS: [(&[u8], &[u8], &[u8], u8, &[u8], &[u8]); 33] = [
         b"",
         b"zeekoff: word 1 is not understood\n",
     ),
+    // Scripts are read in order, each followed by what it loads.
     (
         b"run -b -r c.pcap s.zeek t.zeek",
         &HEADER,
+        b"@load base/x\n@load s.zeek",
+        9,
         b"",
-        1,
+        b"zeekoff: no file t.zeek\n",
+    ),
+];
+
+/// A command line, the text of `s.zeek`, and what is said over a capture whose one packet, a datagram,
+/// comes at 25 s.
+const PROGRAMS: [(&[u8], &[u8], &[u8]); 7] = [
+    // A loop goes over a snapshot. Entries expire at their own moments, and their function may change the table.
+    (
+        RUN,
+        b"global t: table[count] of count &create_expire=10 sec &expire_func=gone; \
+          function gone(t: table[count] of count, k: count): interval { print fmt(\"%d %s\", k, network_time()); \
+          if ( k == 1 ) { delete t[2]; t[3] = 0; return 10 sec; } return 0 sec; } \
+          event zeek_init() { t[1] = 0; t[2] = 0; local s = set(5, 6, 7); for ( k in s ) { print k; delete s[6]; } }",
+        b"5\n7\n1 10.000000\n1 20.000000\n3 20.000000\n",
+    ),
+    // Bodies run by falling priority and then in load order; a break ends a hook.
+    (
+        RUN,
+        b"hook h(n: count) { print \"h0\"; } hook h(n: count) &priority=1 { print \"h1\"; break; } \
+          event zeek_init() &priority=-5 { print \"d\"; } event zeek_init() { print \"b\"; } \
+          event zeek_init() &priority=5 { print \"a\", hook h(1); } event zeek_init() { print \"c\"; }",
+        b"h1\na, F\nb\nc\nd\n",
+    ),
+    // A fault ends its body alone, which keeps what it did.
+    (
+        RUN,
+        b"global t: table[count] of count; event zeek_init() { t[1] = 2; print t[5]; } event zeek_init() { print t[1]; }",
+        b"2\n",
+    ),
+    (
+        RUN,
+        b"global t: table[count] of count; function f(t: table[count] of count) { t[2] = 5; } \
+          event zeek_init() { f(t); print |t|, t[2], 7 / 2; print 7 / 0; print 1; }",
+        b"1, 5, 3\n",
+    ),
+    (
+        b"run -b --budget 9 -r c.pcap s.zeek",
+        b"event zeek_init() { local i = 0; while ( i < 3 ) ++i; print i; }",
+        b"3\n",
+    ),
+    (
+        b"run -b --budget 8 -r c.pcap s.zeek",
+        b"event zeek_init() { local i = 0; while ( i < 3 ) ++i; print i; }",
         b"",
-        b"zeekoff: word 5 is not understood\n",
+    ),
+    // A scheduled event has its own moment; what still waits at the end comes before it.
+    (
+        RUN,
+        b"event tick() { print network_time(); } event new_connection(c: connection) { print c$id$resp_p; schedule 2 sec { tick() }; } \
+          event zeek_init() { schedule 7 sec { tick() }; } event zeek_done() { print \"done\"; }",
+        b"7.000000\n9999/udp\n25.000000\ndone\n",
     ),
 ];
 
@@ -319,6 +431,32 @@ fn each_run_says_its_lines_and_complains_of_its_ending(rt: HostRuntime) -> Resul
         assert_eq!(rt; ending.status(), *status, "in row {n}");
         assert_eq!(rt; shelf.said(), *said, "in row {n}");
         assert_eq!(rt; shelf.complained(), *complained, "in row {n}");
+    }
+    Ok(())
+}
+
+#[test]
+fn a_handler_that_raises_its_own_event_is_a_flood(rt: HostRuntime) -> Result<(), Fail> {
+    let alloc = rt.alloc();
+    let script = b"event e() { event e(); } event zeek_init() { event e(); }";
+    let mut shelf = SureShelf::new(alloc, inputs(alloc, &HEADER, script)?)?;
+    let ending = run(alloc, &words(alloc, RUN)?, &mut shelf);
+    assert_eq!(rt; ending.status(), 8);
+    assert_eq!(rt;
+        shelf.complained(),
+        b"zeekoff: flood at 0.000000\n".as_slice()
+    );
+    Ok(())
+}
+
+#[test]
+fn programs_print_what_they_mean(rt: HostRuntime) -> Result<(), Fail> {
+    for (n, (line, script, said)) in PROGRAMS.iter().enumerate() {
+        let alloc = rt.alloc();
+        let mut shelf = SureShelf::new(alloc, inputs(alloc, &DATAGRAM, script)?)?;
+        let ending = run(alloc, &words(alloc, line)?, &mut shelf);
+        assert_eq!(rt; ending.status(), 0, "in row {n}");
+        assert_eq!(rt; shelf.said(), *said, "in row {n}");
     }
     Ok(())
 }

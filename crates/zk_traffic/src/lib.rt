@@ -17,6 +17,3 @@ pub use item::{Item, What};
 pub use news::Fresh;
 pub use options::Options;
 pub use traffic::{Traffic, items_are_own, items_stay};
-
-#[cfg(test)]
-mod tests;

@@ -13,6 +13,3 @@ pub use dns::message_unit;
 pub use protocol::{Protocol, protocol_at};
 pub use readers::Readers;
 pub use stream_unit::{Freed, StreamUnit};
-
-#[cfg(test)]
-mod tests;

@@ -24,6 +24,3 @@ pub use shared::SharedBytes;
 pub use store::Store;
 pub use texts::{push_addr, push_count, push_int, push_port, push_span, push_subnet};
 pub use value::Value;
-
-#[cfg(test)]
-mod tests;

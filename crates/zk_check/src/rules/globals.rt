@@ -14,7 +14,6 @@ ghost use Rattle.zk_check.specs.Grounds.{IsGround};
 ghost use Rattle.zk_check.specs.Valuing.{IsValues, given_lent, given_of};
 
 use crate::rules::ground::Ground;
-use crate::rules::signatures::same_types;
 use crate::rules::told::{dropped, require};
 use crate::values::{Given, Values};
 use std::alloc::Global;
@@ -22,6 +21,7 @@ use zk_base::Mem;
 use zk_names::{Declared, Home, Meant, Signature, place_in};
 use zk_operator::{
     Attributes, attr_rules, copied_type, default_typed, global_attribute, is_made, same_type,
+    same_types,
 };
 use zk_tree::{Attr, Expr, Lasting, Place, Redefining};
 use zk_typed::script::{DefaultValue, SimpleType, ValueType};

@@ -10,8 +10,8 @@ ghost use Rattle.zk_names.specs.Lent.{declared_of, home_of};
 ghost use Rattle.zk_names.specs.Scripted.{scripts_in};
 
 use crate::rules::ground::Ground;
-use crate::rules::signatures::{body_signature, function_signature};
-use zk_names::{Declared, Home, place_in, written};
+use crate::rules::signatures::function_signature;
+use zk_names::{Declared, Home, body_signature, place_in, written};
 use zk_tree::{BodyKind, Name, Param, Place, Type};
 use zk_typed::{Refusal, Rule, one_broken};
 

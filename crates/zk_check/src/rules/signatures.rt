@@ -1,4 +1,4 @@
-ghost use Rattle.std.specs.Prelude.{◌≡◌, List, Option, map};
+ghost use Rattle.std.specs.Prelude.{◌≡◌, map};
 ghost use Rattle.std.specs.Option.{option_map};
 ghost use Rattle.zk_typed.specs.Errors as spec;
 ghost use Rattle.zk_typed.specs.Tells.{Tells};
@@ -12,29 +12,10 @@ use crate::rules::ground::Ground;
 use crate::rules::told::require;
 use zk_base::Sequence;
 use zk_names::{Home, Meant, Signature, place_in};
-use zk_operator::{also, both, same_type};
-use zk_tree::{BodyKind, Name, Place};
+use zk_operator::{also, both, same_type, same_types};
+use zk_tree::{Name, Place};
 use zk_typed::script::ValueType;
 use zk_typed::{Refusal, Rule, one_broken};
-
-/// Whether types are the same, one by one.
-pub fn same_types(a: &[ValueType], b: &[ValueType]) -> bool
-    ensures { result ≡ spec.same_types (map type_of a.now) (map type_of b.now) }
-{
-    let mut others = b;
-    for one in a {
-        match others.split_first() {
-            None => return false,
-            Some((first, rest)) => {
-                if !same_type(one, first) {
-                    return false;
-                }
-                others = rest;
-            }
-        }
-    }
-    others.is_empty()
-}
 
 /// Whether results are the same: of the same type, or none.
 fn same_result(a: &Option<ValueType>, b: &Option<ValueType>) -> bool
@@ -48,36 +29,6 @@ fn same_result(a: &Option<ValueType>, b: &Option<ValueType>) -> bool
         Some(one) => match b {
             None => false,
             Some(other) => same_type(one, other),
-        },
-    }
-}
-
-/// The signature of a name of events or of hooks.
-pub fn body_signature<'a, 'b>(kind: BodyKind, meant: &'b Meant<'a>) -> Option<&'b Signature<'a>>
-    ensures { option_map (λ one. signature_of one.now) result ≡ spec.kind_of kind (meant_of meant.entry.now) }
-{
-    match kind {
-        BodyKind::Event => match meant {
-            Meant::Event { signature } => Some(signature),
-            Meant::KnownType { .. }
-            | Meant::WrittenType { .. }
-            | Meant::Word { .. }
-            | Meant::Variable { .. }
-            | Meant::Hook { .. }
-            | Meant::Function { .. }
-            | Meant::BuiltInFunction { .. }
-            | Meant::Log { .. } => None,
-        },
-        BodyKind::Hook => match meant {
-            Meant::Hook { signature } => Some(signature),
-            Meant::KnownType { .. }
-            | Meant::WrittenType { .. }
-            | Meant::Word { .. }
-            | Meant::Variable { .. }
-            | Meant::Event { .. }
-            | Meant::Function { .. }
-            | Meant::BuiltInFunction { .. }
-            | Meant::Log { .. } => None,
         },
     }
 }

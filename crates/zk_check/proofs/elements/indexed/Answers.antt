@@ -2,7 +2,7 @@ use Rattle.std.proofs.Common.{rules, ◌≡◌, List, [], ◌∷◌, ◌++◌, S
 use Rattle.zk_tree.specs.declared.expr.Expr.{Expr}
 use Rattle.zk_tree.specs.declared.expr.Part.{Part}
 use Rattle.zk_typed.specs.Statements as spec
-use Rattle.zk_check.proofs.IndexLaws.{index_found, field_found, test_found, call_found}
+use Rattle.zk_check.proofs.Acts.{index_found, field_found, test_found, call_found}
 use Rattle.zk_check.proofs.elements.indexed.Goals as goal
 
 pub returns-in-Index : goal.returns-in-Index

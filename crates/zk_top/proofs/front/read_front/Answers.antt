@@ -1,6 +1,6 @@
 use Rattle.std.proofs.Common.{◌≡◌, ◌+◌, ◌<◌, ℕ, List, ◌++◌, length, take, refl, ap, ◌∙◌, arith, length-append, length-take-le}
 use Rattle.std.proofs.lemmas.Result.{err_from_is_err_and}
-use Rattle.zk_top.proofs.SoFar.{read_more, stopped_for_memory, stopped_by_input}
+use Rattle.zk_load.proofs.SoFar.{read_more, stopped_for_memory, stopped_by_input}
 use Rattle.zk_top.proofs.front.read_front.Goals as goal
 
 pub loop-shelf-smaller : goal.loop-shelf-smaller

@@ -2,7 +2,7 @@ use Rattle.std.proofs.Common.{◌≤◌, ◌++◌, length, drop, sym, subst, ari
 use Rattle.std.proofs.lemmas.List.{take-append-le}
 use Rattle.zk_top.specs.Reading.{HasRead}
 use Rattle.zk_top.proofs.CaptureReading.{has_read_more, read_nothing}
-use Rattle.zk_top.proofs.SoFar.{stopped_by_input}
+use Rattle.zk_load.proofs.SoFar.{stopped_by_input}
 use Rattle.zk_top.proofs.front.read_some.Goals as goal
 
 pub returns-in-Bytes-clause-given : goal.returns-in-Bytes-clause-given

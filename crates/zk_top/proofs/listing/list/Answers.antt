@@ -1,9 +1,9 @@
 use Rattle.std.proofs.Common.{[], ◌∷◌, refl}
 use Rattle.std.proofs.lemmas.Result.{err_from_is_err_and}
 use Rattle.zk_top.specs.Outcome.{link_in, list_report}
-use Rattle.zk_top.proofs.Doing.{out_of_memory}
+use Rattle.zk_load.proofs.Doing.{out_of_memory}
 use Rattle.zk_top.proofs.OverCapture.{broken_before}
-use Rattle.zk_top.specs.declared.stop.Stop.TheVariants.{NoMemory}
+use Rattle.zk_load.specs.declared.stop.Stop.TheVariants.{NoMemory}
 use Rattle.zk_top.proofs.listing.list.Goals as goal
 
 pub returns-in_err-chunk-clause-stopped : goal.returns-in_err-chunk-clause-stopped

@@ -2,13 +2,14 @@ use Rattle.std.proofs.Common.{◌≡◌, ◌≤◌, ◌<◌, ℕ, List, [], ◌�
 use Rattle.std.proofs.lemmas.Result.{err_from_is_err_and, IfErr-weaker}
 use Rattle.zk_pcap.specs.declared.headers.Header.{Header}
 use Rattle.zk_pcap.specs.View.{packet_of}
-use Rattle.zk_top.specs.declared.stop.Stop.TheVariants.{NoMemory}
+use Rattle.zk_load.specs.declared.stop.Stop.TheVariants.{NoMemory}
 use Rattle.zk_top.specs.Line.{capture_lines, lines_of, list_options}
 use Rattle.zk_top.specs.Listing.{HasListed, HasListedAll}
-use Rattle.zk_top.specs.Parts.{DoesAll, DoesPart}
+use Rattle.zk_load.specs.Parts.{DoesAll, DoesPart}
 use Rattle.zk_top.proofs.CaptureReading.{reading_on, read_capture, says_part, says_part_next, same_place, later_place}
-use Rattle.zk_top.proofs.Doing.{out_of_memory, does_part_of, prefix_all}
-use Rattle.zk_top.proofs.ListingLemmas.{lines_begin, listed_on, no_items}
+use Rattle.zk_load.proofs.Doing.{out_of_memory, does_part_of, prefix_all}
+use Rattle.zk_top.proofs.ItemLemmas.{no_items}
+use Rattle.zk_top.proofs.ListingLemmas.{lines_begin, listed_on}
 use Rattle.zk_top.proofs.Said.{on_ok_both, stopped_after}
 use Rattle.zk_traffic.specs.Items.{items_of}
 use Rattle.zk_top.proofs.listing.list_items.Goals as goal
@@ -28,7 +29,7 @@ packets-init g c =
       goes_on = λ whole header bytes is.
           let link = c.link.ensures whole header bytes [] old is in
           let made = subst (λ l. HasListed old l [] [] false c.in_ok-listing.listing old) link (c.in_ok-listing.ensures old) in
-          (bytes, [], is, subst (λ given. HasListed old header.link [] given false c.in_ok-listing.listing old) (sym (no_items header.link)) made);
+          (bytes, [], is, subst (λ given. HasListed old header.link [] given false c.in_ok-listing.listing old) (sym (no_items list_options header.link)) made);
     }
 
 pub returns-in_err-fill-clause-stopped : goal.returns-in_err-fill-clause-stopped
@@ -138,5 +139,5 @@ returns-clause-stopped g c =
       packets = packets;
       ending = _;
       all = read_capture whole header further packets c.fill.new.self mid filled through;
-      says = stopped first header.link packets (listed_on first header.link packets c.packets.listing old mid listed c.in_ok-fill.ensures.read);
+      there = stopped first header.link packets (listed_on first header.link packets c.packets.listing old mid listed c.in_ok-fill.ensures.read);
     }) c.end.ensures.stopped

@@ -1,13 +1,12 @@
 use Rattle.std.proofs.Common.{refl, sym, ap, subst}
 use Rattle.std.proofs.lemmas.Result.{err_from_is_err_and}
 use Rattle.zk_base.specs.Shelf.{lies_under}
-use Rattle.zk_top.specs.declared.stop.Stop.TheVariants.{NoMemory}
-use Rattle.zk_top.specs.Outcome.{link_in, list_report}
+use Rattle.zk_load.specs.declared.stop.Stop.TheVariants.{NoMemory}
+use Rattle.zk_top.specs.Outcome.{link_in, list_report, no_files}
 use Rattle.zk_top.specs.Line.{capture_lines}
 use Rattle.zk_top.specs.Reading.{FindsCapture, OpensCapture}
-use Rattle.zk_top.proofs.OpenCapture.{capture_found}
-use Rattle.zk_top.proofs.ListingLemmas.{opened_link}
-use Rattle.zk_top.proofs.OverCapture.{broken_before, broken_within, fulfilled, fulfilled_refused, command_refusal}
+use Rattle.zk_top.proofs.OpenCapture.{capture_found, opened_link}
+use Rattle.zk_top.proofs.OverCapture.{broken_before, broken_within, capture_ends, fulfilled, fulfilled_refused, command_refusal, said_alone, said_part_alone}
 use Rattle.zk_top.proofs.Said.{memory_behind}
 use Rattle.zk_top.proofs.listing.list_through.Goals as goal
 
@@ -28,9 +27,10 @@ returns-in_err-list_items-in-Accepted-clause-stopped g c =
     let exit = c.from_residual-in_err-list_items-in-Accepted in
     let p = err_from_is_err_and exit.result exit.ensures.1 in
     let part = c.in_err-list_items-in-Accepted.ensures.stopped (lies_under old.inputs file) opens.header opens.bytes opens.reading in
-    rw (p.1, p.2) (broken_within (λ input. list_report file (link_in input)) file (record { packets = part.packets; ending = part.ending }) (capture_lines opens.header.link part.packets) old mid c.in_err-list_items-in-Accepted.field-0.0 new
+    rw (p.1, p.2) (broken_within (λ input. list_report file (link_in input)) file (record { packets = part.packets; ending = part.ending }) (capture_lines opens.header.link part.packets) no_files old mid c.in_err-list_items-in-Accepted.field-0.0 new
     (capture_found file old reader mid part.packets part.ending opens part.all)
-    (λ inputs told. ap (λ l. capture_lines l part.packets) (sym (opened_link file old reader mid opens inputs told))) part.says)
+    (λ inputs told. record { said = ap (λ l. capture_lines l part.packets) (sym (opened_link file old reader mid opens inputs told)); files = refl })
+    (said_part_alone (capture_lines opens.header.link part.packets) mid c.in_err-list_items-in-Accepted.field-0.0 new part.there))
 
 pub returns-in_err-end_of-in-Accepted-clause-stopped : goal.returns-in_err-end_of-in-Accepted-clause-stopped
 returns-in_err-end_of-in-Accepted-clause-stopped g c =
@@ -45,9 +45,10 @@ returns-in_err-end_of-in-Accepted-clause-stopped g c =
     let whole = lies_under old.inputs file in
     let all = c.in_ok-list_items-in-Accepted.ensures.said whole opens.header opens.bytes opens.reading in
     let capture = c.ending.ensures whole opens.header all.bytes all.packets new all.reading all.through in
-    rw (p.1, p.2) (broken_within (λ input. list_report file (link_in input)) file (record { packets = all.packets; ending = c.ending.result }) (capture_lines opens.header.link all.packets) old mid NoMemory new
+    rw (p.1, p.2) (broken_within (λ input. list_report file (link_in input)) file (record { packets = all.packets; ending = c.ending.result }) (capture_lines opens.header.link all.packets) no_files old mid NoMemory new
     (capture_found file old reader mid all.packets c.ending.result opens capture)
-    (λ inputs told. ap (λ l. capture_lines l all.packets) (sym (opened_link file old reader mid opens inputs told))) (memory_behind mid (capture_lines opens.header.link all.packets) new all.says))
+    (λ inputs told. record { said = ap (λ l. capture_lines l all.packets) (sym (opened_link file old reader mid opens inputs told)); files = refl })
+    (said_part_alone (capture_lines opens.header.link all.packets) mid NoMemory new (memory_behind mid (capture_lines opens.header.link all.packets) new all.says)))
 
 pub returns-in_ok-end_of-in-Accepted-clause-done : goal.returns-in_ok-end_of-in-Accepted-clause-done
 returns-in_ok-end_of-in-Accepted-clause-done g c =
@@ -60,9 +61,12 @@ returns-in_ok-end_of-in-Accepted-clause-done g c =
     let whole = lies_under old.inputs file in
     let all = c.in_ok-list_items-in-Accepted.ensures.said whole opens.header opens.bytes opens.reading in
     let capture = c.ending.ensures whole opens.header all.bytes all.packets new all.reading all.through in
-    fulfilled (λ input. list_report file (link_in input)) file (record { packets = all.packets; ending = c.ending.result }) (capture_lines opens.header.link all.packets) old mid c.in_ok-end_of-in-Accepted.field-0 new
-    (capture_found file old reader mid all.packets c.ending.result opens capture) c.in_ok-end_of-in-Accepted.ensures
-    (λ inputs told. (ap (λ l. capture_lines l all.packets) (sym (opened_link file old reader mid opens inputs told)), refl)) all.says
+    fulfilled (λ input. list_report file (link_in input)) file (record { packets = all.packets; ending = c.ending.result }) (capture_lines opens.header.link all.packets) no_files old mid c.in_ok-end_of-in-Accepted.field-0 new
+    (capture_found file old reader mid all.packets c.ending.result opens capture) (capture_ends file c.in_ok-end_of-in-Accepted.field-0 c.ending.result c.in_ok-end_of-in-Accepted.ensures)
+    (λ inputs told. (
+      record { said = ap (λ l. capture_lines l all.packets) (sym (opened_link file old reader mid opens inputs told)); files = refl },
+      c.in_ok-end_of-in-Accepted.ensures,
+    )) (said_alone (capture_lines opens.header.link all.packets) mid new all.says)
 
 pub returns-in-Refused-clause-done : goal.returns-in-Refused-clause-done
 returns-in-Refused-clause-done g c =

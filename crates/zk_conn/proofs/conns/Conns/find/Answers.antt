@@ -3,9 +3,9 @@ use Rattle.zk_conn.specs.Table.{slot_of}
 use Rattle.zk_conn.proofs.HintLemmas.{hint_found}
 use Rattle.zk_conn.proofs.conns.Conns.find.Goals as goal
 
-pub returns-then-has_key-clause-some : goal.returns-then-has_key-clause-some
+pub returns-in-Some-clause-some : goal.returns-in-Some-clause-some
 unfolding slot_of
-returns-then-has_key-clause-some c = λ table. hint_found c.args.self.now c.args.key.now c.hint_of-hint.result table (sym c.has_key.ensures ∙ c.if-has_key.true)
+returns-in-Some-clause-some c = λ table. hint_found c.args.self.now c.args.key.now c.in-Some.slot table c.in-Some.ensures
 
 pub returns-clause-some : goal.returns-clause-some
 unfolding slot_of

@@ -40,3 +40,4 @@ returns-clause-ok c =
     c.in_ok-insert.ensures.updates
     (sym (c.is_whole.ensures (fragment ∷ []) holds) ∙ c.if-is_whole.false)
     (record { since = refl; holds = holds })
+    refl

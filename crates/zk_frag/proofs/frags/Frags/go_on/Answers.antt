@@ -46,6 +46,7 @@ returns-then-not-is_whole-clause-ok c = λ t group keeps.
     ((c.get_mut.follows.holds is).3 c.requires.«open»)
     (sym (c.is_whole.ensures (group ++ fragment ∷ []) holds) ∙ c.if-not-is_whole.true)
     (record { since = first_moment-append group fragment was.since kept.since; holds = holds })
+    refl
 
 pub returns-in-Some-remove-clause-ok : goal.returns-in-Some-remove-clause-ok
 unfolding group_at key_cmp

@@ -1,5 +1,5 @@
 use Rattle.std.proofs.Common.{◌≡◌, ◌⊎◌, ℕ, ◌+◌, ◌<◌, ◌≤◌, Bool, true, false, cond, [], inl, inr, arith}
-use Rattle.zk_top.proofs.Doing.{does_both_all}
+use Rattle.zk_load.proofs.Doing.{does_both_all}
 use Rattle.zk_top.proofs.capture.CaptureReader.fill.Goals as goal
 
 smaller : (left less : ℕ) (out after : Bool) → out ≡ false → less ≤ left → (after ≡ true) ⊎ (less < left) → less + cond after 0 1 < left + cond out 0 1

@@ -2,7 +2,7 @@ use Rattle.std.proofs.Common.{ℕ, ◌+◌, List, [], Option, IsTrue, if◌then�
 use Rattle.zk_base.specs.Shelf.{is_open}
 use Rattle.zk_pcap.specs.declared.headers.Header.{Header}
 use Rattle.zk_pcap.specs.declared.records.Packet.{Packet}
-use Rattle.zk_top.specs.Parts.{DoesAll}
+use Rattle.zk_load.specs.Parts.{DoesAll}
 use Rattle.zk_top.specs.Reading.{IsReading}
 use Rattle.zk_top.proofs.capture.CaptureReader.fill.Given as goal
 

@@ -1,10 +1,10 @@
 use Rattle.std.proofs.Common.{[], ◌∷◌, refl, sym, subst}
 use Rattle.std.proofs.lemmas.Result.{err_from_is_err_and}
 use Rattle.zk_base.specs.declared.endings.Ending.TheVariants.{NoInput}
-use Rattle.zk_top.specs.declared.found.Found.TheVariants.{Refused}
+use Rattle.zk_load.specs.declared.found.Found.TheVariants.{Refused}
 use Rattle.zk_top.specs.Reading.{FindsCapture, IsJudged}
-use Rattle.zk_top.specs.declared.stop.Stop.TheVariants.{NoMemory}
-use Rattle.zk_top.proofs.Doing.{out_of_memory, start_part, start_all, does_both_all, does_both_part}
+use Rattle.zk_load.specs.declared.stop.Stop.TheVariants.{NoMemory}
+use Rattle.zk_load.proofs.Doing.{out_of_memory, start_part, start_all, does_both_all, does_both_part}
 use Rattle.zk_top.proofs.OpenCapture.{open_input, found_by, found_absent, open_by}
 use Rattle.zk_top.proofs.capture.CaptureReader.open.Goals as goal
 

@@ -4,10 +4,11 @@ use Rattle.zk_pcap.specs.declared.records.Packet.{Packet}
 use Rattle.zk_base.specs.Shelf.{Outside}
 use Rattle.zk_top.specs.Line.{capture_lines, lines_of, list_options}
 use Rattle.zk_top.specs.Listing.{HasListed, HasListedAll}
-use Rattle.zk_top.specs.Parts.{DoesAll, DoesPart}
+use Rattle.zk_load.specs.Parts.{DoesAll, DoesPart}
 use Rattle.zk_top.specs.declared.listing.Listing.{Listing}
-use Rattle.zk_top.proofs.Doing.{prefix_all}
-use Rattle.zk_top.proofs.ListingLemmas.{items_end, lines_prefix}
+use Rattle.zk_load.proofs.Doing.{prefix_all}
+use Rattle.zk_top.proofs.ItemLemmas.{items_end}
+use Rattle.zk_top.proofs.ListingLemmas.{lines_prefix}
 use Rattle.zk_top.proofs.Said.{said_all_of, said_part_of, memory_after}
 use Rattle.zk_traffic.specs.Items.{items_of}
 use Rattle.zk_top.proofs.listing.Listing.end.Goals as goal
@@ -19,7 +20,7 @@ returns-in_err-end-clause-stopped g c =
     rw (p.1, p.2) (λ first link packets listed.
     let given = items_of list_options link packets false in
     memory_after first (lines_of given) c.args.self.now.piece.items (capture_lines link packets) old listed.says
-    (lines_prefix given (items_of list_options link packets true) (items_end c.items_stay.ensures link packets)))
+    (lines_prefix given (items_of list_options link packets true) (items_end c.items_stay.ensures list_options link packets)))
 
 pub returns-in_err-take_items-clause-stopped : goal.returns-in_err-take_items-clause-stopped
 returns-in_err-take_items-clause-stopped g c =
@@ -29,7 +30,7 @@ returns-in_err-take_items-clause-stopped g c =
     let given = items_of list_options link packets false in
     c.in_err-take_items.ensures.stopped first link packets given true (record {
       stands = c.in_ok-end.ensures.ended list_options link packets given listed.stands;
-      begins = items_end c.items_stay.ensures link packets;
+      begins = items_end c.items_stay.ensures list_options link packets;
       says = listed.says;
     }))
 
@@ -41,7 +42,7 @@ returns-clause-said g c =
     let given = items_of list_options link packets false in
     let all = c.in_ok-take_items.ensures.listed first link packets given true (record {
       stands = c.in_ok-end.ensures.ended list_options link packets given listed.stands;
-      begins = items_end c.items_stay.ensures link packets;
+      begins = items_end c.items_stay.ensures list_options link packets;
       says = listed.says;
     }) in
     said_all_of first (capture_lines link packets) c.take_items.new.self.piece.items mid new all.says (subst (λ text. DoesAll [] text [] mid new) c.deref.ensures.value says)) c.say.ensures.said
@@ -55,7 +56,7 @@ returns-clause-stopped g c =
     let text = capture_lines link packets in
     let all = c.in_ok-take_items.ensures.listed first link packets given true (record {
       stands = c.in_ok-end.ensures.ended list_options link packets given listed.stands;
-      begins = items_end c.items_stay.ensures link packets;
+      begins = items_end c.items_stay.ensures list_options link packets;
       says = listed.says;
     }) in
     said_part_of first text c.take_items.new.self.piece.items text mid stop new all.says (prefix_all text) (subst (λ piece. DoesPart [] piece [] mid stop new) c.deref.ensures.value part)) c.say.ensures.stopped

@@ -2,7 +2,8 @@ use Rattle.std.proofs.Common.{[], ◌∷◌, ◌++◌, List, refl, sym, subst, �
 use Rattle.std.proofs.lemmas.Result.{err_from_is_err_and}
 use Rattle.zk_top.specs.Line.{line_of, lines_of, list_options}
 use Rattle.zk_top.specs.Listing.{HasListed, HasSaid}
-use Rattle.zk_top.proofs.ListingLemmas.{prefix_next, lines_prefix, next_line}
+use Rattle.zk_top.proofs.ItemLemmas.{prefix_next}
+use Rattle.zk_top.proofs.ListingLemmas.{lines_prefix, next_line}
 use Rattle.zk_top.proofs.Said.{said_over, said_more, said_part_of, memory_after}
 use Rattle.zk_traffic.specs.Items.{items_of}
 use Rattle.zk_top.proofs.listing.Listing.take_items.Goals as goal
@@ -33,75 +34,6 @@ returns-in_err-push_item_line-clause-stopped g c =
 
 pub items-preserved : goal.items-preserved
 items-preserved g c =
-    let old = g.S.Shelf.outside c.items.shelf in
-    let new = g.S.Shelf.outside c.make_room.new.shelf in
-    let rest = c.make_room.new.piece.items in
-    let item = c.in-Some.item in
-    let longer = c.push_item_line.new.out.items in
-    record {
-      listed = λ first link packets given ended listed.
-          let (more, far) = c.items.invariant.listed first link packets given ended listed in
-          let all = items_of list_options link packets ended in
-          let handed = said_over first (lines_of more) c.items.self.piece.items old new rest far.says c.in_ok-make_room.ensures.said in (
-            more ++ item ∷ [],
-            record {
-              stands = c.in-Some.ensures.given list_options link packets more ended far.stands;
-              begins = prefix_next more all item far.begins (c.in-Some.ensures.item list_options link packets more ended far.stands);
-              says = subst (λ lines. HasSaid first lines longer new) (sym (next_line more item))
-                  (said_more first (lines_of more) rest (line_of item) longer new handed c.in_ok-push_item_line.ensures.ok);
-            },
-          );
-      input = (c.in_ok-make_room.ensures.input.0 ∙ c.items.invariant.input.0, c.in_ok-make_room.ensures.input.1 ∙ c.items.invariant.input.1);
-    }
-
-pub items-preserved-in_ok-push_item_line : goal.items-preserved-in_ok-push_item_line
-items-preserved-in_ok-push_item_line g c =
-    let old = g.S.Shelf.outside c.items.shelf in
-    let new = g.S.Shelf.outside c.make_room.new.shelf in
-    let rest = c.make_room.new.piece.items in
-    let item = c.in-Some.item in
-    let longer = c.push_item_line.new.out.items in
-    record {
-      listed = λ first link packets given ended listed.
-          let (more, far) = c.items.invariant.listed first link packets given ended listed in
-          let all = items_of list_options link packets ended in
-          let handed = said_over first (lines_of more) c.items.self.piece.items old new rest far.says c.in_ok-make_room.ensures.said in (
-            more ++ item ∷ [],
-            record {
-              stands = c.in-Some.ensures.given list_options link packets more ended far.stands;
-              begins = prefix_next more all item far.begins (c.in-Some.ensures.item list_options link packets more ended far.stands);
-              says = subst (λ lines. HasSaid first lines longer new) (sym (next_line more item))
-                  (said_more first (lines_of more) rest (line_of item) longer new handed c.in_ok-push_item_line.ensures.ok);
-            },
-          );
-      input = (c.in_ok-make_room.ensures.input.0 ∙ c.items.invariant.input.0, c.in_ok-make_room.ensures.input.1 ∙ c.items.invariant.input.1);
-    }
-
-pub items-preserved-in_ok-push_item_line-2 : goal.items-preserved-in_ok-push_item_line-2
-items-preserved-in_ok-push_item_line-2 g c =
-    let old = g.S.Shelf.outside c.items.shelf in
-    let new = g.S.Shelf.outside c.make_room.new.shelf in
-    let rest = c.make_room.new.piece.items in
-    let item = c.in-Some.item in
-    let longer = c.push_item_line.new.out.items in
-    record {
-      listed = λ first link packets given ended listed.
-          let (more, far) = c.items.invariant.listed first link packets given ended listed in
-          let all = items_of list_options link packets ended in
-          let handed = said_over first (lines_of more) c.items.self.piece.items old new rest far.says c.in_ok-make_room.ensures.said in (
-            more ++ item ∷ [],
-            record {
-              stands = c.in-Some.ensures.given list_options link packets more ended far.stands;
-              begins = prefix_next more all item far.begins (c.in-Some.ensures.item list_options link packets more ended far.stands);
-              says = subst (λ lines. HasSaid first lines longer new) (sym (next_line more item))
-                  (said_more first (lines_of more) rest (line_of item) longer new handed c.in_ok-push_item_line.ensures.ok);
-            },
-          );
-      input = (c.in_ok-make_room.ensures.input.0 ∙ c.items.invariant.input.0, c.in_ok-make_room.ensures.input.1 ∙ c.items.invariant.input.1);
-    }
-
-pub items-preserved-in_ok-push_item_line-3 : goal.items-preserved-in_ok-push_item_line-3
-items-preserved-in_ok-push_item_line-3 g c =
     let old = g.S.Shelf.outside c.items.shelf in
     let new = g.S.Shelf.outside c.make_room.new.shelf in
     let rest = c.make_room.new.piece.items in

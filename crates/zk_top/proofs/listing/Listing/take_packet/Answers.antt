@@ -4,7 +4,8 @@ use Rattle.zk_base.specs.Shelf.{Outside}
 use Rattle.zk_pcap.specs.View.{packet_of}
 use Rattle.zk_top.specs.Line.{lines_of, list_options}
 use Rattle.zk_top.specs.Listing.{HasListed}
-use Rattle.zk_top.proofs.ListingLemmas.{items_begin, lines_prefix, bounded_moment}
+use Rattle.zk_top.proofs.ItemLemmas.{items_begin, bounded_moment}
+use Rattle.zk_top.proofs.ListingLemmas.{lines_prefix}
 use Rattle.zk_top.proofs.Said.{memory_after}
 use Rattle.zk_traffic.specs.Items.{items_of}
 use Rattle.zk_top.proofs.listing.Listing.take_packet.Goals as goal
@@ -24,7 +25,7 @@ returns-in_err-packet-clause-stopped g c =
     rw (p.1, p.2) (λ first link packets listed.
     let given = items_of list_options link packets false in
     let all = items_of list_options link (packets ++ packet ∷ []) false in
-    memory_after first (lines_of given) c.args.self.now.piece.items (lines_of all) old listed.says (lines_prefix given all (items_begin c.items_stay.ensures link packets (packet ∷ []) false)))
+    memory_after first (lines_of given) c.args.self.now.piece.items (lines_of all) old listed.says (lines_prefix given all (items_begin c.items_stay.ensures list_options link packets (packet ∷ []) false)))
 
 pub returns-clause-listed : goal.returns-clause-listed
 returns-clause-listed g c =
@@ -33,7 +34,7 @@ returns-clause-listed g c =
     let given = items_of list_options link packets false in
     takes first link (packets ++ packet ∷ []) given false (record {
       stands = c.in_ok-packet.ensures.taken list_options link packets given listed.stands;
-      begins = items_begin c.items_stay.ensures link packets (packet ∷ []) false;
+      begins = items_begin c.items_stay.ensures list_options link packets (packet ∷ []) false;
       says = listed.says;
     })) c.take_items.ensures.listed
 
@@ -44,6 +45,6 @@ returns-clause-stopped g c =
     let given = items_of list_options link packets false in
     stopped first link (packets ++ packet ∷ []) given false (record {
       stands = c.in_ok-packet.ensures.taken list_options link packets given listed.stands;
-      begins = items_begin c.items_stay.ensures link packets (packet ∷ []) false;
+      begins = items_begin c.items_stay.ensures list_options link packets (packet ∷ []) false;
       says = listed.says;
     })) c.take_items.ensures.stopped

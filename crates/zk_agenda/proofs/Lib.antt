@@ -1,0 +1,11 @@
+pub mod OnwardLemmas
+pub mod Steps
+pub mod Primitives
+pub mod Meaning
+pub mod Bodies
+pub mod Worlds
+pub mod Walk
+pub mod Once
+pub mod OnceInRuns
+pub mod Ascending
+pub mod InTime

@@ -1,0 +1,4 @@
+pub mod Onward
+pub mod Bodies
+pub mod Trace
+pub mod Laws

@@ -1,0 +1,26 @@
+use Rattle.std.specs.Prelude.{Result}
+use Rattle.std.proofs.Common.{ap, sym, subst, ◌∙◌}
+use Rattle.zk_typed.specs.declared.refusal.Refusal.{Refusal}
+use Rattle.zk_typed.specs.Declarations.{nothing}
+use Rattle.zk_typed.specs.Errors as spec
+use Rattle.zk_typed.specs.Resolving.{Scripts}
+use Rattle.zk_typed.specs.Statements.{Within}
+use Rattle.zk_typed.specs.View.{stmt_of}
+use Rattle.zk_names.specs.Lent.{home_of}
+use Rattle.zk_operator.proofs.BothLaws.{Rules}
+use Rattle.zk_check.specs.Bodies.{within_of}
+use Rattle.zk_check.specs.Judging.{scripts_from}
+use Rattle.zk_check.proofs.RuleLaws.{dropped_tells, same_rules}
+use Rattle.zk_check.proofs.rules.bodies.Bodied.body_rules.Goals as goal
+
+pub returns : goal.returns
+returns c =
+    let body = c.args.body.now in
+    let home = home_of body.home in
+    let here = scripts_from c.args.self.now.source.now in
+    let within = within_of c.within.result in
+    same_rules c.dropped.result
+    (ap (λ (scripts : Scripts). nothing (spec.body_made scripts home (spec.within_of c.args.kind) body.params.now body.block.now).made) (sym c.requires.same) ∙
+    ap (λ (stands : Within). nothing (spec.body_made here home stands body.params.now body.block.now).made) (sym c.within.ensures))
+    (subst (λ (given : Result (Unit {0}) Refusal). Rules given (nothing (spec.body_made here home within body.params.now body.block.now).made)) (sym c.dropped.ensures)
+    (dropped_tells stmt_of c.body_made-judged.result.made (spec.body_made here home within body.params.now body.block.now).made c.body_made-judged.ensures.made))

@@ -1,0 +1,10 @@
+pub mod RunLemmas
+pub mod Draining
+pub mod MakingLemmas
+pub mod EngineLemmas
+pub mod StaysLemmas
+pub mod KeptLemmas
+pub mod LawLemmas
+pub mod GivenLemmas
+pub mod Rows
+pub mod TurnedLemmas

@@ -1,0 +1,6 @@
+use Rattle.zk_events.specs.Sealed.{StandsFor}
+use Rattle.zk_events.proofs.sealed.SealedMachine.dispatch.Goals as goal
+
+pub returns : goal.returns
+unfolding StandsFor
+returns c = c.dispatch.ensures.stands

@@ -1,0 +1,10 @@
+use Rattle.zk_events.specs.Sealed.{StandsFor}
+use Rattle.zk_events.proofs.sealed.SealedMachine.next_out.Goals as goal
+
+pub returns-clause-some : goal.returns-clause-some
+unfolding StandsFor
+returns-clause-some c = c.out.ensures.some
+
+pub returns-clause-none : goal.returns-clause-none
+unfolding StandsFor
+returns-clause-none c = c.out.ensures.none

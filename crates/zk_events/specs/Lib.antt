@@ -1,0 +1,16 @@
+pub mod Numbers
+pub mod Facts
+pub mod Holding
+pub mod Known
+pub mod Sealed
+pub mod Becomes
+pub mod Texts
+pub mod Raising
+pub mod Http
+pub mod Dns
+pub mod Turns
+pub mod Raises
+pub mod Flowing
+pub mod Standing
+pub mod Laws
+pub mod Run

@@ -1,4 +1,0 @@
-pub mod Lowered
-pub mod Meant
-pub mod Steps
-pub mod Standing

@@ -1,0 +1,22 @@
+pub mod Growth
+pub mod Core
+pub mod Places
+pub mod Tables
+pub mod Same
+pub mod Operators
+pub mod Objects
+pub mod Containers
+pub mod Copies
+pub mod Logs
+pub mod Primitives
+pub mod Meaning
+pub mod Bodies
+pub mod Runs
+pub mod Checks
+pub mod Formed
+pub mod Constructed
+pub mod Called
+pub mod Judged
+pub mod Stated
+mod Rows
+pub mod Composed

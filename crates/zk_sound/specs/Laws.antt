@@ -1,0 +1,97 @@
+-- The laws: what typed programs promise of their values.
+use Rattle.std.specs.Prelude.{◌≡◌, ℕ, List, Option, Some, Ok, slice_get}
+use Rattle.std.specs.List.{AllByRecursion}
+use Rattle.zk_base.specs.declared.time.Moment.{Moment}
+use Rattle.zk_tree.specs.declared.expr.Expr.{Expr as Written}
+use Rattle.zk_tree.specs.declared.place.Place.{Place}
+use Rattle.zk_tree.specs.Value.{Value}
+use Rattle.zk_tree.specs.declared.stmt.Block.{Block}
+use Rattle.zk_typed.specs.declared.script.action.Action.{Action}
+use Rattle.zk_typed.specs.declared.script.primitive.Primitive.{Primitive}
+use Rattle.zk_typed.specs.Dispatch.{dispatch, initial_body, world_after}
+use Rattle.zk_typed.specs.Expressions.{expr_typed}
+use Rattle.zk_typed.specs.Forms.{Expr, Stmt}
+use Rattle.zk_typed.specs.Meaning.{calls, value, does}
+use Rattle.zk_typed.specs.Primitives.{perform, act}
+use Rattle.zk_typed.specs.Program.{Program, Global}
+use Rattle.zk_typed.specs.Running.{Item, expire_of, world_in, run}
+use Rattle.zk_typed.specs.State.{World}
+use Rattle.zk_typed.specs.Statements.{Context, Locals, body_typed}
+use Rattle.zk_typed.specs.Types.{ValueType}
+use Rattle.zk_typed.specs.Typing.{Env, Typed, Wanted}
+use Rattle.zk_typed.specs.World.{Queued}
+use Rattle.zk_sound.specs.Holding.{Kinds, HaveTypes}
+use Rattle.zk_sound.specs.Worlds.{Names, QueuedFits, WorldFits}
+use Rattle.zk_sound.specs.Having.{Takes, ReadsNoName, ActionTakes, ActsOnNoName, HasForm, StmtFits, ProgramFits}
+use Rattle.zk_sound.specs.Agreeing.{EnvAgrees, IsClear, LogsFit, StmtLogsFit, LocalsAgree, StandsIn}
+use Rattle.zk_sound.specs.Keeping.{Keeps, Stopped, Any, Of, FlowOf, strictly, loose}
+
+-- Operations -------------------------------------------------------------------------------------------------------
+
+-- A primitive meets no value of another type: with operands of the types that it takes it gives a value of its type, or is at
+-- fault for what their values are.
+abbrev pub PrimitivesTakeTypes : Type 0
+PrimitivesTakeTypes = (program : Program) (names : Names) (kinds : Kinds) (place : Place) (one : Primitive) (types : List ValueType) (args : List Value) (of : ValueType) → ReadsNoName one →
+    Takes program names one types of → HaveTypes kinds types args → Keeps (strictly program names) (Of of) kinds (perform place one args)
+
+-- nor does an action
+abbrev pub ActionsTakeTypes : Type 0
+ActionsTakeTypes = (program : Program) (names : Names) (kinds : Kinds) (place : Place) (one : Action) (types : List ValueType) (args : List Value) → ActsOnNoName one →
+    ActionTakes program names one types → HaveTypes kinds types args → Keeps (strictly program names) Any kinds (act place one args)
+
+-- Forms ------------------------------------------------------------------------------------------------------------
+
+-- the value of a form that has a type is of that type, however deep calls may stand within it
+abbrev pub ExpressionsKeepTypes : Type 0
+ExpressionsKeepTypes = (program : Program) (names : Names) (kinds : Kinds) (depth : ℕ) (place : Place) (one : Expr) (of : ValueType) → ProgramFits program →
+    HasForm program names one of → Keeps (loose program names) (Of of) kinds (value program (calls program depth) place one)
+
+abbrev pub StatementsKeepTypes : Type 0
+StatementsKeepTypes = (program : Program) (names : Names) (kinds : Kinds) (depth : ℕ) (gives : Option ValueType) (one : Stmt) → ProgramFits program →
+    StmtFits program names gives one → Keeps (loose program names) (FlowOf gives) kinds (does program (calls program depth) one)
+
+-- Expressions as they are written ---------------------------------------------------------------------------------------
+
+-- the typed form that the rules give an expression has the type that they give it
+abbrev pub RulesGiveForms : Type 0
+RulesGiveForms = (program : Program) (names : Names) (env : Env) (wanted : Wanted) (written : Written) (made : Typed) → EnvAgrees program names env → IsClear wanted →
+    expr_typed env wanted written ≡ Ok made → LogsFit program made.expr → HasForm program names made.expr made.type
+
+-- So has that of a body, where the names are of their types that are visible at its end.
+abbrev pub RulesGiveStatements : Type 0
+RulesGiveStatements = (program : Program) (names : Names) (gives : Option ValueType) (context : Context) (locals : Locals) (block : Block) (made : Stmt) → StandsIn program gives context →
+    LocalsAgree names (body_typed context locals block).locals → (body_typed context locals block).made ≡ Ok made → StmtLogsFit program made → StmtFits program names gives made
+
+-- The value of an expression has that type, from each world and names that are of their types on.
+abbrev pub ValuesHaveTypes : Type 0
+ValuesHaveTypes = (program : Program) (names : Names) (env : Env) (wanted : Wanted) (written : Written) (made : Typed) (kinds : Kinds) (depth : ℕ) (place : Place) → ProgramFits program →
+    EnvAgrees program names env → IsClear wanted → expr_typed env wanted written ≡ Ok made → LogsFit program made.expr →
+    Keeps (loose program names) (Of made.type) kinds (value program (calls program depth) place made.expr)
+
+-- Bodies -----------------------------------------------------------------------------------------------------------
+
+-- the handlers of an event leave a world of its types
+abbrev pub HandlersKeepTypes : Type 0
+HandlersKeepTypes = (program : Program) (kinds : Kinds) (budget : ℕ) (world : World) (what : Queued) → ProgramFits program →
+    WorldFits program kinds world → QueuedFits program kinds what → Stopped program kinds (dispatch program budget world what)
+
+-- so does the initial value of a global or a constant
+abbrev pub InitialsKeepTypes : Type 0
+InitialsKeepTypes = (program : Program) (kinds : Kinds) (budget number : ℕ) (world : World) (one : Global) → ProgramFits program → slice_get program.globals number ≡ Some one →
+    WorldFits program kinds world → Stopped program kinds (world_after program (initial_body program number one world budget))
+
+-- and the end of an entry of a global, by its expiry function
+abbrev pub ExpiriesKeepTypes : Type 0
+ExpiriesKeepTypes = (program : Program) (kinds : Kinds) (budget number order : ℕ) (world : World) → ProgramFits program →
+    WorldFits program kinds world → Stopped program kinds (expire_of program budget number order world (slice_get program.globals number))
+
+-- Runs -------------------------------------------------------------------------------------------------------------
+
+-- what an item of a capture raises is of its types
+abbrev pub RaisesFit : Program → Item → Type 0
+RaisesFit program item = (kinds : Kinds) (world : World) → WorldFits program kinds world → Stopped program kinds (item.raises world)
+
+-- the world to which a run comes is of its types, whatever the items raise that is of its types
+abbrev pub RunsKeepTypes : Type 0
+RunsKeepTypes = (program : Program) (budget : ℕ) (items : List Item) (last : Moment) → ProgramFits program →
+    AllByRecursion (RaisesFit program) items → (kinds : Kinds) × WorldFits program kinds (world_in (run program budget items last))

@@ -1,0 +1,35 @@
+// What typed programs promise of their values.
+ghost use Rattle.zk_sound.specs.Laws.{PrimitivesTakeTypes, ActionsTakeTypes, ExpressionsKeepTypes, StatementsKeepTypes, HandlersKeepTypes, InitialsKeepTypes, ExpiriesKeepTypes, RunsKeepTypes, RulesGiveForms, RulesGiveStatements, ValuesHaveTypes};
+
+/// No operation meets a value of another type: with operands of the types that it takes, in a world that is of
+/// its types, a primitive gives a value of its own type, and a primitive or an action is at fault for nothing
+/// but what its operands' values are. There is nothing to run.
+pub fn operations_take_types()
+    ensures primitives { PrimitivesTakeTypes }
+    ensures actions { ActionsTakeTypes }
+{}
+
+/// Forms that have types give values of these types, and keep the types of the world and of the names, however
+/// they end. There is nothing to run.
+pub fn forms_keep_types()
+    ensures expressions { ExpressionsKeepTypes }
+    ensures statements { StatementsKeepTypes }
+{}
+
+/// What a run does body by body keeps the types of the world, whatever the budget, and so does the whole run.
+/// There is nothing to run.
+pub fn bodies_keep_types()
+    ensures handlers { HandlersKeepTypes }
+    ensures initials { InitialsKeepTypes }
+    ensures expiries { ExpiriesKeepTypes }
+    ensures runs { RunsKeepTypes }
+{}
+
+/// The value of an expression has the type that the rules give the expression, where the program says what its
+/// scripts say, and what the expression says of logs fits them. There is nothing to run.
+pub fn values_have_types()
+    // The rules make forms that have types.
+    ensures forms { RulesGiveForms }
+    ensures bodies { RulesGiveStatements }
+    ensures values { ValuesHaveTypes }
+{}

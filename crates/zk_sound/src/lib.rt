@@ -1,0 +1,6 @@
+//! Values have the types that their expressions were given: no typed program comes to a value of another type.
+#![tactic(auto)]
+
+mod laws;
+
+pub use laws::{bodies_keep_types, forms_keep_types, operations_take_types, values_have_types};

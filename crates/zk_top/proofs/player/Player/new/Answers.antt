@@ -1,0 +1,10 @@
+use Rattle.std.proofs.Common.{refl}
+use Rattle.zk_machine.specs.Standing.{nothing}
+use Rattle.zk_top.proofs.player.Player.new.Goals as goal
+
+pub returns-clause-plays : goal.returns-clause-plays
+returns-clause-plays c first program is = record {
+  told = nothing;
+  gives = record { engine = c.in_ok-new.ensures program is; given = c.in_ok-new-2.ensures.given first };
+  all = refl;
+}

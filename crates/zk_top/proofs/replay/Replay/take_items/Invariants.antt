@@ -1,0 +1,23 @@
+use Rattle.std.proofs.Common.{Bool, List}
+use Rattle.zk_base.specs.Shelf.{Outside}
+use Rattle.zk_events.specs.Run.{Begun}
+use Rattle.zk_pcap.specs.declared.records.Packet.{Packet}
+use Rattle.zk_traffic.specs.declared.item.Item.{Item}
+use Rattle.zk_traffic.specs.Standing.{waiting}
+use Rattle.zk_top.specs.Reading.{SameInput}
+use Rattle.zk_top.specs.Replay.{Comes, Plan}
+use Rattle.zk_top.specs.Writing.{IsReady}
+use Rattle.zk_top.proofs.replay.Replay.take_items.Given as goal
+
+-- the items so far were played
+abbrev pub invariant-items : goal.invariant-items
+invariant-items g l = record {
+  comes : (first : Outside) (plan : Plan) (packets : List Packet) (given : List Item) (ended : Bool) → Comes first plan packets given ended (Begun given) l.initial.self (g.S.Shelf.outside l.initial.shelf)
+      → (more : List Item) × Comes first plan packets more ended (Begun more) l.self (g.S.Shelf.outside l.shelf);
+  ready : IsReady l.self.player.writer (g.S.Shelf.outside l.shelf);
+  input : SameInput (g.S.Shelf.outside l.initial.shelf) (g.S.Shelf.outside l.shelf);
+}
+
+-- each turn takes one that waits
+abbrev pub decreases-items : goal.decreases-items
+decreases-items g l = waiting l.self.traffic

@@ -1,0 +1,378 @@
+//! Heads, bodies and whole exchanges of HTTP, as the readers of a connection tell them.
+ghost use Rattle.std.specs.Prelude.{◌<◌};
+
+mod exchanges;
+
+use exchanges::{EXCHANGES, Exchange, PIECE};
+use std::alloc::Global;
+use std::collections::VecDeque;
+use std::test::Fail;
+use zk_base::Side;
+use zk_http::{Head, Start, Unit, UnitKind};
+use zk_units::{Freed, Protocol, Readers, StreamUnit};
+
+/// A request that is answered by what a test is about.
+const GET: &[u8] = b"GET / HTTP/1.1\r\n\r\n";
+
+/// The readers of a connection, and the units that they told of its requests and of its responses, a line
+/// each.
+#[derive(Debug, Drop)]
+struct Told {
+    readers: Readers,
+    units: VecDeque<Freed>,
+    asked: String,
+    answered: String,
+}
+
+/// Adds what a unit is, as a line.
+fn say(text: &mut String, unit: &Unit) -> Result<(), Fail> {
+    let place = unit.place;
+    match &unit.what {
+        UnitKind::Head(_) => write!(text, "head {place}\n")?,
+        UnitKind::Done { body, head, gap } => {
+            write!(text, "done {place} {body} {head} {gap}\n")?
+        }
+        UnitKind::Tunnel => write!(text, "tunnel {place}\n")?,
+        UnitKind::Violation(reason) => {
+            let number = *reason as u8;
+            write!(text, "violation {place} {number}\n")?
+        }
+    }
+    Ok(())
+}
+
+impl Told {
+    fn new(alloc: Global) -> Told {
+        Told {
+            readers: Readers::new(alloc, Some(Protocol::Http)),
+            units: VecDeque::new(alloc),
+            asked: String::new(alloc),
+            answered: String::new(alloc),
+        }
+    }
+
+    /// Reads what has come, and says the units that it frees.
+    fn read(&mut self, side: Side) -> Result<(), Fail> {
+        self.readers.read(side, &mut self.units)?;
+        for _ in 0..self.units.len() {
+            let Some(freed) = self.units.pop_front() else {
+                return Ok(());
+            };
+            let text = match freed.side {
+                Side::Orig => &mut self.asked,
+                Side::Resp => &mut self.answered,
+            };
+            if let StreamUnit::Http(unit) = &freed.unit {
+                say(text, unit)?;
+            }
+        }
+        Ok(())
+    }
+
+    /// Bytes of a side come.
+    fn give(&mut self, side: Side, bytes: &[u8]) -> Result<(), Fail> {
+        self.readers.add_bytes(side, bytes)?;
+        self.read(side)
+    }
+
+    /// A gap comes behind the bytes of a side, and it may end.
+    fn finish(&mut self, side: Side, gap: u64, ends: bool) -> Result<(), Fail> {
+        self.readers.add_gap(side, gap)?;
+        self.read(side)?;
+        if ends {
+            self.readers.end(side);
+        }
+        self.read(side)
+    }
+}
+
+/// The head that a text is, or where it is a response the head of the answer to `GET`.
+fn head_of(alloc: Global, side: Side, text: &[u8]) -> Result<Head, Fail> {
+    let mut told = Told::new(alloc);
+    if side == Side::Resp {
+        told.give(Side::Orig, GET)?;
+    }
+    told.readers.add_bytes(side, text)?;
+    told.readers.read(side, &mut told.units)?;
+    let freed = told.units.pop_front().ok_or("no unit")?;
+    match freed.unit {
+        StreamUnit::Http(unit) => match unit.what {
+            UnitKind::Head(head) => Ok(head),
+            _ => Err("no head")?,
+        },
+        _ => Err("no unit of HTTP")?,
+    }
+}
+
+#[test]
+fn heads_have_their_parts(rt: HostRuntime) -> Result<(), Fail> {
+    let request = head_of(
+        rt.alloc(),
+        Side::Orig,
+        b"\r\nGET /a?b HTTP/1.0\nHost: \t a.test \r\nX:\r\n\n",
+    )?;
+    match &request.start {
+        Start::Request {
+            method,
+            target,
+            minor,
+        } => {
+            assert_eq!(rt; method.as_slice(), b"GET".as_slice());
+            assert_eq!(rt; target.as_slice(), b"/a?b".as_slice());
+            assert_eq!(rt; *minor, 0);
+        }
+        Start::Response { .. } => Err("a response")?,
+    }
+    let headers = request.headers.as_slice();
+    assert_eq!(rt; headers.len(), 2);
+    assert_eq!(rt; headers[0].0.as_slice(), b"Host".as_slice());
+    assert_eq!(rt; headers[0].1.as_slice(), b"a.test".as_slice());
+    assert_eq!(rt; headers[1].1.as_slice(), b"".as_slice());
+
+    let response = head_of(rt.alloc(), Side::Resp, b"HTTP/1.1 404 N\xc3\xa4 o \r\n\r\n")?;
+    match &response.start {
+        Start::Response {
+            minor,
+            code,
+            reason,
+        } => {
+            assert_eq!(rt; *minor, 1);
+            assert_eq!(rt; *code, 404);
+            assert_eq!(rt; reason.as_slice(), b"N\xc3\xa4 o ".as_slice());
+        }
+        Start::Request { .. } => Err("a request")?,
+    }
+    Ok(())
+}
+
+/// Requests, the gap behind each, and their units. The stream then ends.
+const REQUESTS: [(&[u8], u64, &str); 10] = [
+    // no head
+    (b"GET  / HTTP/1.1\r\n\r\n", 0, "violation 19 2\n"),
+    (b"GET / HTTP/2.0\r\n\r\n", 0, "violation 18 2\n"),
+    (b"GET / HTTP/1.1\r\nA b: c\r\n\r\n", 0, "violation 26 2\n"),
+    (b"HTTP/1.1 200 OK\r\n\r\n", 0, "violation 19 2\n"),
+    // no body
+    (GET, 0, "head 18\ndone 18 0 14 0\n"),
+    (
+        b"POST / HTTP/1.1\r\nContent-Length: 7\r\n\r\n",
+        7,
+        "head 38\ndone 45 7 32 7\n",
+    ),
+    // no number
+    (
+        b"POST / HTTP/1.1\r\nContent-Length:\r\n\r\n",
+        0,
+        "head 36\nviolation 36 4\n",
+    ),
+    // a size of 31 with an extension, and one of 0 with blanks
+    (
+        b"POST / HTTP/1.1\r\nTransfer-Encoding: chunked\r\n\r\n1f;a=b\r\naaaaaaaaaaaaaaaaaaaaaaaaaaaaaaa\r\n0 \t\r\n\r\n",
+        0,
+        "head 47\ndone 95 31 41 0\n",
+    ),
+    // no sizes
+    (
+        b"POST / HTTP/1.1\r\nTransfer-Encoding: chunked\r\n\r\n1f\n",
+        0,
+        "head 47\nviolation 50 6\n",
+    ),
+    (
+        b"POST / HTTP/1.1\r\nTransfer-Encoding: chunked\r\n\r\nx\r\n",
+        0,
+        "head 47\nviolation 50 6\n",
+    ),
+];
+
+#[test]
+fn a_request_tells_its_body(rt: HostRuntime) -> Result<(), Fail> {
+    for (text, gap, units) in &REQUESTS {
+        let mut told = Told::new(rt.alloc());
+        told.give(Side::Orig, text)?;
+        told.finish(Side::Orig, *gap, true)?;
+        assert_eq!(rt; told.asked.as_str(), *units, "at {text:?}");
+    }
+    Ok(())
+}
+
+/// Requests, the response to each and the gap behind it, and the units of the response (RFC 9112, section
+/// 6.3). The stream of responses then ends.
+const RESPONSES: [(&[u8], &[u8], u64, &str); 16] = [
+    // no head
+    (GET, b"HTTP/1.1 20 OK\r\n\r\n", 0, "violation 18 2\n"),
+    (GET, b"GET / HTTP/1.1\r\n\r\n", 0, "violation 18 2\n"),
+    // up to the end
+    (
+        GET,
+        b"HTTP/1.1 200 OK\r\n\r\nabc",
+        0,
+        "head 19\ndone 22 3 15 0\n",
+    ),
+    // tunnels
+    (GET, b"HTTP/1.1 101 S\r\n\r\nabc", 0, "head 18\ntunnel 18\n"),
+    (
+        b"CONNECT a:1 HTTP/1.1\r\n\r\n",
+        b"HTTP/1.1 204 N\r\n\r\nabc",
+        0,
+        "head 18\ntunnel 18\n",
+    ),
+    (
+        b"CONNECT a:1 HTTP/1.1\r\n\r\n",
+        b"HTTP/1.1 300 N\r\nContent-Length: 1\r\n\r\na",
+        0,
+        "head 37\ndone 38 1 31 0\n",
+    ),
+    // no body, whatever a field says
+    (
+        GET,
+        b"HTTP/1.1 100 C\r\nContent-Length: 1\r\n\r\n",
+        0,
+        "head 37\ndone 37 0 31 0\n",
+    ),
+    (
+        GET,
+        b"HTTP/1.1 204 N\r\nContent-Length: 1\r\n\r\n",
+        0,
+        "head 37\ndone 37 0 31 0\n",
+    ),
+    (
+        GET,
+        b"HTTP/1.1 304 N\r\nContent-Length: 1\r\n\r\n",
+        0,
+        "head 37\ndone 37 0 31 0\n",
+    ),
+    (
+        b"HEAD / HTTP/1.1\r\n\r\n",
+        b"HTTP/1.1 200 OK\r\nContent-Length: 500\r\n\r\n",
+        0,
+        "head 40\ndone 40 0 34 0\n",
+    ),
+    // chunks where they are the last coding, and all up to the end where they aren't
+    (
+        GET,
+        b"HTTP/1.1 200 OK\r\nTransfer-Encoding: gzip, CHUNKED ,\r\nContent-Length: 9\r\n\r\n0\r\n\r\n",
+        0,
+        "head 74\ndone 79 0 66 0\n",
+    ),
+    (
+        GET,
+        b"HTTP/1.1 200 OK\r\ntransfer-encoding: chunked, gzip\r\n\r\n0\r\n\r\n",
+        0,
+        "head 53\ndone 58 5 47 0\n",
+    ),
+    // one number, said three times
+    (
+        GET,
+        b"HTTP/1.1 200 OK\r\nContent-Length: 42 ,042\r\ncontent-length: 42\r\n\r\n",
+        42,
+        "head 64\ndone 106 42 56 42\n",
+    ),
+    // two numbers
+    (
+        GET,
+        b"HTTP/1.1 200 OK\r\nContent-Length: 42\r\nContent-Length: 43\r\n\r\n",
+        42,
+        "head 59\nviolation 59 4\n",
+    ),
+    // 18 digits, of a body that isn't there, and 19
+    (
+        GET,
+        b"HTTP/1.1 200 OK\r\nContent-Length: 999999999999999999\r\n\r\n",
+        0,
+        "head 55\n",
+    ),
+    (
+        GET,
+        b"HTTP/1.1 200 OK\r\nContent-Length: 1000000000000000000\r\n\r\n",
+        0,
+        "head 56\nviolation 56 4\n",
+    ),
+];
+
+#[test]
+fn a_response_tells_its_body(rt: HostRuntime) -> Result<(), Fail> {
+    for (request, response, gap, units) in &RESPONSES {
+        let mut told = Told::new(rt.alloc());
+        told.give(Side::Orig, request)?;
+        told.give(Side::Resp, response)?;
+        told.finish(Side::Resp, *gap, true)?;
+        assert_eq!(rt; told.answered.as_str(), *units, "at {response:?}");
+    }
+    Ok(())
+}
+
+/// What is told of an exchange whose sides come so many bytes at a time.
+fn told_of(alloc: Global, exchange: &Exchange, cut: usize) -> Result<Told, Fail>
+    requires { 0 < cut }
+{
+    let mut told = Told::new(alloc);
+    let mut requests = exchange.requests.bytes.chunks(cut);
+    let mut responses = exchange.responses.bytes.chunks(cut);
+    for _ in 0..10_000 {
+        let request = requests.next();
+        let response = responses.next();
+        if request.is_none() && response.is_none() {
+            break;
+        }
+        told.give(Side::Resp, response.unwrap_or(b""))?;
+        told.give(Side::Orig, request.unwrap_or(b""))?;
+    }
+    let Exchange {
+        requests,
+        responses,
+        ..
+    } = exchange;
+    told.finish(Side::Orig, requests.gap, requests.ends)?;
+    told.finish(Side::Resp, responses.gap, responses.ends)?;
+    Ok(told)
+}
+
+#[test]
+fn units_are_the_same_however_streams_are_cut(rt: HostRuntime) -> Result<(), Fail> {
+    for exchange in &EXCHANGES {
+        for cut in [1, 7, 100_000] {
+            assert!(rt; 0 < cut);
+            let told = told_of(rt.alloc(), exchange, cut)?;
+            assert_eq!(rt; told.asked.as_str(), exchange.asked);
+            assert_eq!(rt; told.answered.as_str(), exchange.answered);
+        }
+    }
+    Ok(())
+}
+
+#[test]
+fn so_much_may_wait_and_no_more(rt: HostRuntime) -> Result<(), Fail> {
+    let bytes = vec![in rt.alloc(); b'a'; 65_536]?;
+    let mut told = Told::new(rt.alloc());
+    told.give(Side::Orig, &bytes[..65_535])?;
+    assert_eq!(rt; told.asked.as_str(), "");
+    told.give(Side::Orig, b"a")?;
+    assert_eq!(rt; told.asked.as_str(), "violation 65536 1\n");
+    let mut told = Told::new(rt.alloc());
+    told.give(Side::Resp, &bytes)?;
+    assert_eq!(rt; told.answered.as_str(), "");
+    told.give(Side::Resp, b"a")?;
+    assert_eq!(rt; told.answered.as_str(), "violation 65537 7\n");
+    Ok(())
+}
+
+#[test]
+fn many_small_chunks_are_read_once(rt: HostRuntime) -> Result<(), Fail> {
+    let mut told = Told::new(rt.alloc());
+    told.give(Side::Orig, GET)?;
+    told.give(
+        Side::Resp,
+        b"HTTP/1.1 200 OK\r\nTransfer-Encoding: chunked\r\n\r\n",
+    )?;
+    for _ in 0..4_000 {
+        told.give(Side::Resp, PIECE)?;
+        assert_eq!(rt; told.readers.held(Side::Resp), 0);
+    }
+    told.give(Side::Resp, b"0\r\n\r\n")?;
+    assert_eq!(rt; told.asked.as_str(), "head 18\ndone 18 0 14 0\n");
+    assert_eq!(rt;
+        told.answered.as_str(),
+        "head 47\ndone 2400052 400000 41 0\n"
+    );
+    Ok(())
+}

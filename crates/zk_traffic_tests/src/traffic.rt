@@ -1,0 +1,284 @@
+ghost use Rattle.std.specs.Prelude.{◌≤ℤ◌, ◌^◌, pos};
+
+use std::alloc::Global;
+use std::process::Abort;
+use std::test::Fail;
+use zk_base::{LINKTYPE_ETHERNET, Mem, Moment, Side};
+use zk_conn::ConnState;
+use zk_http::{Reason, Unit, UnitKind};
+use zk_pcap::PacketView;
+use zk_traffic::{Options, Traffic, What};
+
+/// What an item shows, its connection and its facts aside.
+#[derive(Clone, Copy, Debug, PartialEq, Eq)]
+enum Shown {
+    Seen(Moment, u32, u32),
+    Opened,
+    Established,
+    Gap(Side, u64, u64),
+    Head(Side, u64),
+    Done(Side, u64, u64),
+    Tunnel(Side, u64),
+    Violation(Side, u64, Reason),
+    Dns(Side, u16, u32),
+    DnsBad(Side, u8, u32),
+    Ended(Side),
+    GaveUp(Side),
+    Reset,
+    Removed(ConnState),
+}
+
+use Shown::{Done, Ended, Established, Gap, GaveUp, Head, Opened, Removed, Reset, Seen};
+
+fn show_unit(side: Side, unit: &Unit) -> Shown {
+    let place = unit.place;
+    match &unit.what {
+        UnitKind::Head(_) => Head(side, place),
+        UnitKind::Done { body, .. } => Done(side, place, *body),
+        UnitKind::Tunnel => Shown::Tunnel(side, place),
+        UnitKind::Violation(reason) => Shown::Violation(side, place, *reason),
+    }
+}
+
+/// The number of an item's connection, and what it shows.
+fn show(what: &What) -> (u64, Shown) {
+    match what {
+        What::Seen { own, caplen, len } => (0, Seen(*own, *caplen, *len)),
+        What::Opened { conn, .. } => (conn.0, Opened),
+        What::Established { conn, .. } => (conn.0, Established),
+        What::Gap {
+            conn,
+            side,
+            from,
+            length,
+            ..
+        } => (conn.0, Gap(*side, *from, *length)),
+        What::Http {
+            conn,
+            side,
+            unit,
+            ..
+        } => (conn.0, show_unit(*side, unit)),
+        What::Dns {
+            conn,
+            side,
+            len,
+            message,
+            ..
+        } => (conn.0, Shown::Dns(*side, message.id, *len)),
+        What::DnsBad {
+            conn,
+            side,
+            fault,
+            len,
+            ..
+        } => (conn.0, Shown::DnsBad(*side, *fault, *len)),
+        What::Ended { conn, side, .. } => (conn.0, Ended(*side)),
+        What::GaveUp { conn, side, .. } => (conn.0, GaveUp(*side)),
+        What::Reset { conn, .. } => (conn.0, Reset),
+        What::Removed { conn, facts } => (conn.0, Removed(facts.state)),
+    }
+}
+
+/// The frames of two HTTP exchanges of 10.0.0.1 with 10.0.0.80:80, each from SYN to the last ACK: a GET
+/// from port 40001, and a HEAD from port 40002.
+const FRAMES: [&[u8]; 14] = [
+    b"\x00\x00\x00\x00\x00\x00\x00\x00\x00\x00\x00\x00\x08\x00\x45\x00\x00\x28\x00\x00\x00\x00\x00\x06\xa6\x80\x0a\x00\x00\x01\x0a\x00\x00\x50\x9c\x41\x00\x50\x00\x00\x00\x64\x00\x00\x00\x00\x50\x02\x00\x00\xfe\x9c\x00\x00",
+    b"\x00\x00\x00\x00\x00\x00\x00\x00\x00\x00\x00\x00\x08\x00\x45\x00\x00\x28\x00\x00\x00\x00\x00\x06\xa6\x80\x0a\x00\x00\x50\x0a\x00\x00\x01\x00\x50\x9c\x41\x00\x00\x01\xf4\x00\x00\x00\x65\x50\x12\x00\x00\xfc\x97\x00\x00",
+    b"\x00\x00\x00\x00\x00\x00\x00\x00\x00\x00\x00\x00\x08\x00\x45\x00\x00\x48\x00\x00\x00\x00\x00\x06\xa6\x60\x0a\x00\x00\x01\x0a\x00\x00\x50\x9c\x41\x00\x50\x00\x00\x00\x65\x00\x00\x01\xf5\x50\x10\x00\x00\xd1\xc1\x00\x00\x47\x45\x54\x20\x2f\x20\x48\x54\x54\x50\x2f\x31\x2e\x31\x0d\x0a\x48\x6f\x73\x74\x3a\x20\x61\x2e\x74\x65\x73\x74\x0d\x0a\x0d\x0a",
+    b"\x00\x00\x00\x00\x00\x00\x00\x00\x00\x00\x00\x00\x08\x00\x45\x00\x00\x50\x00\x00\x00\x00\x00\x06\xa6\x58\x0a\x00\x00\x50\x0a\x00\x00\x01\x00\x50\x9c\x41\x00\x00\x01\xf5\x00\x00\x00\x85\x50\x10\x00\x00\xe4\xe6\x00\x00\x48\x54\x54\x50\x2f\x31\x2e\x31\x20\x32\x30\x30\x20\x4f\x4b\x0d\x0a\x43\x6f\x6e\x74\x65\x6e\x74\x2d\x4c\x65\x6e\x67\x74\x68\x3a\x20\x32\x0d\x0a\x0d\x0a\x68\x69",
+    b"\x00\x00\x00\x00\x00\x00\x00\x00\x00\x00\x00\x00\x08\x00\x45\x00\x00\x28\x00\x00\x00\x00\x00\x06\xa6\x80\x0a\x00\x00\x01\x0a\x00\x00\x50\x9c\x41\x00\x50\x00\x00\x00\x85\x00\x00\x02\x1d\x50\x11\x00\x00\xfc\x4f\x00\x00",
+    b"\x00\x00\x00\x00\x00\x00\x00\x00\x00\x00\x00\x00\x08\x00\x45\x00\x00\x28\x00\x00\x00\x00\x00\x06\xa6\x80\x0a\x00\x00\x50\x0a\x00\x00\x01\x00\x50\x9c\x41\x00\x00\x02\x1d\x00\x00\x00\x86\x50\x11\x00\x00\xfc\x4e\x00\x00",
+    b"\x00\x00\x00\x00\x00\x00\x00\x00\x00\x00\x00\x00\x08\x00\x45\x00\x00\x28\x00\x00\x00\x00\x00\x06\xa6\x80\x0a\x00\x00\x01\x0a\x00\x00\x50\x9c\x41\x00\x50\x00\x00\x00\x86\x00\x00\x02\x1e\x50\x10\x00\x00\xfc\x4e\x00\x00",
+    b"\x00\x00\x00\x00\x00\x00\x00\x00\x00\x00\x00\x00\x08\x00\x45\x00\x00\x28\x00\x00\x00\x00\x00\x06\xa6\x80\x0a\x00\x00\x01\x0a\x00\x00\x50\x9c\x42\x00\x50\x00\x00\x00\x64\x00\x00\x00\x00\x50\x02\x00\x00\xfe\x9b\x00\x00",
+    b"\x00\x00\x00\x00\x00\x00\x00\x00\x00\x00\x00\x00\x08\x00\x45\x00\x00\x28\x00\x00\x00\x00\x00\x06\xa6\x80\x0a\x00\x00\x50\x0a\x00\x00\x01\x00\x50\x9c\x42\x00\x00\x01\xf4\x00\x00\x00\x65\x50\x12\x00\x00\xfc\x96\x00\x00",
+    b"\x00\x00\x00\x00\x00\x00\x00\x00\x00\x00\x00\x00\x08\x00\x45\x00\x00\x49\x00\x00\x00\x00\x00\x06\xa6\x5f\x0a\x00\x00\x01\x0a\x00\x00\x50\x9c\x42\x00\x50\x00\x00\x00\x65\x00\x00\x01\xf5\x50\x10\x00\x00\x01\x5e\x00\x00\x48\x45\x41\x44\x20\x2f\x20\x48\x54\x54\x50\x2f\x31\x2e\x31\x0d\x0a\x48\x6f\x73\x74\x3a\x20\x61\x2e\x74\x65\x73\x74\x0d\x0a\x0d\x0a",
+    b"\x00\x00\x00\x00\x00\x00\x00\x00\x00\x00\x00\x00\x08\x00\x45\x00\x00\x4e\x00\x00\x00\x00\x00\x06\xa6\x5a\x0a\x00\x00\x50\x0a\x00\x00\x01\x00\x50\x9c\x42\x00\x00\x01\xf5\x00\x00\x00\x86\x50\x10\x00\x00\x4d\x50\x00\x00\x48\x54\x54\x50\x2f\x31\x2e\x31\x20\x32\x30\x30\x20\x4f\x4b\x0d\x0a\x43\x6f\x6e\x74\x65\x6e\x74\x2d\x4c\x65\x6e\x67\x74\x68\x3a\x20\x32\x0d\x0a\x0d\x0a",
+    b"\x00\x00\x00\x00\x00\x00\x00\x00\x00\x00\x00\x00\x08\x00\x45\x00\x00\x28\x00\x00\x00\x00\x00\x06\xa6\x80\x0a\x00\x00\x01\x0a\x00\x00\x50\x9c\x42\x00\x50\x00\x00\x00\x86\x00\x00\x02\x1b\x50\x11\x00\x00\xfc\x4f\x00\x00",
+    b"\x00\x00\x00\x00\x00\x00\x00\x00\x00\x00\x00\x00\x08\x00\x45\x00\x00\x28\x00\x00\x00\x00\x00\x06\xa6\x80\x0a\x00\x00\x50\x0a\x00\x00\x01\x00\x50\x9c\x42\x00\x00\x02\x1b\x00\x00\x00\x87\x50\x11\x00\x00\xfc\x4e\x00\x00",
+    b"\x00\x00\x00\x00\x00\x00\x00\x00\x00\x00\x00\x00\x08\x00\x45\x00\x00\x28\x00\x00\x00\x00\x00\x06\xa6\x80\x0a\x00\x00\x01\x0a\x00\x00\x50\x9c\x42\x00\x50\x00\x00\x00\x87\x00\x00\x02\x1c\x50\x10\x00\x00\xfc\x4e\x00\x00",
+];
+
+/// So many hundredths of a second after the first packet.
+fn at(hundredths: u8) -> Moment
+    ensures early { pos 0 ≤ℤ result.0 }
+    ensures late { result.0 ≤ℤ pos (2 ^ 62) }
+{
+    Moment(10_000 * i64::from(hundredths))
+}
+
+/// Notes the items that are there.
+fn note(traffic: &mut Traffic, items: &mut Vec<(Moment, u64, Shown)>) -> Result<(), Mem> {
+    for _ in 0..100 {
+        match traffic.next() {
+            Some(item) => {
+                let (number, shown) = show(&item.what);
+                items.push((item.moment, number, shown))?;
+            }
+            None => return Ok(()),
+        }
+    }
+    Ok(())
+}
+
+/// Gives one of the frames, at its place in its exchange, and notes its items.
+fn give(
+    rt: &impl Abort,
+    traffic: &mut Traffic,
+    index: u8,
+    items: &mut Vec<(Moment, u64, Shown)>,
+) -> Result<(), Mem> {
+    assert!(rt; index < 14);
+    let frame = FRAMES[usize::from(index)];
+    assert!(rt; frame.len() <= 100);
+    traffic.packet(PacketView {
+        moment: at(index % 7),
+        orig_len: frame.len() as u32,
+        bytes: frame,
+        place: 0,
+    })?;
+    note(traffic, items)
+}
+
+/// The items of these frames, packets aside.
+fn items_of(
+    rt: &impl Abort,
+    alloc: Global,
+    frames: &[u8],
+) -> Result<Vec<(Moment, u64, Shown)>, Mem> {
+    let options = Options {
+        check: true,
+        buffer: 1 << 20,
+        packets: false,
+    };
+    let mut traffic = Traffic::new(alloc, options, LINKTYPE_ETHERNET)?;
+    let mut items = Vec::new(alloc);
+    for index in frames {
+        give(rt, &mut traffic, *index, &mut items)?;
+    }
+    traffic.end()?;
+    note(&mut traffic, &mut items)?;
+    Ok(items)
+}
+
+/// The items of one connection, its number aside.
+fn own(
+    alloc: Global,
+    number: u64,
+    items: &[(Moment, u64, Shown)],
+) -> Result<Vec<(Moment, Shown)>, Mem> {
+    let mut own = Vec::new(alloc);
+    for (moment, conn, shown) in items {
+        if *conn == number {
+            own.push((*moment, *shown))?;
+        }
+    }
+    Ok(own)
+}
+
+#[test]
+fn an_exchange_gives_its_items_in_order(rt: HostRuntime) -> Result<(), Fail> {
+    let options = Options {
+        check: true,
+        buffer: 1 << 20,
+        packets: true,
+    };
+    let mut traffic = Traffic::new(rt.alloc(), options, LINKTYPE_ETHERNET)?;
+    let mut items = Vec::new(rt.alloc());
+    for i in 0..7 {
+        give(&rt, &mut traffic, i, &mut items)?;
+    }
+    traffic.end()?;
+    note(&mut traffic, &mut items)?;
+    let wanted = [
+        (at(0), 0, Seen(at(0), 54, 54)),
+        (at(0), 1, Opened),
+        (at(1), 0, Seen(at(1), 54, 54)),
+        (at(1), 1, Established),
+        (at(2), 0, Seen(at(2), 86, 86)),
+        (at(2), 1, Head(Side::Orig, 32)),
+        (at(2), 1, Done(Side::Orig, 32, 0)),
+        (at(3), 0, Seen(at(3), 94, 94)),
+        (at(3), 1, Head(Side::Resp, 38)),
+        (at(3), 1, Done(Side::Resp, 40, 2)),
+        (at(4), 0, Seen(at(4), 54, 54)),
+        (at(4), 1, Ended(Side::Orig)),
+        (at(5), 0, Seen(at(5), 54, 54)),
+        (at(5), 1, Ended(Side::Resp)),
+        (at(6), 0, Seen(at(6), 54, 54)),
+        (at(6), 1, Removed(ConnState::SF)),
+    ];
+    assert_eq!(rt; items.as_slice(), wanted.as_slice());
+    assert_eq!(rt; traffic.kept(), 0);
+    Ok(())
+}
+
+#[test]
+fn bytes_that_the_capture_lacks_are_a_gap(rt: HostRuntime) -> Result<(), Fail> {
+    let options = Options {
+        check: true,
+        buffer: 1 << 20,
+        packets: false,
+    };
+    let mut traffic = Traffic::new(rt.alloc(), options, LINKTYPE_ETHERNET)?;
+    let mut items = Vec::new(rt.alloc());
+    give(&rt, &mut traffic, 0, &mut items)?;
+    give(&rt, &mut traffic, 1, &mut items)?;
+    give(&rt, &mut traffic, 3, &mut items)?;
+    match traffic.fresh(0) {
+        Some(run) => {
+            assert_eq!(rt; run.conn.0, 1);
+            assert_eq!(rt; run.side, Side::Resp);
+            assert_eq!(rt; run.from, 0);
+            assert_eq!(rt;
+                run.bytes,
+                b"HTTP/1.1 200 OK\r\nContent-Length: 2\r\n\r\nhi".as_slice()
+            );
+        }
+        None => assert!(rt; false),
+    }
+    assert!(rt; traffic.fresh(1).is_none());
+    give(&rt, &mut traffic, 4, &mut items)?;
+    assert!(rt; traffic.fresh(0).is_none());
+    assert_eq!(rt; traffic.kept(), 40);
+    let wanted = [
+        (at(0), 1, Opened),
+        (at(1), 1, Established),
+        (at(4), 1, Gap(Side::Orig, 0, 32)),
+        (at(4), 1, Shown::Violation(Side::Orig, 1, Reason::Gap)),
+        (at(4), 1, Ended(Side::Orig)),
+    ];
+    assert_eq!(rt; items.as_slice(), wanted.as_slice());
+    Ok(())
+}
+
+#[test]
+fn connections_that_interleave_keep_their_items(rt: HostRuntime) -> Result<(), Fail> {
+    let get = items_of(&rt, rt.alloc(), &[0, 1, 2, 3, 4, 5, 6])?;
+    let head = items_of(&rt, rt.alloc(), &[7, 8, 9, 10, 11, 12, 13])?;
+    let both = items_of(
+        &rt,
+        rt.alloc(),
+        &[0, 7, 1, 8, 9, 2, 10, 3, 4, 11, 12, 5, 6, 13],
+    )?;
+    let first = own(rt.alloc(), 1, get.as_slice())?;
+    let second = own(rt.alloc(), 1, head.as_slice())?;
+    let of_get = own(rt.alloc(), 1, both.as_slice())?;
+    let of_head = own(rt.alloc(), 2, both.as_slice())?;
+    assert_eq!(rt; of_get.as_slice(), first.as_slice());
+    assert_eq!(rt; of_head.as_slice(), second.as_slice());
+    assert_eq!(rt; both.len(), first.len() + second.len());
+    let wanted = [
+        (at(0), Opened),
+        (at(1), Established),
+        (at(2), Head(Side::Orig, 33)),
+        (at(2), Done(Side::Orig, 33, 0)),
+        (at(3), Head(Side::Resp, 38)),
+        (at(3), Done(Side::Resp, 38, 0)),
+        (at(4), Ended(Side::Orig)),
+        (at(5), Ended(Side::Resp)),
+        (at(6), Removed(ConnState::SF)),
+    ];
+    assert_eq!(rt; second.as_slice(), wanted.as_slice());
+    Ok(())
+}

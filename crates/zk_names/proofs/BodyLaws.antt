@@ -1,5 +1,5 @@
 -- Words of enums, and what bodies declare.
-use Rattle.std.proofs.Common.{◌≡◌, ℕ, suc, Bool, true, false, ◌&&◌, ◌||◌, List, [], ◌∷◌, filter, fold, Ok, Err, not, is_some, Option, Some, None, refl, ap, ◌∙◌}
+use Rattle.std.proofs.Common.{◌≡◌, ℕ, suc, ◌==◌, Bool, true, false, ◌&&◌, ◌||◌, List, [], ◌∷◌, fold, Ok, Err, is_some, Option, Some, None, refl, ap, ◌∙◌}
 use Rattle.std.specs.List.{list_any}
 use Rattle.std.specs.Option.{option_map}
 use Rattle.std.specs.Str.{bytes_eq}
@@ -7,7 +7,7 @@ use Rattle.zk_tree.specs.declared.name.Name.{Name}
 use Rattle.zk_typed.specs.declared.script.types.SimpleType.{SimpleType}
 use Rattle.zk_typed.specs.declared.script.types.SimpleType.TheVariants as simple
 use Rattle.zk_typed.specs.Checked.{Checked}
-use Rattle.zk_typed.specs.Declaring.{in_no_module, with_bodies, words_of}
+use Rattle.zk_typed.specs.Declaring.{in_round, round_of, words_of}
 use Rattle.zk_typed.specs.LoadOrder.{Home, Stated}
 use Rattle.zk_typed.specs.Names.{Declared}
 use Rattle.zk_typed.specs.Types.{ValueType, Simple, Record, Table, Set, Vector}
@@ -35,25 +35,15 @@ words_is (Ok (Set keys)) home words = refl
 words_is (Ok (Vector item)) home words = refl
 words_is (Err rules) home words = refl
 
-by_module : (names : List Declared) (one : Stated) (others : List Stated) (b : Bool) → in_no_module one ≡ b → ((names : List Declared) → with_bodies names (filter in_no_module others) ≡ fold (with_body true) names others) →
-    with_bodies names (filter in_no_module (one ∷ others)) ≡ fold (with_body true) names (one ∷ others)
-by_module names one others true e h = rw e (h _)
-by_module names one others false e h = rw e (h names)
+by_round : (round : ℕ) (names : List Declared) (one : Stated) (others : List Stated) (b : Bool) → (round_of one == round) ≡ b →
+    ((names : List Declared) → in_round others names round ≡ fold (with_body round) names others) → in_round (one ∷ others) names round ≡ fold (with_body round) names (one ∷ others)
+by_round round names one others true e h = rw e (h _)
+by_round round names one others false e h = rw e (h names)
 
--- the bodies of no module
-pub first_bodies : (stated : List Stated) (names : List Declared) → with_bodies names (filter in_no_module stated) ≡ fold (with_body true) names stated
-first_bodies [] names = refl
-first_bodies (one ∷ others) names = by_module names one others (in_no_module one) refl (first_bodies others)
-
-by_other : (names : List Declared) (one : Stated) (others : List Stated) (b : Bool) → in_no_module one ≡ b → ((names : List Declared) → with_bodies names (filter (λ one. not (in_no_module one)) others) ≡ fold (with_body false) names others) →
-    with_bodies names (filter (λ one. not (in_no_module one)) (one ∷ others)) ≡ fold (with_body false) names (one ∷ others)
-by_other names one others true e h = rw e (h names)
-by_other names one others false e h = rw e (h _)
-
--- the bodies of modules
-pub other_bodies : (stated : List Stated) (names : List Declared) → with_bodies names (filter (λ one. not (in_no_module one)) stated) ≡ fold (with_body false) names stated
-other_bodies [] names = refl
-other_bodies (one ∷ others) names = by_other names one others (in_no_module one) refl (other_bodies others)
+-- the bodies of a round
+pub bodies_of : (round : ℕ) (stated : List Stated) (names : List Declared) → in_round stated names round ≡ fold (with_body round) names stated
+bodies_of round [] names = refl
+bodies_of round (one ∷ others) names = by_round round names one others (round_of one == round) refl (bodies_of round others)
 
 -- Names that are there ------------------------------------------------------------------------------------------------
 

@@ -1,54 +1,49 @@
--- The module in a name, as far as it was read.
-use Rattle.std.proofs.Common.{◌≡◌, ℕ, ◌+◌, ◌<◌, ◌≤◌, Bool, true, false, List, [], ◌∷◌, ◌++◌, length, take, drop, get_or, codes, nat_eq, Option, Some, None, refl, ap, sym, ◌∙◌, add-one, append-nil, append_assoc, drop-cons}
+-- The module in a name, as far as it was read from behind.
+use Rattle.std.proofs.Common.{◌≡◌, ℕ, zero, suc, ◌+◌, ◌<◌, ◌≤◌, Bool, true, false, List, [], ◌∷◌, ◌++◌, length, take, drop, get_or, codes, nat_eq, Option, Some, None, refl, ap, sym, ◌∙◌, add-one, append-nil, drop-cons, if◌then◌else◌}
 use Rattle.std.proofs.Math.ListN.{drop_of_length-le}
-use Rattle.std.proofs.lemmas.List.{take_more}
 use Rattle.std.specs.List.{starts_with}
 use Rattle.std.specs.Option.{option_map}
-use Rattle.zk_typed.specs.Names.{module_in}
+use Rattle.zk_typed.specs.Names.{first_of, module_in}
 
-marked : (byte : ℕ) (bytes : List ℕ) → starts_with nat_eq (byte ∷ bytes) (codes "::") ≡ true → module_in (byte ∷ bytes) ≡ Some []
-marked byte bytes h = ap (λ (b : Bool). elim b as (λ x. Option (List ℕ)) [ true ↦ Some [] | false ↦ option_map (λ front. byte ∷ front) (module_in bytes) ]) h
+-- what stands at a place
+here : Bool → Option (List ℕ)
+here mark = if mark then Some [] else None
 
-unmarked : (byte : ℕ) (bytes : List ℕ) → starts_with nat_eq (byte ∷ bytes) (codes "::") ≡ false → module_in (byte ∷ bytes) ≡ option_map (λ front. byte ∷ front) (module_in bytes)
-unmarked byte bytes h = ap (λ (b : Bool). elim b as (λ x. Option (List ℕ)) [ true ↦ Some [] | false ↦ option_map (λ front. byte ∷ front) (module_in bytes) ]) h
+one_on : (byte : ℕ) (bytes : List ℕ) (mark : Bool) → starts_with nat_eq (byte ∷ bytes) (codes "::") ≡ mark → module_in bytes ≡ None → module_in (byte ∷ bytes) ≡ here mark
+unfolding here
+one_on byte bytes mark h none = ap (λ (x : Option (List ℕ)). first_of (option_map (λ (front : List ℕ). byte ∷ front) x) (if starts_with nat_eq (byte ∷ bytes) (codes "::") then Some [] else None)) none ∙ ap (λ (b : Bool). if b then Some [] else None) h
 
--- the module is what was read with what the rest has
+-- the rest of a name has no mark
 abbrev pub IsRead : List ℕ → ℕ → Type 0
-IsRead name at = module_in name ≡ option_map (λ front. take at name ++ front) (module_in (drop at name))
+IsRead name at = module_in (drop at name) ≡ None
 
-pub read_none : (name : List ℕ) → IsRead name 0
-read_none name = sym (kept (module_in name))
-  where
-    kept : (a : Option (List ℕ)) → option_map (λ (front : List ℕ). [] ++ front) a ≡ a
-    kept None = refl
-    kept (Some front) = refl
+pub read_none : (name : List ℕ) → IsRead name (length name)
+read_none name = ap module_in (drop_of_length-le name search)
 
-joined : (done : List ℕ) (byte : ℕ) (more : List ℕ) → more ≡ done ++ byte ∷ [] → (a : Option (List ℕ)) →
-    option_map (λ (front : List ℕ). done ++ front) (option_map (λ (front : List ℕ). byte ∷ front) a) ≡ option_map (λ (front : List ℕ). more ++ front) a
-joined done byte more e None = refl
-joined done byte more e (Some front) = ap Some (sym (append_assoc done (byte ∷ []) front) ∙ ap (λ x. x ++ front) (sym e))
+opened : (name : List ℕ) (at : ℕ) → at < length name → drop at name ≡ get_or name at 0 ∷ drop (at + 1) name
+opened name at within = rw add-one (drop-cons name at 0 within)
 
-pub read_on : (name : List ℕ) (at : ℕ) → at < length name → starts_with nat_eq (drop at name) (codes "::") ≡ false → IsRead name at → IsRead name (at + 1)
-read_on name at within plain read =
-    let byte = get_or name at 0 in
-    let rest = drop (at + 1) name in
-    let opened : drop at name ≡ byte ∷ rest = rw add-one (drop-cons name at 0 within) in
-    let plain_here : starts_with nat_eq (byte ∷ rest) (codes "::") ≡ false = ap (λ (x : List ℕ). starts_with nat_eq x (codes "::")) (sym opened) ∙ plain in
-    read ∙ ap (λ (x : List ℕ). option_map (λ (front : List ℕ). take at name ++ front) (module_in x)) opened ∙
-    ap (option_map (λ (front : List ℕ). take at name ++ front)) (unmarked byte rest plain_here) ∙
-    joined (take at name) byte (take (at + 1) name) (take_more name at 0 within) (module_in rest)
+read_here : (name : List ℕ) (at : ℕ) (mark : Bool) → at < length name → starts_with nat_eq (drop at name) (codes "::") ≡ mark → IsRead name (at + 1) → module_in (drop at name) ≡ here mark
+read_here name at mark within h read =
+    let is = opened name at within in
+    ap module_in is ∙ one_on (get_or name at 0) (drop (at + 1) name) mark (ap (λ (x : List ℕ). starts_with nat_eq x (codes "::")) (sym is) ∙ h) read
 
-pub read_mark : (name : List ℕ) (at : ℕ) → at < length name → starts_with nat_eq (drop at name) (codes "::") ≡ true → IsRead name at → module_in name ≡ Some (take at name)
-read_mark name at within mark read =
-    let byte = get_or name at 0 in
-    let rest = drop (at + 1) name in
-    let opened : drop at name ≡ byte ∷ rest = rw add-one (drop-cons name at 0 within) in
-    let mark_here : starts_with nat_eq (byte ∷ rest) (codes "::") ≡ true = ap (λ (x : List ℕ). starts_with nat_eq x (codes "::")) (sym opened) ∙ mark in
-    read ∙ ap (λ (x : List ℕ). option_map (λ (front : List ℕ). take at name ++ front) (module_in x)) opened ∙
-    ap (option_map (λ (front : List ℕ). take at name ++ front)) (marked byte rest mark_here) ∙ ap Some (append-nil (take at name))
+pub read_on : (name : List ℕ) (at : ℕ) → at < length name → starts_with nat_eq (drop at name) (codes "::") ≡ false → IsRead name (at + 1) → IsRead name at
+unfolding here
+read_on name at within plain read = read_here name at false within plain read
 
-pub read_all : (name : List ℕ) (at : ℕ) → length name ≤ at → IsRead name at → module_in name ≡ None
-read_all name at past read =
-    read ∙ ap (λ (x : List ℕ). option_map (λ (front : List ℕ). take at name ++ front) (module_in x)) (drop_of_length-le name past)
+-- a mark in the rest of a name is one of the name
+grown : (name : List ℕ) (at : ℕ) (front : List ℕ) → module_in (drop at name) ≡ Some front → module_in name ≡ Some (take at name ++ front)
+grown name zero front h = h
+grown [] (suc at) front h = absurd (cc)
+grown (byte ∷ bytes) (suc at) front h =
+    ap (λ (x : Option (List ℕ)). first_of (option_map (λ (more : List ℕ). byte ∷ more) x) (if starts_with nat_eq (byte ∷ bytes) (codes "::") then Some [] else None)) (grown bytes at front h)
+
+pub read_mark : (name : List ℕ) (at : ℕ) → at < length name → starts_with nat_eq (drop at name) (codes "::") ≡ true → IsRead name (at + 1) → module_in name ≡ Some (take at name)
+unfolding here
+read_mark name at within mark read = grown name at [] (read_here name at true within mark read) ∙ ap Some (append-nil (take at name))
+
+pub read_all : (name : List ℕ) → IsRead name 0 → module_in name ≡ None
+read_all name read = read
 
 pub ruleset reading = (read_none, read_on, read_mark, read_all)

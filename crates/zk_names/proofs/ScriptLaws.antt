@@ -1,11 +1,11 @@
 -- What all scripts declare.
-use Rattle.std.proofs.Common.{◌≡◌, true, false, List, ◌++◌, filter, flat_map, fold, ap, sym, ◌∙◌}
-use Rattle.zk_typed.specs.Declaring.{in_no_module, predefined_names, scripts_of_stated, with_bodies, with_words}
+use Rattle.std.proofs.Common.{◌≡◌, List, ◌++◌, flat_map, fold, ap, sym, ◌∙◌}
+use Rattle.zk_typed.specs.Declaring.{in_round, predefined_names, scripts_of_stated, with_words}
 use Rattle.zk_typed.specs.LoadOrder.{Stated}
 use Rattle.zk_typed.specs.Names.{Declared, Node}
 use Rattle.zk_typed.specs.Resolving.{Scripts}
 use Rattle.zk_names.specs.Words.{known_scripts, with_body}
-use Rattle.zk_names.proofs.BodyLaws.{first_bodies, other_bodies}
+use Rattle.zk_names.proofs.BodyLaws.{bodies_of}
 
 scripts : List Stated → List Node → List Declared → Scripts
 scripts stated nodes names = record { stated = stated; nodes = nodes; names = names }
@@ -17,7 +17,9 @@ same_scripts s t n m a b p q r = ap (λ (x : List Stated). scripts x n a) p ∙ 
 
 -- the names of all scripts, by those that are known before the words
 pub all_known : (order : List Stated) →
-    fold (with_body false) (fold (with_body true) (predefined_names ++ flat_map (with_words (known_scripts order)) order) order) order ≡ (scripts_of_stated order).names
+    fold (with_body 2) (fold (with_body 1) (fold (with_body 0) (predefined_names ++ flat_map (with_words (known_scripts order)) order) order) order) order ≡ (scripts_of_stated order).names
 all_known order =
     let names = predefined_names ++ flat_map (with_words (known_scripts order)) order in
-    sym (other_bodies order (with_bodies names (filter in_no_module order)) ∙ ap (λ (x : List Declared). fold (with_body false) x order) (first_bodies order names))
+    sym (bodies_of 2 order (in_round order (in_round order names 0) 1) ∙
+    ap (λ (x : List Declared). fold (with_body 2) x order) (bodies_of 1 order (in_round order names 0)) ∙
+    ap (λ (x : List Declared). fold (with_body 2) (fold (with_body 1) x order) order) (bodies_of 0 order names))

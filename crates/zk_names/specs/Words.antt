@@ -1,11 +1,10 @@
 -- Words of enums, and what bodies declare.
-use Rattle.std.specs.Prelude.{ℕ, Bool, List, [], ◌++◌, map, flat_map, Option, Some, None, Ok, if◌then◌else◌}
-use Rattle.std.specs.Bool.{beq}
+use Rattle.std.specs.Prelude.{ℕ, ◌==◌, List, [], ◌++◌, map, flat_map, Option, Some, None, Ok, if◌then◌else◌}
 use Rattle.zk_tree.specs.declared.decl.Decl.{out-Decl}
 use Rattle.zk_tree.specs.declared.name.Name.{Name}
 use Rattle.zk_typed.specs.declared.script.types.SimpleType.TheVariants as simple
 use Rattle.zk_typed.specs.Checked.{Checked}
-use Rattle.zk_typed.specs.Declaring.{by_body, in_no_module, outright_of, predefined_names}
+use Rattle.zk_typed.specs.Declaring.{by_body, outright_of, predefined_names, round_of}
 use Rattle.zk_typed.specs.LoadOrder.{Home, Stated}
 use Rattle.zk_typed.specs.Names.{Declared, Word, all_nodes, declare}
 use Rattle.zk_typed.specs.Resolving.{Scripts}
@@ -27,9 +26,9 @@ abbrev pub words_in : Option ℕ → Home → List Name → List Declared
 words_in None home words = []
 words_in (Some number) home words = enum_words home number words
 
--- with what the body of a declaration declares, where the declaration stands in no module or where it doesn't
-abbrev pub with_body : Bool → List Declared → Stated → List Declared
-with_body in_none names one = if beq (in_no_module one) in_none then names ++ by_body names one.home (out-Decl one.decl) else names
+-- with what the body of a declaration declares, in its round
+abbrev pub with_body : ℕ → List Declared → Stated → List Declared
+with_body round names one = if round_of one == round then names ++ by_body names one.home (out-Decl one.decl) else names
 
 -- with the names that are declared outright alone
 abbrev pub known_scripts : List Stated → Scripts

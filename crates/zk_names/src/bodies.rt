@@ -118,17 +118,33 @@ fn by_body<'a>(
     }
 }
 
-/// Adds what the body of a declaration declares, where the declaration stands in no module or where it
-/// doesn't.
+/// The round in which a declaration declares by its body: functions, then handlers and hooks of no module,
+/// then those of modules.
+fn round_of(one: Stated<'_>) -> u8
+    ensures { result ≡ spec.round_of (stated_of one.entry) }
+{
+    match one.decl {
+        Decl::Body { .. } => {
+            if one.home.module_name.is_empty() {
+                1
+            } else {
+                2
+            }
+        }
+        _ => 0,
+    }
+}
+
+/// Adds what the body of a declaration declares, in its round.
 fn add_body<'a>(
     alloc: Global,
-    in_none: bool,
+    round: u8,
     one: Stated<'a>,
     table: &mut Table<'a>,
 ) -> Result<(), Mem>
-    ensures { OnOk result (declared_lent table.new.names.items ≡ with_body in_none (declared_lent table.old.names.items) (stated_of one.entry)) }
+    ensures { OnOk result (declared_lent table.new.names.items ≡ with_body round (declared_lent table.old.names.items) (stated_of one.entry)) }
 {
-    if one.home.module_name.is_empty() != in_none {
+    if round_of(one) != round {
         return Ok(());
     }
     match by_body(alloc, table, one)? {
@@ -140,17 +156,17 @@ fn add_body<'a>(
     }
 }
 
-/// Adds what bodies declare, of declarations that stand in no module or of those that do.
+/// Adds what bodies declare, of the declarations of a round.
 pub fn add_bodies<'a>(
     alloc: Global,
-    in_none: bool,
+    round: u8,
     stated: &[Stated<'a>],
     table: &mut Table<'a>,
 ) -> Result<(), Mem>
-    ensures { OnOk result (declared_lent table.new.names.items ≡ fold (with_body in_none) (declared_lent table.old.names.items) (stated_lent stated.now)) }
+    ensures { OnOk result (declared_lent table.new.names.items ≡ fold (with_body round) (declared_lent table.old.names.items) (stated_lent stated.now)) }
 {
     for one in stated {
-        add_body(alloc, in_none, *one, table)?;
+        add_body(alloc, round, *one, table)?;
     }
     Ok(())
 }

@@ -1,4 +1,4 @@
-ghost use Rattle.std.specs.Prelude.{◌≡◌, ◌++◌, true, false, fold, flat_map, IfOk};
+ghost use Rattle.std.specs.Prelude.{◌≡◌, ◌++◌, fold, flat_map, IfOk};
 ghost use Rattle.zk_typed.specs.Declaring.{predefined_names, scripts_of, with_words};
 ghost use Rattle.zk_typed.specs.LoadOrder.{load_order};
 ghost use Rattle.zk_names.specs.Lent.{declared_lent, files_of};
@@ -35,14 +35,15 @@ fn known_names<'a>(alloc: Global, files: &'a [(Bytes, Tree)]) -> Result<Names<'a
 /// All names, by those that are predefined or declared outright.
 fn all_names<'a>(alloc: Global, known: &Names<'a>) -> Result<Table<'a>, Mem>
     ensures { IfOk result (λ table. declared_lent table.names.items ≡
-        fold (with_body false) (fold (with_body true) (predefined_names ++ flat_map (with_words (scripts_in known.now)) (scripts_in known.now).stated) (scripts_in known.now).stated) (scripts_in known.now).stated) }
+        fold (with_body 2) (fold (with_body 1) (fold (with_body 0) (predefined_names ++ flat_map (with_words (scripts_in known.now)) (scripts_in known.now).stated) (scripts_in known.now).stated) (scripts_in known.now).stated) (scripts_in known.now).stated) }
 {
     let mut table = Table::new(alloc);
     add_predefined(alloc, &mut table)?;
     let stated = known.stated();
     add_all_words(alloc, known, stated, &mut table)?;
-    add_bodies(alloc, true, stated, &mut table)?;
-    add_bodies(alloc, false, stated, &mut table)?;
+    add_bodies(alloc, 0, stated, &mut table)?;
+    add_bodies(alloc, 1, stated, &mut table)?;
+    add_bodies(alloc, 2, stated, &mut table)?;
     Ok(table)
 }
 

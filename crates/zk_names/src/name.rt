@@ -6,13 +6,13 @@ use crate::whole::Whole;
 use std::alloc::Global;
 use zk_base::Mem;
 
-/// How long the part of a name before `::` is, where it has one.
+/// How long the part of a name before its last `::` is, where it has one.
 #[tactic(auto, using(crate::proofs::NameLaws::reading))]
 fn module_len(name: &[u8]) -> Option<usize>
     ensures module { option_map (λ len. take len name.now) result ≡ module_in name.now }
     ensures within { IfSome result (λ len. len ≤ length name.now) }
 {
-    for at in 0..name.len() {
+    for at in (0..name.len()).rev() {
         if name[at..].starts_with(b"::") {
             return Some(at);
         }
@@ -27,7 +27,7 @@ pub fn has_module(name: &[u8]) -> bool
     module_len(name).is_some()
 }
 
-/// The part of a name before `::`, where it has one.
+/// The part of a name before its last `::`, where it has one.
 pub fn own_module(name: &[u8]) -> Option<&[u8]>
     ensures { option_copied result ≡ module_in name.now }
 {

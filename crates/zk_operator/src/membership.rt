@@ -40,17 +40,16 @@ fn is_simple(one: &ValueType) -> bool
     }
 }
 
-/// Whether values can stand before `in` somewhere: several, or one of a type without parts.
+/// Whether values can stand before `in` somewhere: values of types without parts.
 pub fn is_left_of_in(keys: &[Typed]) -> bool
     ensures { result ≡ spec.is_left_of_in (typed_all keys.now) }
 {
-    let Some((one, others)) = keys.split_first() else {
-        return true;
-    };
-    match others.split_first() {
-        Some(_) => true,
-        None => is_simple(&one.value_type),
+    for key in keys {
+        if !is_simple(&key.value_type) {
+            return false;
+        }
     }
+    true
 }
 
 /// Whether a type has a size: that of a string, an int or a container.

@@ -35,6 +35,7 @@ use Rattle.zk_typed.specs.Programs.{typed_program}
 use Rattle.zk_typed.specs.Running.{run, world_in, dispatches_max}
 use Rattle.zk_tree.specs.declared.expr.Item.{Item}
 use Rattle.zk_tree.specs.declared.expr.Item.TheVariants as item
+use Rattle.zk_tree.specs.declared.operator.Comparing.TheVariants as comparing
 use Rattle.zk_tree.specs.declared.operator.Container.TheVariants as container
 use Rattle.zk_tree.specs.declared.types.Field.{Field, roll-Field}
 use Rattle.zk_typed.specs.Log.{One, Text, Plain}
@@ -324,11 +325,118 @@ types_that_rest_on_each_other : errors circle ≡ told rule.WrongType 11 ++ told
 unfolding circle count_named file told name trees depth_max
 types_that_rest_on_each_other = refl
 
+plus : Expr → Expr → Expr
+plus a b = expr.Chain level.Sum a (roll-Link (record { operator = operator.Plus; operand = b }) ∷ [])
+
+-- global a: count = b; global b = b;
+a_type_that_is_written_rests_on_no_value :
+    errors (file (decl.Variable 0 lasting.Global (name 7 (codes "a")) (Some (count_at 10)) (Some (init.Value (expr.Name (name 18 (codes "b"))))) [] ∷ count_named 21 (codes "b") (expr.Name (name 32 (codes "b"))) ∷ [])) ≡ told rule.WrongType 32
+unfolding count_named file count_at told name trees depth_max
+a_type_that_is_written_rests_on_no_value = refl
+
+-- global b = b + y;
+a_broken_part_hides_a_circle : errors (file (count_named 0 (codes "b") (plus (expr.Name (name 11 (codes "b"))) (expr.Name (name 15 (codes "y")))) ∷ [])) ≡ told rule.Unknown 15
+unfolding count_named plus file told name trees depth_max
+a_broken_part_hides_a_circle = refl
+
+-- module A::B; global x = 1; event zeek_init() { print x; }
+a_module_within_a_module_sees_its_names :
+    errors (file (decl.Module 0 (name 7 (codes "A::B")) ∷ count_named 13 (codes "x") (expr.Number 24 1) ∷ handler (stmt.Print 47 (expr.Name (name 53 (codes "x")) ∷ []) ∷ []) ∷ [])) ≡ []
+unfolding count_named file handler name trees depth_max
+a_module_within_a_module_sees_its_names = refl
+
+-- module M; export { global x = 5; } module N; event zeek_init() { local M::x = 1; print M::x; }
+local_of_another_module : List File
+local_of_another_module = file (
+    decl.Module 0 (name 7 (codes "M")) ∷ decl.Export 10 (count_named 19 (codes "x") (expr.Number 30 5) ∷ []) ∷ decl.Module 35 (name 42 (codes "N")) ∷
+    handler (stmt.Local 65 (name 71 (codes "M::x")) None (Some (init.Value (expr.Number 78 1))) ∷ stmt.Print 81 (expr.Name (name 87 (codes "M::x")) ∷ []) ∷ []) ∷ [])
+
+a_name_of_a_module_is_no_local : (world_in (run (typed_program local_of_another_module) 1000 [] (record { 0 = pos 0 }))).lines ≡ codes "5" ∷ []
+unfolding local_of_another_module count_named file handler name trees depth_max digits dispatches_max
+a_name_of_a_module_is_no_local = refl
+
+-- event f() { } function f() { }
+a_function_declares_its_name_before_a_handler :
+    errors (file (
+    decl.Body 0 body.Event (name 6 (codes "f")) [] [] (roll-Block (record { place = 10; stmts = [] })) ∷
+    decl.Function 14 (name 23 (codes "f")) [] None (roll-Block (record { place = 27; stmts = [] })) ∷ [])) ≡ told rule.WrongType 6
+unfolding file told name trees depth_max
+a_function_declares_its_name_before_a_handler = refl
+
 -- Broken parts ------------------------------------------------------------------------------------------------------
+
+-- function f(): set[count] { return set(1); } event zeek_init() { add f()[2]; }
+an_element_of_what_a_function_gives :
+    errors (file (
+    decl.Function 0 (name 9 (codes "f")) [] (Some (written.Set 14 (count_at 18 ∷ []))) (roll-Block (record { place = 25; stmts = stmt.Return 27 (Some (expr.Make 34 container.Set (item.Value (expr.Number 38 1) ∷ []))) ∷ [] })) ∷
+    handler (stmt.Add 64 (expr.Post (expr.Name (name 68 (codes "f"))) (part.Call [] ∷ part.Index (expr.Number 72 2 ∷ []) ∷ [])) ∷ []) ∷ [])) ≡ []
+unfolding file handler count_at name trees depth_max
+an_element_of_what_a_function_gives = refl
+
+-- [$a=1]
+with_a : ℕ → Expr
+with_a place = expr.List place (item.Field (place + 1) (name (place + 2) (codes "a")) (expr.Number (place + 4) 1) ∷ [])
+
+-- event zeek_init() { g = [$a=1]; } global g: nosuch;
+a_constructor_of_a_type_that_is_not_known :
+    errors (file (
+    handler (stmt.Expr (expr.Assign (expr.Name (name 20 (codes "g"))) assigning.Set (with_a 24)) ∷ []) ∷
+    decl.Variable 34 lasting.Global (name 41 (codes "g")) (Some (written.Named (name 44 (codes "nosuch")))) None [] ∷ [])) ≡ told rule.Unknown 44
+unfolding with_a file handler told name trees depth_max
+a_constructor_of_a_type_that_is_not_known = refl
+
+-- event zeek_init() { local x = 1; local x; }
+a_local_twice_without_a_value :
+    errors (file (handler (stmt.Local 20 (name 26 (codes "x")) None (Some (init.Value (expr.Number 30 1))) ∷ stmt.Local 33 (name 39 (codes "x")) None None ∷ []) ∷ [])) ≡
+    told rule.Twice 33 ++ told rule.WrongType 33
+unfolding file handler told name trees depth_max
+a_local_twice_without_a_value = refl
+
+-- global t: table[count, count] of count; event zeek_init() { print t["a"]; }
+a_wrong_key_hides_how_many_there_are :
+    errors (file (
+    decl.Variable 0 lasting.Global (name 7 (codes "t")) (Some (written.Table 10 (count_at 16 ∷ count_at 23 ∷ []) (count_at 33))) None [] ∷
+    handler (stmt.Print 60 (expr.Post (expr.Name (name 66 (codes "t"))) (part.Index (string 68 (codes "a") ∷ []) ∷ []) ∷ []) ∷ []) ∷ [])) ≡ told rule.WrongType 68
+unfolding file handler told count_at string name trees depth_max
+a_wrong_key_hides_how_many_there_are = refl
+
+-- global s: set[count]; event zeek_init() { STATEMENT }
+beside_a_set : Stmt → List File
+beside_a_set one = file (decl.Variable 0 lasting.Global (name 7 (codes "s")) (Some (written.Set 10 (count_at 14 ∷ []))) None [] ∷ handler (one ∷ []) ∷ [])
+
+-- if ( s = set() ) ;
+an_assignment_is_no_value :
+    errors (beside_a_set (stmt.If 42 (expr.Assign (expr.Name (name 47 (codes "s"))) assigning.Set (expr.Make 51 container.Set [])) (stmt.Empty 60))) ≡ told rule.WrongType 47
+unfolding beside_a_set file handler told count_at name trees depth_max
+an_assignment_is_no_value = refl
+
+-- copy(s, nosuch);
+an_argument_without_a_place_is_not_judged :
+    errors (beside_a_set (stmt.Expr (expr.Post (expr.Name (name 42 (codes "copy"))) (part.Call (item.Value (expr.Name (name 47 (codes "s"))) ∷ item.Value (expr.Name (name 50 (codes "nosuch"))) ∷ []) ∷ [])))) ≡ told rule.Arguments 42
+unfolding beside_a_set file handler told count_at name trees depth_max
+an_argument_without_a_place_is_not_judged = refl
+
+-- print [s, 1] in s;
+a_set_is_no_key :
+    errors (beside_a_set (stmt.Print 42 (expr.Compare (expr.List 48 (item.Value (expr.Name (name 49 (codes "s"))) ∷ item.Value (expr.Number 52 1) ∷ [])) comparing.In (expr.Name (name 58 (codes "s"))) ∷ []))) ≡ told rule.WrongType 48
+unfolding beside_a_set file handler told count_at name trees depth_max
+a_set_is_no_key = refl
+
+-- print fmt(5);
+a_text_of_another_type :
+    errors (file (handler (stmt.Print 20 (expr.Post (expr.Name (name 26 (codes "fmt"))) (part.Call (item.Value (expr.Number 30 5) ∷ []) ∷ []) ∷ []) ∷ []) ∷ [])) ≡ told rule.WrongType 30
+unfolding file handler told name trees depth_max
+a_text_of_another_type = refl
+
 
 -- event zeek_init() { local s = VALUE; }
 local_value : Expr → List File
 local_value value = file (handler (stmt.Local 20 (name 26 (codes "s")) None (Some (init.Value value)) ∷ []) ∷ [])
+
+-- local s = [$a=1];
+a_constructor_of_no_record : errors (local_value (with_a 30)) ≡ told rule.WrongType 30
+unfolding local_value with_a file handler told name trees depth_max
+a_constructor_of_no_record = refl
 
 -- local s = set([1]);
 a_single_key_in_brackets : errors (local_value (expr.Make 30 container.Set (item.Value (expr.List 34 (item.Value (expr.Number 35 1) ∷ [])) ∷ []))) ≡ told rule.WrongType 34
@@ -428,6 +536,17 @@ vector_at place = item.Value (expr.Make place container.Vector [])
 what_is_no_settings : errors (with_log (call_at (codes "Log::create_stream") (vector_at 92 ∷ []))) ≡ told rule.WrongType 92
 unfolding with_log call_at vector_at one_field logged call given named file handler told count_at string name trees depth_max
 what_is_no_settings = refl
+
+-- Log::remove_filter(L, 5);
+a_name_of_a_filter_of_another_type : errors (with_log (call_at (codes "Log::remove_filter") (item.Value (expr.Number 92 5) ∷ []))) ≡ told rule.WrongType 92
+unfolding with_log call_at one_field logged call given named file handler told count_at string name trees depth_max
+a_name_of_a_filter_of_another_type = refl
+
+-- Log::add_filter(L, [$name="f", $include=nosuch]);
+a_setting_that_means_nothing :
+    errors (with_log (call_at (codes "Log::add_filter") (item.Value (expr.List 80 (given (codes "name") (string 0 (codes "f")) ∷ item.Field 90 (name 91 (codes "include")) (expr.Name (name 99 (codes "nosuch"))) ∷ [])) ∷ []))) ≡ told rule.Unknown 99
+unfolding with_log call_at one_field logged call given named file handler told count_at string name trees depth_max
+a_setting_that_means_nothing = refl
 
 -- Log::remove_default_filter(L, vector());
 an_argument_too_many : errors (with_log (call_at (codes "Log::remove_default_filter") (vector_at 100 ∷ []))) ≡ told rule.Arguments 70

@@ -62,12 +62,15 @@ use Rattle.zk_typed.specs.Within.{depth_max, local_types}
 abbrev pub circular : Checked ValueType
 circular = broken rule.Recursive (record { file = 0; byte = 0 })
 
-abbrev pub is_circular : List Broken → Bool
-is_circular rules = list_any (λ one. is_mark one.rule) rules
+abbrev pub is_mark : Broken → Bool
+is_mark one = of_rule one.rule
   where
-    is_mark : Rule → Bool
-    is_mark rule.Recursive = true
-    is_mark other = false
+    of_rule : Rule → Bool
+    of_rule rule.Recursive = true
+    of_rule other = false
+
+abbrev pub is_circular : List Broken → Bool
+is_circular = list_any is_mark
 
 abbrev pub marked : Checked Typed → Checked ValueType
 marked (Ok one) = Ok one.type

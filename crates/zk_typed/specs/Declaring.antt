@@ -1,6 +1,6 @@
 -- What the declarations of scripts declare, in load order (Zeek manual, Declarations). A function's body declares its name in
 -- its module where that doesn't; a body of a handler or a hook declares its name where no declaration of it is visible.
-use Rattle.std.specs.Prelude.{ℕ, Bool, true, false, not, ◌||◌, List, [], ◌∷◌, ◌++◌, map, filter, flat_map, codes, Option, Some, None, Ok, is_some}
+use Rattle.std.specs.Prelude.{ℕ, ◌==◌, Bool, true, false, not, ◌||◌, List, [], ◌∷◌, ◌++◌, map, filter, flat_map, codes, Option, Some, None, Ok, is_some, if◌then◌else◌}
 use Rattle.std.specs.List.{list_any}
 use Rattle.std.specs.Str.{bytes_eq}
 use Rattle.zk_tree.specs.declared.decl.BodyKind.{BodyKind}
@@ -136,13 +136,21 @@ by_body names home (decl.Function place name params «result» block) =
     unless (in_module names home name || is_foreign home name) (declare home name (Function (Written home params «result»)))
 by_body names home other = []
 
--- The bodies that stand in no module come first, since they are declarations for those in modules.
-abbrev pub in_no_module : Stated → Bool
-in_no_module one = bytes_eq one.home.module_name []
+-- The round in which a declaration declares by its body: functions in the first, which declare their names whatever handlers
+-- there are; then the handlers and hooks that stand in no module, since they are declarations for those in modules.
+abbrev pub round_of : Stated → ℕ
+round_of one = of_form (out-Decl one.decl)
+  where
+    of_form : Decl-F Decl → ℕ
+    of_form (decl.Body place kind name params attrs block) = if bytes_eq one.home.module_name [] then 1 else 2
+    of_form other = 0
 
 abbrev pub with_bodies : List Declared → List Stated → List Declared
 with_bodies names [] = names
 with_bodies names (one ∷ others) = with_bodies (names ++ by_body names one.home (out-Decl one.decl)) others
+
+abbrev pub in_round : List Stated → List Declared → ℕ → List Declared
+in_round stated names round = with_bodies names (filter (λ one. round_of one == round) stated)
 
 abbrev pub scripts_of_stated : List Stated → Scripts
 scripts_of_stated stated =
@@ -153,7 +161,7 @@ scripts_of_stated stated =
     record {
       stated = stated;
       nodes = nodes;
-      names = with_bodies (with_bodies names (filter in_no_module stated)) (filter (λ one. not (in_no_module one)) stated);
+      names = in_round stated (in_round stated (in_round stated names 0) 1) 2;
     }
 
 abbrev pub scripts_of : List File → Scripts

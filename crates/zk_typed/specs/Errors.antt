@@ -25,14 +25,14 @@ use Rattle.zk_typed.specs.declared.rule.Rule.TheVariants as rule
 use Rattle.zk_typed.specs.declared.script.literal.DefaultValue.{DefaultValue}
 use Rattle.zk_typed.specs.declared.script.types.SimpleType.TheVariants as simple
 use Rattle.zk_typed.specs.Checked.{Checked, Broken, broken, ◌>>=◌, ◌>>◌, both, each, require, rules_of}
-use Rattle.zk_typed.specs.Declarations.{bodiless, env_at, told_type, global_type, is_circular, default_typed, attr_rules, is_one_of, with_value, type_rules, maybe_rules, param_rules, fields_rules, field_rules, recursive_rules, global_attrs, const_attribute, nothing}
+use Rattle.zk_typed.specs.Declarations.{bodiless, env_at, told_type, global_type, is_mark, is_circular, default_typed, attr_rules, is_one_of, with_value, type_rules, maybe_rules, param_rules, fields_rules, field_rules, recursive_rules, global_attrs, const_attribute, nothing}
 use Rattle.zk_typed.specs.Declaring.{scripts_of, predefined_names, outright}
 use Rattle.zk_base.specs.declared.numbers.LogId.{LogId}
 use Rattle.zk_base.specs.declared.numbers.RecordNo.{RecordNo}
 use Rattle.zk_typed.specs.declared.script.log_call.LogCall.{LogCall}
 use Rattle.zk_typed.specs.declared.script.log_call.LogCall.TheVariants as log
 use Rattle.zk_typed.specs.declared.script.primitive.Primitive.TheVariants as primitive
-use Rattle.zk_typed.specs.Expressions.{expr_typed}
+use Rattle.zk_typed.specs.Expressions.{added_type, expr_typed}
 use Rattle.zk_typed.specs.Forms as form
 use Rattle.zk_typed.specs.LogCalls.{Call, LeafInfo, leaves, logged, is_log_word, stream_type, decl_calls, all_calls}
 use Rattle.zk_typed.specs.Logs.{picked}
@@ -41,7 +41,7 @@ use Rattle.zk_typed.specs.Names.{Declared, Meant, KnownType, Variable, Event, Ho
 use Rattle.zk_typed.specs.Operations.{same_type}
 use Rattle.zk_typed.specs.Predefined as type
 use Rattle.zk_typed.specs.Resolving.{Scripts, FieldInfo, place_in, type_of, type_named, params_of, result_of, maybe_type, fields_of, deeper, hushed, has_attr}
-use Rattle.zk_typed.specs.Statements.{Context, Within, InFunction, InHook, InHandler, init_typed, body_typed, added_type, Locals}
+use Rattle.zk_typed.specs.Statements.{Context, Within, InFunction, InHook, InHandler, init_typed, body_typed, Locals}
 use Rattle.zk_typed.specs.Types.{ValueType, Simple, Record}
 use Rattle.zk_typed.specs.Typing.{Typed, Env, Wanted, Nothing, Wants, Unclear, wanted_of, expr_place}
 use Rattle.zk_typed.specs.Making.{is_container}
@@ -57,19 +57,28 @@ abbrev pub init_place : Env → Init → Place
 init_place env (init.Value one) = expr_place env one
 init_place env (init.Braces place values comma) = place_in env.home place
 
--- an initial value that rests on names whose types rest on it has no type that can be told
+-- An initial value that rests on names whose types rest on it has no type that can be told. What else is broken in it hides that.
 abbrev pub told : Place → Checked Typed → Checked Typed
 told place (Ok one) = Ok one
-told place (Err rules) = if is_circular rules then broken rule.WrongType place else Err rules
+told place (Err rules) = if is_circular rules then of_others (filter (λ one. not (is_mark one)) rules) else Err rules
+  where
+    of_others : List Broken → Checked Typed
+    of_others [] = broken rule.WrongType place
+    of_others (first ∷ others) = Err (first ∷ others)
 
-abbrev pub init_checked : Scripts → Home → Wanted → Init → Checked Typed
-init_checked scripts home wanted one =
+-- the initial value that tells a name's type
+abbrev pub telling_value : Scripts → Home → Init → Checked Typed
+telling_value scripts home one =
     let env = bodiless scripts home (told_type scripts) in
-    told (init_place env one) (init_typed env wanted one)
+    told (init_place env one) (init_typed env Nothing one)
+
+-- a value that is given to a name whose type is told elsewhere
+abbrev pub init_checked : Scripts → Home → Wanted → Init → Checked Typed
+init_checked scripts home wanted one = init_typed (env_at scripts home) wanted one
 
 abbrev pub value_rules : Scripts → Home → Place → Option «Type» → Option Init → Checked ValueType
 value_rules scripts home place None None = broken rule.WrongType place
-value_rules scripts home place None (Some one) = init_checked scripts home Nothing one >>= (λ given. Ok given.type)
+value_rules scripts home place None (Some one) = telling_value scripts home one >>= (λ given. Ok given.type)
 value_rules scripts home place (Some tree) None = type_rules scripts home tree >> type_of scripts home tree
 value_rules scripts home place (Some tree) (Some one) =
     both (type_rules scripts home tree) (init_checked scripts home (wanted_of (type_of scripts home tree)) one) >> type_of scripts home tree

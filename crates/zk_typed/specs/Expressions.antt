@@ -1,5 +1,5 @@
 -- The typed form of an expression, and of what can be assigned.
-use Rattle.std.specs.Prelude.{ℕ, zero, suc, Bool, true, false, not, ◌||◌, List, [], ◌∷◌, Option, Some, None, Ok, if◌then◌else◌}
+use Rattle.std.specs.Prelude.{ℕ, zero, suc, Bool, true, false, not, ◌||◌, List, [], ◌∷◌, Option, Some, None, Ok, Err, if◌then◌else◌}
 use Rattle.zk_tree.specs.declared.decl.Lasting.{Lasting}
 use Rattle.zk_tree.specs.declared.decl.Lasting.TheVariants as lasting
 use Rattle.zk_tree.specs.declared.expr.Expr.{Expr, out-Expr}
@@ -9,6 +9,8 @@ use Rattle.zk_tree.specs.declared.expr.Item.{Item}
 use Rattle.zk_tree.specs.declared.expr.Link.{Link}
 use Rattle.zk_tree.specs.declared.expr.Part.{Part, out-Part}
 use Rattle.zk_tree.specs.declared.name.Name.{Name}
+use Rattle.zk_tree.specs.declared.operator.Assigning.{Assigning}
+use Rattle.zk_tree.specs.declared.operator.Assigning.TheVariants as assigning
 use Rattle.zk_tree.specs.declared.operator.Comparing.{Comparing}
 use Rattle.zk_tree.specs.declared.operator.Comparing.TheVariants as comparing
 use Rattle.zk_tree.specs.declared.operator.Level.{Level}
@@ -27,15 +29,15 @@ use Rattle.zk_typed.specs.declared.script.primitive.Primitive.TheVariants as pri
 use Rattle.zk_typed.specs.declared.script.primitive.Relation.{Relation}
 use Rattle.zk_typed.specs.declared.script.primitive.Unary.TheVariants as unary
 use Rattle.zk_typed.specs.declared.script.types.SimpleType.TheVariants as simple
-use Rattle.zk_typed.specs.Checked.{Checked, broken, ◌>>=◌, ◌>>◌, both, require}
+use Rattle.zk_typed.specs.Checked.{Checked, broken, elsewhere, ◌>>=◌, ◌>>◌, both, require}
 use Rattle.zk_typed.specs.Forms as form
 use Rattle.zk_typed.specs.Making.{container_typed, brackets_typed, members_in, post_typed, called_name, hook_typed}
 use Rattle.zk_typed.specs.Names.{Declared, Meant, Variable}
 use Rattle.zk_typed.specs.Operations.{same_type, relation_of}
 use Rattle.zk_typed.specs.Predefined as type
 use Rattle.zk_typed.specs.Resolving.{has_attr}
-use Rattle.zk_typed.specs.Types.{ValueType, Simple, Record}
-use Rattle.zk_typed.specs.Typing.{Typed, typed, Env, at, apply, expr_place, Wanted, Nothing, Wants, Unclear, Check, fit, constant, interval_of, literal_typed, name_typed, chained, related, beside, membership, left_of_in, found, local_named, number_among, is_variable}
+use Rattle.zk_typed.specs.Types.{ValueType, Simple, Record, Set, Vector}
+use Rattle.zk_typed.specs.Typing.{Typed, typed, Env, at, apply, expr_place, Wanted, Nothing, Wants, Unclear, Check, fit, constant, interval_of, literal_typed, name_typed, chained, related, beside, membership, left_of_in, found, local_meant, number_among, is_variable}
 use Rattle.zk_typed.specs.Within.{depth_max}
 use Rattle.std.specs.Prelude.{codes}
 
@@ -104,7 +106,7 @@ left_side check env one = of_form (out-Expr one)
     place = expr_place env one
 
     of_form : Expr-F Expr Item Part Link → Checked Side
-    of_form (written.Name name) = name_side env name (local_named name.text 0 env.locals)
+    of_form (written.Name name) = name_side env name (local_meant name.text env.locals)
     of_form (written.Post first parts) =
         if ends_in_element parts then check Nothing one >>= element_side place else check Nothing one >> broken rule.WrongType place
     of_form other = check Nothing one >> broken rule.WrongType place
@@ -112,6 +114,36 @@ left_side check env one = of_form (out-Expr one)
 -- a side is given a value: no constant is, nor a global whose entries expire
 abbrev pub assignable : Place → Side → Checked (Unit {0})
 assignable place one = require (not one.fixed) rule.FixedGlobal place >> require (not one.expires) rule.Attribute place
+
+-- Values that are assigned -----------------------------------------------------------------------------------------
+
+-- what may be added to or taken from a value of a type
+abbrev pub added_type : Assigning → ValueType → Option ValueType
+added_type by (Simple simple.Count) = Some type.count
+added_type by (Simple simple.Int) = Some type.int
+added_type by (Simple simple.Interval) = Some type.interval
+added_type assigning.Add (Simple simple.String) = Some type.string
+added_type by (Set keys) = Some (Set keys)
+added_type assigning.Add (Vector item) = Some item
+added_type by other = None
+
+-- a left side; where it is broken, what is given to it is judged by itself
+abbrev pub rest_of : Check → Expr → Checked Side → Checked Side
+rest_of check right (Ok side) = Ok side
+rest_of check right (Err rules) = both {A = Side} (Err rules) (check Unclear right) >> elsewhere
+
+-- what a left side takes by an assignment
+abbrev pub assigned_type : Assigning → ValueType → Option ValueType
+assigned_type assigning.Set type = Some type
+assigned_type by type = added_type by type
+
+abbrev pub option_wanted : Option ValueType → Wanted
+option_wanted None = Nothing
+option_wanted (Some type) = Wants type
+
+-- the parts of an assignment that stands where a value should
+abbrev pub assigned_parts : Check → Env → Assigning → Expr → Expr → Checked Typed
+assigned_parts check env by left right = rest_of check right (left_side check env left) >>= (λ side. check (option_wanted (assigned_type by side.type)) right)
 
 -- Operators before an operand --------------------------------------------------------------------------------------
 
@@ -195,7 +227,7 @@ expr_to (suc depth) env wanted one = of_form (expr_to depth env) (out-Expr one)
     fitting given = given >>= fit (expr_place env one) wanted
 
     of_form : Check → Expr-F Expr Item Part Link → Checked Typed
-    of_form check (written.Assign a operator b) = both (check Nothing a) (check Nothing b) >> broken rule.WrongType (expr_place env one)
+    of_form check (written.Assign a operator b) = assigned_parts check env operator a b >> broken rule.WrongType (expr_place env one)
     of_form check (written.Choice test a b) = choice check env wanted test a b
     of_form check (written.Chain level first links) = fitting (chained check env level (expr_place env first) (check (wanted_first level) first) links)
     of_form check (written.Compare a operator b) = fitting (compared check env operator a b)

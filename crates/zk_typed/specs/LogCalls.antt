@@ -34,6 +34,7 @@ use Rattle.zk_typed.specs.declared.rule.Rule.TheVariants as rule
 use Rattle.zk_typed.specs.declared.script.log_call.LogCall.{LogCall}
 use Rattle.zk_typed.specs.declared.script.log_call.LogCall.TheVariants as log
 use Rattle.zk_typed.specs.declared.script.primitive.Primitive.TheVariants as primitive
+use Rattle.zk_typed.specs.declared.script.types.SimpleType.TheVariants as simple
 use Rattle.zk_typed.specs.Checked.{Checked, broken, elsewhere, ◌>>=◌, ◌>>◌, both, each, require, or_broken}
 use Rattle.zk_typed.specs.Columns.{type_name}
 use Rattle.zk_typed.specs.Forms as form
@@ -42,7 +43,7 @@ use Rattle.zk_typed.specs.Names.{Declared, Meant, Word, Event, Hook, Log, LogFun
 use Rattle.zk_typed.specs.Operations.{same_type}
 use Rattle.zk_typed.specs.Predefined as type
 use Rattle.zk_typed.specs.Resolving.{Scripts, FieldInfo, place_in, type_named, params_of, fields_of}
-use Rattle.zk_typed.specs.Types.{ValueType, Record}
+use Rattle.zk_typed.specs.Types.{ValueType, Record, Set}
 use Rattle.zk_typed.specs.Within.{depth_max}
 use Rattle.zk_typed.specs.Typing.{Typed, typed, Env, at, expr_place, Nothing, Wants, Unclear, Wanted, Check, number_among, is_event, is_hook, is_local, found, on_item}
 
@@ -322,12 +323,13 @@ is_path_byte byte = (nat_le 97 byte && nat_le byte 122) || (nat_le 48 byte && na
 abbrev pub is_path : List ℕ → Bool
 is_path bytes = nat_le 1 (length bytes) && nat_le (length bytes) 64 && list_all is_path_byte bytes
 
-abbrev pub path_literal : Env → Expr → Checked (List ℕ)
-path_literal env one = or_broken (text_of one) rule.Format (expr_place env one) >>= (λ bytes. require (is_path bytes) rule.Format (expr_place env one) >> Ok bytes)
+abbrev pub path_literal : Check → Env → Expr → Checked (List ℕ)
+path_literal check env one = check (Wants type.string) one >> (or_broken (text_of one) rule.Format (expr_place env one) >>= (λ bytes.
+    require (is_path bytes) rule.Format (expr_place env one) >> Ok bytes))
 
 -- the rows that tell faults have the path `reporter` for themselves
-abbrev pub log_path : Env → Expr → Checked (List ℕ)
-log_path env one = path_literal env one >>= (λ bytes. require (not (bytes_eq bytes (codes "reporter"))) rule.Twice (expr_place env one) >> Ok bytes)
+abbrev pub log_path : Check → Env → Expr → Checked (List ℕ)
+log_path check env one = path_literal check env one >>= (λ bytes. require (not (bytes_eq bytes (codes "reporter"))) rule.Twice (expr_place env one) >> Ok bytes)
 
 -- without `$path`, that of the word's module in lower case
 abbrev pub path_or_module : Place → Declared → Option (List ℕ) → Checked (List ℕ)
@@ -383,9 +385,12 @@ abbrev pub policy_setting : Env → Option RecordNo → Expr → Checked HookNo
 policy_setting env number one =
     named_signature env hook_kind (option_map (λ one. Record one ∷ type.log_id ∷ Record type.filter_record ∷ []) number) one >>= (λ declared. Ok (record { 0 = number_among is_hook env.scripts declared }))
 
+abbrev pub string_set : ValueType
+string_set = Set (simple.String ∷ [])
+
 -- the names of `set("a", "b")`
-abbrev pub names_setting : Env → Expr → Checked (List (List ℕ))
-names_setting env one = of_form (out-Expr one)
+abbrev pub names_setting : Check → Env → Expr → Checked (List (List ℕ))
+names_setting check env one = check (Wants string_set) one >> of_form (out-Expr one)
   where
     literal_in : Item-F Expr Item Part Link → Option (List ℕ)
     literal_in (written.Value value) = text_of value
@@ -442,7 +447,7 @@ create_typed check env place word brackets items =
     let columns = optional (not_local env) (setting (codes "columns") items) >> columns_type env.scripts env.home items in
     both (only_settings check env (codes "columns" ∷ codes "ev" ∷ codes "path" ∷ codes "policy" ∷ []) [] items)
     (both (both columns (optional (event_setting env (if_known columns)) (setting (codes "ev") items)))
-    (both (optional (log_path env) (setting (codes "path") items)) (optional (policy_setting env (if_known columns)) (setting (codes "policy") items)))) >>= (λ parts.
+    (both (optional (log_path check env) (setting (codes "path") items)) (optional (policy_setting env (if_known columns)) (setting (codes "policy") items)))) >>= (λ parts.
     or_broken parts.1.0.0 rule.Field brackets >>= (λ number.
     path_or_module place word parts.1.1.0 >>= (λ path.
     Ok (log_form (log.Create (log_no env word) parts.1.0.1 path parts.1.1.1 (places_of (λ leaf. leaf.log) 0 (leaves env.scripts number)))))))
@@ -463,8 +468,8 @@ of_known (Some number) of_type = Ok (of_type number)
 abbrev pub filter_typed : Check → Env → Declared → Option RecordNo → Place → List Item → Checked Typed
 filter_typed check env word known brackets items =
     both (both (only_settings check env (codes "name" ∷ codes "path" ∷ codes "include" ∷ codes "exclude" ∷ codes "policy" ∷ []) [] items)
-    (both (optional (path_literal env) (setting (codes "name") items)) (optional (log_path env) (setting (codes "path") items))))
-    (both (both (optional (names_setting env) (setting (codes "include") items)) (optional (names_setting env) (setting (codes "exclude") items)))
+    (both (optional (path_literal check env) (setting (codes "name") items)) (optional (log_path check env) (setting (codes "path") items))))
+    (both (both (optional (names_setting check env) (setting (codes "include") items)) (optional (names_setting check env) (setting (codes "exclude") items)))
     (optional (policy_setting env known) (setting (codes "policy") items))) >>= (λ parts.
     or_broken parts.0.1.0 rule.Field brackets >>= (λ name.
     of_known known (λ number. log_form (log.AddFilter (log_no env word) name parts.0.1.1 parts.1.1
@@ -492,7 +497,7 @@ row_wanted (Some number) = Wants (Record number)
 abbrev pub log_with : Check → Env → Place → LogFunction → Declared → Option RecordNo → Expr → Checked Typed
 log_with check env place CreateStream word known one = with_settings check env (create_typed check env place word) one
 log_with check env place AddFilter word known one = with_settings check env (filter_typed check env word known) one
-log_with check env place RemoveFilter word known one = path_literal env one >>= (λ name. Ok (log_form (log.RemoveFilter (log_no env word) name)))
+log_with check env place RemoveFilter word known one = path_literal check env one >>= (λ name. Ok (log_form (log.RemoveFilter (log_no env word) name)))
 log_with check env place RemoveDefaultFilter word known one = broken rule.Arguments place
 log_with check env place Write word known one = check (row_wanted known) one >>= (λ row. Ok (typed type.bool (form.Write (log_no env word) row.expr)))
 

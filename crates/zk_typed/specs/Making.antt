@@ -27,7 +27,7 @@ use Rattle.zk_typed.specs.declared.script.types.SimpleType.TheVariants as simple
 use Rattle.zk_typed.specs.Checked.{Checked, broken, elsewhere, ◌>>=◌, ◌>>◌, both, each, require, or_broken}
 use Rattle.zk_typed.specs.Forms.{Exprs, Givens}
 use Rattle.zk_typed.specs.Forms as form
-use Rattle.zk_typed.specs.LogCalls.{log_typed}
+use Rattle.zk_typed.specs.LogCalls.{item_expr, log_typed}
 use Rattle.zk_typed.specs.Names.{Log, Declared, Meant, KnownType, WrittenType, Hook, Function, BuiltInFunction, Signature}
 use Rattle.zk_typed.specs.Operations.{same_type, built_in_type}
 use Rattle.zk_typed.specs.Predefined as type
@@ -81,12 +81,16 @@ is_wire env one = of_field (slice_get (fields_of env.scripts one.«record».0) o
 
 -- Elements -----------------------------------------------------------------------------------------------------------
 
--- keys of these types
+-- the keys that have a type
+abbrev pub fitted_keys : Env → List SimpleType → List Expr → List Typed → Checked (List Typed)
+fitted_keys env (key ∷ keys) (one ∷ others) (first ∷ more) =
+    both (or_broken (fits (Simple key) first) rule.WrongType (expr_place env one)) (fitted_keys env keys others more) >>= (λ parts. Ok (parts.0 ∷ parts.1))
+fitted_keys env keys others more = Ok []
+
+-- keys of these types, as many as there are
 abbrev pub keys_fit : Env → Place → List SimpleType → List Expr → List Typed → Checked (List Typed)
-keys_fit env place [] [] [] = Ok []
-keys_fit env place (key ∷ keys) (one ∷ others) (first ∷ more) =
-    both (or_broken (fits (Simple key) first) rule.WrongType (expr_place env one)) (keys_fit env place keys others more) >>= (λ parts. Ok (parts.0 ∷ parts.1))
-keys_fit env place keys others more = broken rule.WrongType place
+keys_fit env place keys written values =
+    fitted_keys env keys written values >>= (λ fitting. require (length keys == length values) rule.WrongType place >> Ok fitting)
 
 abbrev pub element : Env → Place → Typed → List Expr → List Typed → Checked Typed
 element env place one written keys = of_type one.type
@@ -229,13 +233,17 @@ entry check env keys value one = of_form (out-Expr one)
     of_form (written.Assign left assigning.Set right) = of_brackets right (bracketed left)
     of_form other = wrong
 
--- a member where no container of its kind is wanted: an entry by its keys and its value, and several keys one by one
+-- the values of items, whatever they are items of
+abbrev pub item_values : Check → Wanted → List Item → Checked (List Typed)
+item_values check wanted items = each (λ item. check wanted (item_expr item)) items
+
+-- a member where no container of its kind is wanted: an entry by its keys and its value, and what stands in brackets one by one
 abbrev pub loose : Check → Env → Wanted → Expr → Checked (List Typed)
 loose check env wanted one = of_form (out-Expr one)
   where
     of_keys : Option (ℕ × List Item) → Checked (List Typed)
     of_keys None = one_value check wanted one
-    of_keys (Some items) = each (argument check env wanted) items.1
+    of_keys (Some items) = item_values check wanted items.1
 
     of_entry : Expr → Option (ℕ × List Item) → Checked (List Typed)
     of_entry right None = one_value check wanted one
@@ -307,9 +315,9 @@ braces_typed check env place values wanted = of_wanted wanted
     of_wanted other = members (loose check env Nothing) >> broken rule.WrongType place
 
 abbrev pub brackets_typed : Check → Env → Place → List Item → Wanted → Checked Typed
-brackets_typed check env place items Unclear = each (argument check env Unclear) items >> elsewhere
+brackets_typed check env place items Unclear = item_values check Unclear items >> elsewhere
 brackets_typed check env place items (Wants (Record number)) = record_typed check env place number items
-brackets_typed check env place items other = each (argument check env Nothing) items >> broken rule.WrongType place
+brackets_typed check env place items other = item_values check Nothing items >> broken rule.WrongType place
 
 -- Calls --------------------------------------------------------------------------------------------------------------
 
@@ -376,7 +384,7 @@ printed check env one = check Nothing one >>= printable env one
 
 -- the text of `fmt`, a literal, with its verbs
 abbrev pub format_text : Check → Env → Expr → Checked (Typed × List ℕ)
-format_text check env one = check Nothing one >>= (λ text. or_broken (option_verbs (text_literal one)) rule.Format (expr_place env one) >>= (λ verbs. Ok (text, verbs)))
+format_text check env one = check (Wants type.string) one >>= (λ text. or_broken (option_verbs (text_literal one)) rule.Format (expr_place env one) >>= (λ verbs. Ok (text, verbs)))
 
 abbrev pub fmt_typed : Check → Env → Place → List Item → Checked Called
 fmt_typed check env place [] = broken rule.Arguments place
@@ -388,11 +396,9 @@ abbrev pub cat_typed : Check → Env → List Item → Checked Called
 cat_typed check env items = each (on_item check env (printed check env)) items >>= (λ args. gives (typed type.string (built_in_call built_in.Cat args)))
 
 abbrev pub copy_typed : Check → Env → Place → List Item → Checked Called
-copy_typed check env place items = each (argument check env Nothing) items >>= of_one
-  where
-    of_one : List Typed → Checked Called
-    of_one (one ∷ []) = gives (typed one.type (built_in_call built_in.Copy (one ∷ [])))
-    of_one others = broken rule.Arguments place
+copy_typed check env place [] = broken rule.Arguments place
+copy_typed check env place (first ∷ others) = argument check env Nothing first >>= (λ one.
+    require (length others == 0) rule.Arguments place >> gives (typed one.type (built_in_call built_in.Copy (one ∷ []))))
 
 abbrev pub by_row : Check → Env → Place → BuiltIn → List Item → Option (List ValueType × ValueType) → Checked Called
 by_row check env place function items None = broken rule.WrongType place

@@ -58,13 +58,15 @@ pub record Declared : Type 0 where
 
 -- Names and modules ------------------------------------------------------------------------------------------------
 
--- the part before `::`, where the name has one
+abbrev pub first_of : {A : Type 0} → Option A → Option A → Option A
+first_of (Some a) b = Some a
+first_of None b = b
+
+-- the part before the last `::`, where the name has one: a module's own name may have one
 abbrev pub module_in : List ℕ → Option (List ℕ)
 module_in [] = None
-module_in (byte ∷ bytes) = elim (starts_with nat_eq (byte ∷ bytes) (codes "::")) [
-  | true ↦ Some []
-  | false ↦ option_map (λ front. byte ∷ front) (module_in bytes)
-]
+module_in (byte ∷ bytes) =
+    first_of (option_map (λ front. byte ∷ front) (module_in bytes)) (if starts_with nat_eq (byte ∷ bytes) (codes "::") then Some [] else None)
 
 abbrev pub with_module : List ℕ → List ℕ → List ℕ
 with_module [] name = name
@@ -87,10 +89,6 @@ is_open from_module whole = bytes_eq (module_of whole) [] || bytes_eq (module_of
 
 abbrev pub find_whole : List Declared → List ℕ → List ℕ → Option Declared
 find_whole names from_module whole = find (λ one. bytes_eq one.name whole && (one.exported || is_open from_module whole)) names
-
-abbrev pub first_of : {A : Type 0} → Option A → Option A → Option A
-first_of (Some a) b = Some a
-first_of None b = b
 
 -- in a module, a name without `::` is one of the module, or else one of none
 abbrev pub look_up : List Declared → List ℕ → List ℕ → Option Declared

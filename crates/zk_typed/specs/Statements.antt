@@ -34,17 +34,17 @@ use Rattle.zk_typed.specs.declared.script.stmt.Names.{Names}
 use Rattle.zk_typed.specs.declared.script.types.SimpleType.{SimpleType}
 use Rattle.zk_typed.specs.declared.script.types.SimpleType.TheVariants as simple
 use Rattle.zk_typed.specs.Checked.{Checked, broken, elsewhere, ◌>>=◌, ◌>>◌, both, each, require}
-use Rattle.zk_typed.specs.Expressions.{Side, left_side, assignable, expr_typed}
+use Rattle.zk_typed.specs.Expressions.{Side, left_side, assignable, added_type, rest_of, expr_typed}
 use Rattle.zk_typed.specs.Forms as form
 use Rattle.zk_typed.specs.LoadOrder.{Home}
-use Rattle.zk_typed.specs.Making.{Called, Gives, Performs, arguments, argument, wrong_name, printed, keys_fit, parts_typed, call_of, called_name, braces_typed, plain_shape, is_wire, wire_read}
+use Rattle.zk_typed.specs.Making.{Called, Gives, Performs, arguments, argument, wrong_name, printed, keys_fit, post_typed, call_of, called_name, braces_typed, plain_shape, is_wire, wire_read}
 use Rattle.zk_typed.specs.Names.{Declared, Meant, Event}
 use Rattle.zk_typed.specs.Operations.{same_type}
 use Rattle.zk_typed.specs.Predefined as type
 use Rattle.zk_typed.specs.Resolving.{Scripts, params_of, type_of, hushed}
 use Rattle.zk_typed.specs.Types.{ValueType, Simple, Record, Table, Set, Vector}
 use Rattle.zk_typed.specs.Within.{depth_max, mentions}
-use Rattle.zk_typed.specs.Typing.{Typed, Env, LocalName, Wanted, Nothing, Wants, Unclear, wanted_of, Check, at, exprs, expr_place, found, is_event, number_among, local_named}
+use Rattle.zk_typed.specs.Typing.{Typed, Env, LocalName, Wanted, Nothing, Wants, Unclear, wanted_of, Check, at, exprs, expr_place, found, is_event, number_among, local_named, local_meant}
 
 -- what a body is of: a function with what its result has to be, a hook, or a handler
 pub data Within : Type 0 where
@@ -113,16 +113,6 @@ assigned env place side one = of_left side.left side.operands (wire_read env one
     of_left (left.Field field) (form.AndExpr to form.NoExpr) (Some read) = moved field to read
     of_left other operands read = plainly
 
--- what may be added to or taken from a value of a type
-abbrev pub added_type : Assigning → ValueType → Option ValueType
-added_type by (Simple simple.Count) = Some type.count
-added_type by (Simple simple.Int) = Some type.int
-added_type by (Simple simple.Interval) = Some type.interval
-added_type assigning.Add (Simple simple.String) = Some type.string
-added_type by (Set keys) = Some (Set keys)
-added_type assigning.Add (Vector item) = Some item
-added_type by other = None
-
 abbrev pub binary_of : Assigning → Binary
 binary_of assigning.Subtract = Minus
 binary_of other = Plus
@@ -131,10 +121,6 @@ abbrev pub added : Check → Place → Place → Assigning → Side → Expr →
 added check place left_place by side right None = check Nothing right >> broken rule.WrongType left_place
 added check place left_place by side right (Some wanted) = check (Wants wanted) right >>= (λ one.
     assignable place side >> Ok (form.Do place (action.Update side.left (binary_of by)) (form.AndExpr one.expr side.operands)))
-
-abbrev pub rest_of : Check → Expr → Checked Side → Checked Side
-rest_of check right (Ok side) = Ok side
-rest_of check right (Err rules) = both {A = Side} (Err rules) (check Unclear right) >> elsewhere
 
 abbrev pub assignment : Check → Env → Place → Expr → Assigning → Expr → Checked form.Stmt
 assignment check env place left by right = rest_of check right (left_side check env left) >>= by_operator by
@@ -175,7 +161,7 @@ element_of check env place tables one = of_form (out-Expr one)
     of_index : Expr → Option (List Part × List Expr) → Checked form.Exprs
     of_index first None = check Nothing one >> broken rule.WrongType place
     of_index first (Some found) =
-        both (parts_typed check env (expr_place env first) (check Nothing first) found.0) (each (check Nothing) found.1) >>= (λ parts.
+        both (post_typed check env (expr_place env first) first found.0 (called_name first found.0)) (each (check Nothing) found.1) >>= (λ parts.
         of_keys found.1 parts (keys_in tables parts.0.type))
 
     of_form : Expr-F Expr Item Part Link → Checked form.Exprs
@@ -276,7 +262,7 @@ local_type context locals None = None
 local_type context locals (Some tree) = Some (each seen (mentions tree) >> type_of context.scripts context.home tree)
   where
     seen : Name → Checked (Unit {0})
-    seen name = require (not (is_some (local_named name.text 0 locals))) rule.WrongType (place_of context name.place)
+    seen name = require (not (is_some (local_meant name.text locals))) rule.WrongType (place_of context name.place)
 
 abbrev pub local_wants : Option (Checked ValueType) → Wanted
 local_wants None = Nothing
@@ -311,7 +297,7 @@ local_stated context locals place name tree init =
     let type = local_type context locals tree in
     let made = local_value context locals (place_of context place) type init in
     let twice = require (not (is_some (local_named name.text 0 locals))) rule.Twice (place_of context place) in
-    stated (made >>= (λ one. twice >> Ok one.1)) (locals ++ record { name = name.text; type = type_for type made } ∷ [])
+    stated (both twice made >>= (λ parts. Ok parts.1.1)) (locals ++ record { name = name.text; type = type_for type made } ∷ [])
 
 abbrev pub return_typed : Context → Check → Place → Option Expr → Checked form.Stmt
 return_typed context check place value = of_both context.within value

@@ -2,6 +2,7 @@
 -- breaks rules. Where an int is wanted a count is converted.
 use Rattle.std.specs.Prelude.{ℕ, ◌+◌, ◌-◌, ◌*◌, ◌^◌, pos, Bool, true, false, ◌&&◌, List, [], ◌∷◌, ◌++◌, filter, Option, Some, None, Ok, Err, is_some, if◌then◌else◌}
 use Rattle.std.specs.Int.{int_min}
+use Rattle.std.specs.List.{list_all}
 use Rattle.std.specs.Str.{bytes_eq}
 use Rattle.zk_base.specs.declared.network.Addr.TheVariants.{V4}
 use Rattle.zk_tree.specs.declared.decl.Lasting.TheVariants as lasting
@@ -33,7 +34,7 @@ use Rattle.zk_typed.specs.Checked.{Checked, broken, ◌>>=◌, ◌>>◌, both, e
 use Rattle.zk_typed.specs.Forms.{Exprs, Givens}
 use Rattle.zk_typed.specs.Forms as form
 use Rattle.zk_typed.specs.LoadOrder.{Home}
-use Rattle.zk_typed.specs.Names.{Declared, Meant, Word, Variable, Event, Hook, Function, look_up, count_before}
+use Rattle.zk_typed.specs.Names.{Declared, Meant, Word, Variable, Event, Hook, Function, look_up, module_in, count_before}
 use Rattle.zk_typed.specs.Operations.{same_type, arithmetic_of, takes_left, binary_of, relates}
 use Rattle.zk_typed.specs.Predefined as type
 use Rattle.zk_typed.specs.Predefined.{record_no}
@@ -181,8 +182,12 @@ abbrev pub local_named : List ℕ → ℕ → List LocalName → Option (ℕ × 
 local_named name number [] = None
 local_named name number (one ∷ others) = elim (bytes_eq one.name name) [ true ↦ Some (number, one.type) | false ↦ local_named name (number + 1) others ]
 
+-- the local that a name means: a name with `::` is one of a module's
+abbrev pub local_meant : List ℕ → List LocalName → Option (ℕ × Checked ValueType)
+local_meant name locals = if is_some (module_in name) then None else local_named name 0 locals
+
 abbrev pub is_local : Env → Name → Bool
-is_local env name = is_some (local_named name.text 0 env.locals)
+is_local env name = is_some (local_meant name.text env.locals)
 
 -- what a name means; a local hides what else has its name, and is a variable
 abbrev pub found : Env → Name → Option Declared
@@ -208,7 +213,7 @@ name_value env name (Some local) = local.1 >>= (λ type. Ok (typed type (form.Lo
 name_value env name None = declared_value env (at env name.place) (found env name)
 
 abbrev pub name_typed : Env → Name → Checked Typed
-name_typed env name = name_value env name (local_named name.text 0 env.locals)
+name_typed env name = name_value env name (local_meant name.text env.locals)
 
 -- Operators --------------------------------------------------------------------------------------------------------
 
@@ -259,12 +264,11 @@ chained check env level place before (link ∷ links) = chained check env level 
 
 -- `in`: keys in a table or set, a string in a string, an address in a subnet, an index in a vector
 abbrev pub is_left_of_in : List Typed → Bool
-is_left_of_in (one ∷ []) = is_simple one.type
+is_left_of_in keys = list_all (λ key. is_simple key.type) keys
   where
     is_simple : ValueType → Bool
     is_simple (Simple simple) = true
     is_simple other = false
-is_left_of_in others = true
 
 -- values as the keys of a table or set
 abbrev pub as_keys : List SimpleType → List Typed → Option (List Typed)

@@ -1,4 +1,4 @@
-use Rattle.std.proofs.Common.{true, false, ◌++◌, flat_map, fold, ap, ◌∙◌}
+use Rattle.std.proofs.Common.{◌++◌, flat_map, fold, ap, ◌∙◌}
 use Rattle.zk_typed.specs.Declaring.{predefined_names, with_words}
 use Rattle.zk_typed.specs.LoadOrder.{load_order}
 use Rattle.zk_typed.specs.Resolving.{Scripts}
@@ -13,5 +13,5 @@ unfolding scripts_in
 returns c =
     same_scripts _ _ _ _ _ _ (ap (λ (x : Scripts). x.stated) c.in_ok-known.ensures) (ap (λ (x : Scripts). x.nodes) c.in_ok-known.ensures)
     (c.in_ok-table.ensures ∙
-    ap (λ (x : Scripts). fold (with_body false) (fold (with_body true) (predefined_names ++ flat_map (with_words x) x.stated) x.stated) x.stated) c.in_ok-known.ensures ∙
+    ap (λ (x : Scripts). fold (with_body 2) (fold (with_body 1) (fold (with_body 0) (predefined_names ++ flat_map (with_words x) x.stated) x.stated) x.stated) x.stated) c.in_ok-known.ensures ∙
     all_known (load_order (files_of c.args.files.now)))

@@ -1,5 +1,6 @@
 pub mod Views
 mod KindRows
+pub mod BegunLaws
 pub mod RuleLaws
 pub mod StatedLaws
 pub mod EdgeLaws

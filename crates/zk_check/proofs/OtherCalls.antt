@@ -1,5 +1,5 @@
 -- A call of a name that means no function of the log framework is no call of it.
-use Rattle.std.proofs.Common.{◌≡◌, ℕ, ◌+◌, zero, suc, Bool, true, false, List, [], ◌∷◌, Option, Some, None, Ok, Err, refl, ap, sym, ◌∙◌}
+use Rattle.std.proofs.Common.{◌≡◌, ℕ, ◌+◌, ◌==◌, length, zero, suc, Bool, true, false, List, [], ◌∷◌, Option, Some, None, Ok, Err, refl, ap, sym, ◌∙◌}
 use Rattle.zk_tree.specs.declared.expr.Expr.{Expr, out-Expr}
 use Rattle.zk_tree.specs.declared.expr.Expr.TheOpen.{Part-F}
 use Rattle.zk_tree.specs.declared.expr.Expr.TheOpen as written
@@ -114,16 +114,16 @@ module _ (check : Check) (env : Env) where
       (λ parts. require (verbs_take parts.0.1 parts.1) rule.Format place >> gives (typed type.string (built_in_call built_in.Fmt (parts.0.0 ∷ parts.1))))
       (λ parts. then_call (require (verbs_take parts.0.1 parts.1) rule.Format place) (λ done. gives (typed type.string (built_in_call built_in.Fmt (parts.0.0 ∷ parts.1)))) (λ done. refl))
 
-  copy_plain : (place : Place) (items : List Item) (found : Checked (List Typed)) → each (argument check env Nothing) items ≡ found → PlainCall (copy_typed check env place items)
-  copy_plain place items (Ok []) e = rw e refl
-  copy_plain place items (Ok (one ∷ [])) e = rw e refl
-  copy_plain place items (Ok (one ∷ two ∷ others)) e = rw e refl
-  copy_plain place items (Err rules) e = rw e refl
+  copy_plain : (place : Place) (items : List Item) → PlainCall (copy_typed check env place items)
+  copy_plain place [] = refl
+  copy_plain place (first ∷ others) =
+      then_call (argument check env Nothing first) (λ one. require (length others == 0) rule.Arguments place >> gives (typed one.type (built_in_call built_in.Copy (one ∷ []))))
+      (λ one. then_call (require (length others == 0) rule.Arguments place) (λ done. gives (typed one.type (built_in_call built_in.Copy (one ∷ [])))) (λ done. refl))
 
   built_in_plain : (place : Place) (function : BuiltIn) (items : List Item) → PlainCall (built_in_typed check env place function items)
   built_in_plain place built_in.Fmt items = fmt_plain place items
   built_in_plain place built_in.Cat items = then_call (each (on_item check env (printed check env)) items) (λ args. gives (typed type.string (built_in_call built_in.Cat args))) (λ args. refl)
-  built_in_plain place built_in.Copy items = copy_plain place items (each (argument check env Nothing) items) refl
+  built_in_plain place built_in.Copy items = copy_plain place items
   built_in_plain place function items = row_plain place function items (built_in_type function)
 
   result_plain : (number : ℕ) (args : List Typed) (given : Option ValueType) → PlainCall (with_result number args given)

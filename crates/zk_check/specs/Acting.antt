@@ -21,7 +21,7 @@ use Rattle.zk_typed.specs.declared.script.action.Action.TheVariants as action
 use Rattle.zk_typed.specs.declared.script.types.SimpleType.{SimpleType}
 use Rattle.zk_typed.specs.Checked.{Checked, both, each, broken, ◌>>=◌, ◌>>◌}
 use Rattle.zk_typed.specs.Forms as form
-use Rattle.zk_typed.specs.Making.{Called, Gives, Performs, call_of, called_name, keys_fit, parts_typed, printed}
+use Rattle.zk_typed.specs.Making.{Called, Gives, Performs, call_of, called_name, keys_fit, post_typed, printed}
 use Rattle.zk_typed.specs.Statements.{Context, Locals, check_in, do_with, env_of, event_args, keys_in, place_of}
 use Rattle.zk_typed.specs.Types.{ValueType}
 use Rattle.zk_typed.specs.Typing.{Check, Env, Typed, Nothing, exprs, expr_place, found}
@@ -66,7 +66,7 @@ delayed place delay event = both delay event >>= (λ parts. do_with place (actio
 
 -- the parts of an element: what stands before the last index, and the keys in it
 abbrev pub element_parts : Check → Env → Expr → List Part → List Expr → Checked (Typed × List Typed)
-element_parts check env first parts keys = both (parts_typed check env (expr_place env first) (check Nothing first) parts) (each (check Nothing) keys)
+element_parts check env first parts keys = both (post_typed check env (expr_place env first) first parts (called_name first parts)) (each (check Nothing) keys)
 
 -- an element of a set or a table, by its parts
 abbrev pub element_of_parts : Env → Place → Bool → List Expr → Typed × List Typed → Checked form.Exprs

@@ -9,10 +9,10 @@ use Rattle.zk_typed.specs.declared.script.action.Left.{Left}
 use Rattle.zk_typed.specs.declared.script.action.Left.TheVariants as left
 use Rattle.zk_typed.specs.declared.script.primitive.FieldNo.{FieldNo}
 use Rattle.zk_typed.specs.Checked.{Checked, ◌>>=◌, ◌>>◌}
-use Rattle.zk_typed.specs.Expressions.{Side, assignable}
+use Rattle.zk_typed.specs.Expressions.{Side, added_type, assignable}
 use Rattle.zk_typed.specs.Forms as form
 use Rattle.zk_typed.specs.Making.{is_wire, wire_read}
-use Rattle.zk_typed.specs.Statements.{added, added_type, assigned, binary_of}
+use Rattle.zk_typed.specs.Statements.{added, assigned, binary_of}
 use Rattle.zk_typed.specs.Types.{ValueType}
 use Rattle.zk_typed.specs.Typing.{Check, Env, Wants}
 

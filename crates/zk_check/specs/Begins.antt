@@ -17,7 +17,7 @@ use Rattle.zk_typed.specs.Resolving.{type_of}
 use Rattle.zk_typed.specs.Statements.{Context, Locals, place_of, type_for}
 use Rattle.zk_typed.specs.Tells.{Tells}
 use Rattle.zk_typed.specs.Types.{ValueType}
-use Rattle.zk_typed.specs.Typing.{Typed, local_named}
+use Rattle.zk_typed.specs.Typing.{Typed, local_meant, local_named}
 use Rattle.zk_typed.specs.View.{stmt_of}
 use Rattle.zk_typed.specs.View as view
 use Rattle.zk_typed.specs.Within.{mentions}
@@ -25,15 +25,19 @@ use Rattle.zk_check.specs.declared.begins.Begun.{Begun}
 
 -- a name that no local hides
 abbrev pub seen : Context → Locals → Name → Checked (Unit {0})
-seen context locals name = require (not (is_some (local_named name.text 0 locals))) rule.WrongType (place_of context name.place)
+seen context locals name = require (not (is_some (local_meant name.text locals))) rule.WrongType (place_of context name.place)
 
 -- the type that a `local` is declared with
 abbrev pub declared_type : Context → Locals → «Type» → Checked ValueType
 declared_type context locals tree = each (seen context locals) (mentions tree) >> type_of context.scripts context.home tree
 
--- a declaration of a name that no other local has
-abbrev pub once : Name → Locals → Place → Checked form.Stmt → Checked form.Stmt
-once name locals place made = made >>= (λ one. require (not (is_some (local_named name.text 0 locals))) rule.Twice place >> Ok one)
+-- that no other local has a name
+abbrev pub once : Name → Locals → Place → Checked (Unit {0})
+once name locals place = require (not (is_some (local_named name.text 0 locals))) rule.Twice place
+
+-- a declaration with what is said of its name
+abbrev pub named : Checked (Unit {0}) → Checked form.Stmt → Checked form.Stmt
+named name made = both name made >>= (λ parts. Ok parts.1)
 
 abbrev pub stmt_behind : Checked (ValueType × form.Stmt) → Checked form.Stmt
 stmt_behind given = given >>= (λ one. Ok one.1)

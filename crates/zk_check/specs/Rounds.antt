@@ -16,13 +16,6 @@ use Rattle.zk_expression.specs.declared.env.GlobalType.{GlobalType}
 use Rattle.zk_expression.specs.declared.env.Globals.{Globals}
 use Rattle.zk_expression.specs.Envs.{global_of, globals_at}
 
-abbrev pub is_mark : Broken → Bool
-is_mark one = of_rule one.rule
-  where
-    of_rule : Rule → Bool
-    of_rule rule.Recursive = true
-    of_rule other = false
-
 -- the type of an initial value, by those of the globals that it names
 abbrev pub by_init : Scripts → (ℕ → Checked ValueType) → Home → Option Init → Checked ValueType
 by_init scripts others home None = elsewhere

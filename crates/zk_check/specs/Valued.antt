@@ -11,12 +11,12 @@ use Rattle.zk_tree.specs.declared.types.Type.{«Type»}
 use Rattle.zk_typed.specs.declared.rule.Rule.TheVariants as rule
 use Rattle.zk_typed.specs.Checked.{Checked, both, require, ◌>>=◌, ◌>>◌}
 use Rattle.zk_typed.specs.Declarations.{global_attrs, global_type, told_type, type_rules}
-use Rattle.zk_typed.specs.Errors.{bodiless_rules, init_checked, number_of_variable, redef_value, redef_wants, value_rules}
+use Rattle.zk_typed.specs.Errors.{bodiless_rules, init_checked, number_of_variable, redef_value, redef_wants, telling_value, value_rules}
 use Rattle.zk_typed.specs.LoadOrder.{Home}
 use Rattle.zk_typed.specs.Names.{Declared, Meant, Variable, Event, Hook, Function}
 use Rattle.zk_typed.specs.Resolving.{Scripts, has_attr, place_in, type_of}
 use Rattle.zk_typed.specs.Types.{ValueType}
-use Rattle.zk_typed.specs.Typing.{Nothing, wanted_of}
+use Rattle.zk_typed.specs.Typing.{wanted_of}
 use Rattle.zk_names.specs.Scripted.{scripts_in}
 use Rattle.zk_expression.specs.Envs.{globals_at}
 use Rattle.zk_check.specs.declared.rules.variables.Valued.{Valued}
@@ -36,7 +36,7 @@ place_of_init home (init.Braces place values comma) = place_in home place
 
 -- the type of an initial value
 abbrev pub inferred : Scripts → Home → Init → Checked ValueType
-inferred scripts home init = init_checked scripts home Nothing init >>= (λ given. Ok given.type)
+inferred scripts home init = telling_value scripts home init >>= (λ given. Ok given.type)
 
 -- a type that a declaration writes
 abbrev pub written : Scripts → Home → «Type» → Checked ValueType

@@ -2,7 +2,6 @@ ghost use Rattle.std.specs.Prelude.{◌≡◌, IfOk};
 ghost use Rattle.zk_expression.specs.Envs.{env_of, side_of};
 ghost use Rattle.zk_typed.specs.declared.script.action.Action.TheVariants as action;
 ghost use Rattle.zk_typed.specs.declared.script.action.Left.TheVariants as left;
-ghost use Rattle.zk_typed.specs.Checked.{Checked};
 ghost use Rattle.zk_typed.specs.Expressions as rules;
 ghost use Rattle.zk_typed.specs.Forms as form;
 ghost use Rattle.zk_typed.specs.Statements as spec;
@@ -16,8 +15,10 @@ use crate::made::done;
 use sqlite_items::Items;
 use std::alloc::{AllocError, Global};
 use zk_base::Mem;
-use zk_expression::{Env, Read, Side, assignable, expr_typed, is_wire, left_side, wire_read};
-use zk_operator::{Wanted, added_type, both, one_operand, update_of};
+use zk_expression::{
+    Env, Read, Side, assignable, expr_typed, is_wire, left_side, rest_of, wire_read,
+};
+use zk_operator::{Wanted, added_type, one_operand, update_of};
 use zk_tree::{Assigning, Expr as Syntax, Place};
 use zk_typed::script::{Action, Expr, FieldNo, Left, Stmt, ValueType};
 use zk_typed::{Refusal, Rule, one_broken};
@@ -193,33 +194,11 @@ fn added(
     side: Side,
     right: &Syntax,
 ) -> Result<Stmt, Refusal>
-    ensures { Tells stmt_of result (spec.added (rules.expr_typed (env_of env.now)) place left_place operator (side_of side) right.now (spec.added_type operator (side_of side).type)) }
+    ensures { Tells stmt_of result (spec.added (rules.expr_typed (env_of env.now)) place left_place operator (side_of side) right.now (rules.added_type operator (side_of side).type)) }
 {
     match added_type(alloc, operator, &side.value_type)? {
         Some(wanted) => updated(alloc, env, place, operator, side, &wanted, right),
         None => wrong_value(alloc, env, left_place, right),
-    }
-}
-
-/// A left side, or what is broken in it and on the right.
-fn rest_of(
-    alloc: Global,
-    env: &Env<'_>,
-    side: Result<Side, Refusal>,
-    right: &Syntax,
-) -> Result<Side, Refusal>
-    ensures { (wanted : Checked rules.Side) → Tells side_of side wanted → Tells side_of result (spec.rest_of (rules.expr_typed (env_of env.now)) right.now wanted) }
-{
-    match side {
-        Ok(side) => Ok(side),
-        Err(refusal) => {
-            let before: Result<(), Refusal> = Err(refusal);
-            let behind = expr_typed(alloc, env, Wanted::Unclear, right);
-            match both(before, behind) {
-                Ok(_) => unreachable!(),
-                Err(refusal) => Err(refusal),
-            }
-        }
     }
 }
 

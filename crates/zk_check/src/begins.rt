@@ -16,7 +16,7 @@ ghost use Rattle.zk_typed.specs.Typing as typing;
 ghost use Rattle.zk_typed.specs.declared.script.action.Action.TheVariants as action;
 ghost use Rattle.zk_typed.specs.declared.script.action.Left.TheVariants as left;
 ghost use Rattle.zk_typed.specs.View.{expr_of, stmt_of, type_of};
-ghost use Rattle.zk_check.specs.Begins.{Begins, IsKnown, declared_type, given_of, once, seen};
+ghost use Rattle.zk_check.specs.Begins.{Begins, IsKnown, declared_type, given_of, named, once, seen};
 ghost use Rattle.zk_check.specs.Bodies.{Gives, context_of};
 ghost use Rattle.zk_check.specs.Turns.{names_lent};
 
@@ -26,7 +26,7 @@ use crate::mentions::mentions;
 use sqlite_items::Items;
 use std::alloc::{AllocError, Global};
 use zk_base::Mem;
-use zk_expression::{LocalName, init_typed, local_named};
+use zk_expression::{LocalName, init_typed, local_meant, local_named};
 use zk_operator::{Typed, Wanted, also, both, empty_of, one_operand};
 use zk_tree::{Init, Name, Place, Type};
 use zk_typed::script::{Action, Expr, Left, Stmt, ValueType};
@@ -52,7 +52,7 @@ fn next_local(locals: &[LocalName<'_>]) -> Result<u32, Mem>
 fn seen(context: &Context<'_, '_>, locals: &[LocalName<'_>], name: &Name) -> Result<(), Refusal>
     ensures { Tells (λ done. done) result (seen (context_of context.now) (locals_of locals.now) name.now) }
 {
-    match local_named(locals, name.text.as_slice())? {
+    match local_meant(locals, name.text.as_slice())? {
         None => Ok(()),
         Some(_) => {
             let place = place_of(context, name.place);
@@ -307,28 +307,34 @@ fn local_begun(
     }
 }
 
-/// A declaration of a name that no other local has.
-#[tactic(auto, using(zk_operator::proofs::BothLaws::passed))]
+/// That no other local has a name.
 fn once(
     alloc: Global,
     locals: &[LocalName<'_>],
     place: Place,
     name: &Name,
-    made: Result<Stmt, Refusal>,
-) -> Result<Stmt, Refusal>
-    ensures made { (wanted : Checked form.Stmt) → Tells stmt_of made wanted → Tells stmt_of result (once name.now (locals_of locals.now) place wanted) }
-    ensures known { Told result → Told made }
+) -> Result<(), Refusal>
+    ensures { Tells (λ done. done) result (once name.now (locals_of locals.now) place) }
 {
-    match made {
-        Ok(made) => match local_named(locals, name.text.as_slice())? {
-            None => Ok(made),
-            Some(_) => Err(Refusal::Broken(one_broken(alloc, Rule::Twice, place)?)),
-        },
+    match local_named(locals, name.text.as_slice())? {
+        None => Ok(()),
+        Some(_) => Err(Refusal::Broken(one_broken(alloc, Rule::Twice, place)?)),
+    }
+}
+
+/// A declaration with what is said of its name.
+fn named(once: Result<(), Refusal>, made: Result<Stmt, Refusal>) -> Result<Stmt, Refusal>
+    ensures made { (name : Checked (Unit {0})) (wanted : Checked form.Stmt) → Tells (λ done. done) once name → Tells stmt_of made wanted → Tells stmt_of result (named name wanted) }
+    ensures known { Told result → Told once × Told made }
+{
+    match both(once, made) {
+        Ok((_, made)) => Ok(made),
         Err(refusal) => Err(refusal),
     }
 }
 
 /// `local`, whose name is visible from its end on.
+#[tactic(auto, using(crate::proofs::BegunLaws::named_behind))]
 pub fn local_stmt<'a>(
     context: &Context<'a, '_>,
     locals: &mut Vec<LocalName<'a>>,
@@ -341,7 +347,8 @@ pub fn local_stmt<'a>(
 {
     let place = place_of(context, place);
     let Begun { value_type, made } = local_begun(context, locals.as_slice(), place, tree, init);
-    let made = once(context.alloc, locals.as_slice(), place, name, made);
+    let once = once(context.alloc, locals.as_slice(), place, name);
+    let made = named(once, made);
     let name = name.text.as_slice();
     match locals.push(LocalName { name, value_type }) {
         Ok(()) => made,

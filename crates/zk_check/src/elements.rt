@@ -16,7 +16,7 @@ use crate::context::{Context, env_in, place_of};
 use crate::made::done;
 use sqlite_items::Items;
 use std::alloc::{AllocError, Global};
-use zk_expression::{Env, LocalName, each_typed, expr_typed, keys_fit, parts_typed};
+use zk_expression::{Env, LocalName, each_typed, expr_typed, keys_fit, post_typed};
 use zk_operator::{Typed, Wanted, both, keys_in, operands_of};
 use zk_tree::{Expr as Syntax, Part, Place};
 use zk_typed::script::{Action, Expr, Stmt};
@@ -56,8 +56,7 @@ fn element_parts(
 ) -> Result<(Typed, Vec<Typed>), Refusal>
     ensures { Tells parts_in result (element_parts (rules.expr_typed (env_of env.now)) (env_of env.now) first.now parts.now keys.now) }
 {
-    let before = expr_typed(alloc, env, Wanted::Nothing, first);
-    let before = parts_typed(alloc, env, env.expr_place(first), before, parts);
+    let before = post_typed(alloc, env, env.expr_place(first), first, parts);
     let keys = each_typed(alloc, env, keys);
     both(before, keys)
 }

@@ -39,23 +39,18 @@ ends_is (one ∷ []) last = ends_one last
 ends_is (one ∷ (two ∷ before)) last = ends_is (two ∷ before) last
 
 -- one key that fits is one value
-by_one : (one : Checked Typed) (k l : List Typed → Checked Typed) → ((value : Typed) → k (value ∷ []) ≡ l (value ∷ [])) →
-    ((both one (Ok []) >>= (λ (parts : Typed × List Typed). Ok (parts.0 ∷ parts.1))) >>= k) ≡ ((both one (Ok []) >>= (λ (parts : Typed × List Typed). Ok (parts.0 ∷ parts.1))) >>= l)
-by_one (Ok value) k l same = same value
-by_one (Err rules) k l same = refl
-
-after_rules : (one : Checked Typed) (place : Place) (k l : List Typed → Checked Typed) →
-    ((both one (broken rule.WrongType place) >>= (λ (parts : Typed × List Typed). Ok (parts.0 ∷ parts.1))) >>= k) ≡ ((both one (broken rule.WrongType place) >>= (λ (parts : Typed × List Typed). Ok (parts.0 ∷ parts.1))) >>= l)
-after_rules (Ok value) place k l = refl
-after_rules (Err rules) place k l = refl
+by_one : (one : Checked Typed) (place : Place) (as_many : Bool) (k l : List Typed → Checked Typed) → ((value : Typed) → k (value ∷ []) ≡ l (value ∷ [])) →
+    (((both one (Ok []) >>= (λ (parts : Typed × List Typed). Ok (parts.0 ∷ parts.1))) >>= (λ (fitting : List Typed). require (1 == length fitting && as_many) rule.WrongType place >> Ok fitting)) >>= k) ≡
+    (((both one (Ok []) >>= (λ (parts : Typed × List Typed). Ok (parts.0 ∷ parts.1))) >>= (λ (fitting : List Typed). require (1 == length fitting && as_many) rule.WrongType place >> Ok fitting)) >>= l)
+by_one (Ok value) place true k l same = same value
+by_one (Ok value) place false k l same = refl
+by_one (Err rules) place as_many k l same = refl
 
 pub one_key : (env : Env) (place : Place) (key : SimpleType) (written : List Expr) (values : List Typed) (k l : List Typed → Checked Typed) → ((value : Typed) → k (value ∷ []) ≡ l (value ∷ [])) →
     (keys_fit env place (key ∷ []) written values >>= k) ≡ (keys_fit env place (key ∷ []) written values >>= l)
 one_key env place key [] values k l same = refl
 one_key env place key (one ∷ others) [] k l same = refl
-one_key env place key (one ∷ []) (first ∷ []) k l same = by_one (or_broken (fits (Simple key) first) rule.WrongType (expr_place env one)) k l same
-one_key env place key (one ∷ (two ∷ others)) (first ∷ more) k l same = after_rules (or_broken (fits (Simple key) first) rule.WrongType (expr_place env one)) place k l
-one_key env place key (one ∷ []) (first ∷ (second ∷ more)) k l same = after_rules (or_broken (fits (Simple key) first) rule.WrongType (expr_place env one)) place k l
+one_key env place key (one ∷ others) (first ∷ more) k l same = by_one (or_broken (fits (Simple key) first) rule.WrongType (expr_place env one)) place (1 == length (first ∷ more)) k l same
 
 -- an item of a vector
 pub item_is : (env : Env) (place : Place) (item : ValueType) (expr : form.Expr) (written : List Expr) (values : List Typed) →

@@ -1,5 +1,4 @@
 pub mod CallForms
-pub mod CallLaws
 pub mod Eaches
 pub mod ElementLaws
 pub mod Ends

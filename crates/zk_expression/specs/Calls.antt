@@ -32,15 +32,6 @@ abbrev pub format_of : Place → (Typed × List ℕ) × List Typed → Checked C
 format_of place parts =
     require (verbs_take parts.0.1 parts.1) rule.Format place >> gives (typed type.string (built_in_call built_in.Fmt (parts.0.0 ∷ parts.1)))
 
--- the type of a value that stands alone
-abbrev pub lone_type : List Typed → Option ValueType
-lone_type (one ∷ []) = Some one.type
-lone_type others = None
-
-abbrev pub copy_of : Place → List Typed → Checked Called
-copy_of place (one ∷ []) = gives (typed one.type (built_in_call built_in.Copy (one ∷ [])))
-copy_of place others = broken rule.Arguments place
-
 -- the types of a built-in function
 abbrev pub row_of : Vec RustType Global × RustType → List ValueType × ValueType
 row_of row = (map type_of row.0.items, type_of row.1)

@@ -9,25 +9,27 @@ use Rattle.zk_base.specs.declared.numbers.HookNo.{HookNo}
 use Rattle.zk_base.specs.declared.numbers.RecordNo.{RecordNo}
 use Rattle.zk_names.specs.Lent.{declared_of}
 use Rattle.zk_tree.specs.declared.decl.BodyKind.{BodyKind}
-use Rattle.zk_tree.specs.declared.expr.Expr.{Expr}
-use Rattle.zk_tree.specs.declared.expr.Expr.TheOpen.{Item-F}
+use Rattle.zk_tree.specs.declared.expr.Expr.{Expr, out-Expr}
+use Rattle.zk_tree.specs.declared.expr.Expr.TheOpen.{Expr-F, Item-F}
 use Rattle.zk_tree.specs.declared.expr.Expr.TheOpen as written
 use Rattle.zk_tree.specs.declared.expr.Item.{Item, out-Item}
 use Rattle.zk_tree.specs.declared.expr.Link.{Link}
 use Rattle.zk_tree.specs.declared.expr.Part.{Part}
+use Rattle.zk_tree.specs.declared.operator.Container.{Container}
+use Rattle.zk_tree.specs.declared.operator.Container.TheVariants as container
 use Rattle.zk_tree.specs.declared.place.Place.{Place}
 use Rattle.zk_typed.specs.declared.rule.Rule.TheVariants as rule
 use Rattle.zk_typed.specs.declared.script.log_call.LogCall.TheVariants as log
 use Rattle.zk_typed.specs.declared.script.types.ValueType.{ValueType as RustType}
-use Rattle.zk_typed.specs.Checked.{Checked, broken, both, or_broken, require, ◌>>=◌, ◌>>◌}
+use Rattle.zk_typed.specs.Checked.{Checked, broken, both, each, or_broken, require, ◌>>=◌, ◌>>◌}
 use Rattle.zk_typed.specs.Errors.{kind_of}
 use Rattle.zk_typed.specs.Forms as form
-use Rattle.zk_typed.specs.LogCalls.{among, columns_type, event_setting, if_known, keeps, leaves, log_form, log_no, log_path, log_type, logged, names_setting, not_local, of_known, optional, path_literal, path_or_module, places_of, policy_setting, same_types, setting, text_of, word_of}
+use Rattle.zk_typed.specs.LogCalls.{among, columns_type, event_setting, if_known, is_path, keeps, leaves, log_form, log_no, log_path, log_type, logged, names_setting, not_local, of_known, optional, path_literal, path_or_module, places_of, policy_setting, same_types, setting, text_of, word_of}
 use Rattle.zk_typed.specs.Names.{Declared, Signature}
 use Rattle.zk_typed.specs.Resolving.{params_of}
 use Rattle.zk_typed.specs.Predefined as type
 use Rattle.zk_typed.specs.Types.{ValueType, Record}
-use Rattle.zk_typed.specs.Typing.{Env, Typed, typed, found}
+use Rattle.zk_typed.specs.Typing.{Check, Env, Typed, typed, found}
 use Rattle.zk_typed.specs.View.{type_of}
 use Rattle.zk_expression.specs.declared.log_words.LogWord.{LogWord}
 
@@ -80,7 +82,23 @@ item_text item = of_item (out-Item item)
 abbrev pub literal_item : Place → Item → Checked (List ℕ)
 literal_item place item = or_broken (item_text item) rule.Format place
 
+-- the names of `set("a", "b")`, where they are strings in quotes
+abbrev pub names_text : Place → Expr → Checked (List (List ℕ))
+names_text place one = of_form (out-Expr one)
+  where
+    of_container : Container → List Item → Checked (List (List ℕ))
+    of_container container.Set items = each (literal_item place) items
+    of_container other items = broken rule.Format place
+
+    of_form : Expr-F Expr Item Part Link → Checked (List (List ℕ))
+    of_form (written.Make at made items) = of_container made items
+    of_form other = broken rule.Format place
+
 -- Settings ---------------------------------------------------------------------------------------------------------
+
+-- a path or the name of a filter in quotes
+abbrev pub path_text : Place → Expr → Checked (List ℕ)
+path_text place one = or_broken (text_of one) rule.Format place >>= (λ bytes. require (is_path bytes) rule.Format place >> Ok bytes)
 
 -- a setting that may be there
 abbrev pub maybe : {A : Type 0} → (Expr → Checked A) → List ℕ → List Item → Checked (Option A)
@@ -105,10 +123,10 @@ filter_names = codes "name" ∷ codes "path" ∷ codes "include" ∷ codes "excl
 abbrev pub StreamTold : Type 0
 StreamTold = (Option RecordNo × Option EventNo) × (Option (List ℕ) × Option HookNo)
 
-abbrev pub stream_told : Env → List Item → Checked StreamTold
-stream_told env items =
+abbrev pub stream_told : Check → Env → List Item → Checked StreamTold
+stream_told check env items =
     both (both (columns_told env items) (maybe (event_setting env (if_known (columns_told env items))) (codes "ev") items))
-    (both (maybe (log_path env) (codes "path") items) (maybe (policy_setting env (if_known (columns_told env items))) (codes "policy") items))
+    (both (maybe (log_path check env) (codes "path") items) (maybe (policy_setting env (if_known (columns_told env items))) (codes "policy") items))
 
 -- a stream by its settings
 abbrev pub stream_made : Env → Place → Declared → Place → StreamTold → Checked Typed
@@ -121,16 +139,16 @@ stream_made env place word brackets told =
 abbrev pub PathsTold : Type 0
 PathsTold = Option (List ℕ) × Option (List ℕ)
 
-abbrev pub paths_told : Env → List Item → Checked PathsTold
-paths_told env items = both (maybe (path_literal env) (codes "name") items) (maybe (log_path env) (codes "path") items)
+abbrev pub paths_told : Check → Env → List Item → Checked PathsTold
+paths_told check env items = both (maybe (path_literal check env) (codes "name") items) (maybe (log_path check env) (codes "path") items)
 
 -- the columns and the policy of a filter
 abbrev pub ColumnsTold : Type 0
 ColumnsTold = (Option (List (List ℕ)) × Option (List (List ℕ))) × Option HookNo
 
-abbrev pub kept_told : Env → Option RecordNo → List Item → Checked ColumnsTold
-kept_told env known items =
-    both (both (maybe (names_setting env) (codes "include") items) (maybe (names_setting env) (codes "exclude") items))
+abbrev pub kept_told : Check → Env → Option RecordNo → List Item → Checked ColumnsTold
+kept_told check env known items =
+    both (both (maybe (names_setting check env) (codes "include") items) (maybe (names_setting check env) (codes "exclude") items))
     (maybe (policy_setting env known) (codes "policy") items)
 
 abbrev pub kept_view : (Option (Vec (Bor (List ℕ)) Global) × Option (Vec (Bor (List ℕ)) Global)) × Option HookNo → ColumnsTold

@@ -99,11 +99,6 @@ element_pair env place written pair = element env place pair.0 written pair.1
 abbrev pub behind_form : ValueType → Primitive → form.Expr → List Typed → Checked Typed
 behind_form type primitive first others = Ok (typed type (form.Apply primitive (form.AndExpr first (exprs others))))
 
--- whether there are neither keys nor expressions
-abbrev pub none_left : List SimpleType → List Expr → Bool
-none_left [] [] = true
-none_left keys written = false
-
 -- a value as a key of a type
 abbrev pub fitting_key : Place → SimpleType → Typed → Checked Typed
 fitting_key place key one = or_broken (fits (Simple key) one) rule.WrongType place

@@ -47,18 +47,6 @@ impl<F: Fn(Global, &Env<'_>, u64, Wanted<'_>, &Expr) -> Result<Typed, Refusal>> 
         all
     }
 
-    /// An assignment, which has no value, at its place.
-    #[tactic(auto, using(crate::proofs::Steps::pair_passed))]
-    pub fn assignment(&self, place: Place, left: &Expr, right: &Expr) -> Result<Typed, Refusal>
-        requires { Judges self.now.depth (F.pre self.now.part) (F.post self.now.part) }
-        ensures { Tells typed_of result (then_broken (checked.both (rules.expr_to self.now.depth (env_of self.now.env.now) spec.Nothing left.now) (rules.expr_to self.now.depth (env_of self.now.env.now) spec.Nothing right.now)) rule.WrongType place) }
-    {
-        match self.both_parts(Wanted::Nothing, left, Wanted::Nothing, right) {
-            Ok(_) => Err(Refusal::Broken(one_broken(self.alloc, Rule::WrongType, place)?)),
-            Err(refusal) => Err(refusal),
-        }
-    }
-
     /// The arguments that have a parameter.
     pub fn matched(&self, params: &[ValueType], items: &[Item]) -> Result<Vec<Typed>, Refusal>
         requires { Judges self.now.depth (F.pre self.now.part) (F.post self.now.part) }

@@ -1,8 +1,8 @@
-ghost use Rattle.std.specs.Prelude.{◌≡◌, IfOk};
-ghost use Rattle.std.specs.Option.{option_map};
+ghost use Rattle.std.specs.Prelude.{◌≡◌, ◌∷◌, [], IfOk};
 ghost use Rattle.zk_operator.specs.Views.{typed_of, typed_all, all_typed};
 ghost use Rattle.zk_typed.specs.Checked as checked;
 ghost use Rattle.zk_typed.specs.Checked.{each};
+ghost use Rattle.zk_typed.specs.declared.script.primitive.BuiltIn.TheVariants as built_in;
 ghost use Rattle.zk_typed.specs.Expressions as rules;
 ghost use Rattle.zk_typed.specs.Making as making;
 ghost use Rattle.zk_typed.specs.Operations as operations;
@@ -11,7 +11,7 @@ ghost use Rattle.zk_typed.specs.Typing as spec;
 ghost use Rattle.zk_typed.specs.View.{type_of};
 ghost use Rattle.zk_expression.specs.Envs.{env_of, called_of};
 ghost use Rattle.zk_expression.specs.Judging.{Judges};
-ghost use Rattle.zk_expression.specs.Calls.{text_view, format_view, lone_type, copy_of, format_of};
+ghost use Rattle.zk_expression.specs.Calls.{text_view, format_view, format_of};
 
 use crate::called::Called;
 use crate::elements::operands_behind;
@@ -22,7 +22,7 @@ use crate::rows::built_in_row;
 use std::alloc::{AllocError, Global};
 use zk_base::Bytes;
 use zk_operator::{
-    Typed, Wanted, applied, both, copied_type, operands_of, verbs, verbs_take, with_part,
+    Typed, Wanted, applied, both, one_operand, operands_of, verbs, verbs_take, with_part,
 };
 use zk_tree::{Expr, Item, Literal, Place};
 use zk_typed::script::{BuiltIn, Primitive, SimpleType, ValueType};
@@ -61,7 +61,7 @@ impl<F: Fn(Global, &Env<'_>, u64, Wanted<'_>, &Expr) -> Result<Typed, Refusal>> 
         requires { Judges self.now.depth (F.pre self.now.part) (F.post self.now.part) }
         ensures { Tells text_view result (making.format_text (rules.expr_to self.now.depth (env_of self.now.env.now)) (env_of self.now.env.now) one.now) }
     {
-        match self.check(Wanted::Nothing, one) {
+        match self.string(one) {
             Ok(text) => match literal_verbs(self.alloc, one)? {
                 Some(verbs) => Ok((text, verbs)),
                 None => Err(Refusal::Broken(one_broken(
@@ -159,29 +159,17 @@ impl<F: Fn(Global, &Env<'_>, u64, Wanted<'_>, &Expr) -> Result<Typed, Refusal>> 
     }
 }
 
-/// The type of a value that stands alone.
-fn lone_type(args: &[Typed]) -> Option<&ValueType>
-    ensures { option_map (λ one. type_of one.now) result ≡ lone_type (typed_all args.now) }
+/// A call of `copy` with its argument.
+fn copied(alloc: Global, one: Typed) -> Result<Called, AllocError>
+    ensures { IfOk result (λ made. called_of made ≡ making.Gives (spec.typed (typed_of one).type (making.built_in_call built_in.Copy (typed_of one ∷ [])))) }
 {
-    let (one, others) = args.split_first()?;
-    match others.split_first() {
-        Some(_) => None,
-        None => Some(&one.value_type),
-    }
-}
-
-/// A call of `copy` with its arguments.
-#[tactic(auto, using(crate::proofs::CallLaws::copy_is))]
-fn copied(alloc: Global, place: Place, args: Vec<Typed>) -> Result<Called, Refusal>
-    ensures { Tells called_of result (copy_of place (typed_all args.items)) }
-{
-    match lone_type(&args) {
-        Some(one) => {
-            let value_type = copied_type(alloc, one)?;
-            Ok(gives(alloc, value_type, BuiltIn::Copy, args)?)
-        }
-        None => Err(Refusal::Broken(one_broken(alloc, Rule::Arguments, place)?)),
-    }
+    let Typed { value_type, expr } = one;
+    let operands = one_operand(alloc, expr)?;
+    Ok(Called::Gives(applied(
+        value_type,
+        Primitive::BuiltIn(BuiltIn::Copy),
+        operands,
+    )))
 }
 
 /// A call of `fmt` with its text, the verbs of it, and the other arguments.
@@ -208,13 +196,22 @@ fn formatted(
 
 impl<F: Fn(Global, &Env<'_>, u64, Wanted<'_>, &Expr) -> Result<Typed, Refusal>> Judge<'_, F> {
     /// `copy(a)`
-    #[tactic(auto, using(crate::proofs::Steps::all_passed))]
+    #[tactic(auto, using(crate::proofs::Steps::passed))]
     fn copy_typed(&self, place: Place, items: &[Item]) -> Result<Called, Refusal>
         requires { Judges self.now.depth (F.pre self.now.part) (F.post self.now.part) }
         ensures { Tells called_of result (making.copy_typed (rules.expr_to self.now.depth (env_of self.now.env.now)) (env_of self.now.env.now) place items.now) }
     {
-        match self.each_argument(Wanted::Nothing, items) {
-            Ok(args) => copied(self.alloc, place, args),
+        let Some((first, others)) = items.split_first() else {
+            return Err(Refusal::Broken(one_broken(self.alloc, Rule::Arguments, place)?));
+        };
+        match self.argument(Wanted::Nothing, first) {
+            Ok(one) => {
+                if others.is_empty() {
+                    Ok(copied(self.alloc, one)?)
+                } else {
+                    Err(Refusal::Broken(one_broken(self.alloc, Rule::Arguments, place)?))
+                }
+            }
             Err(refusal) => Err(refusal),
         }
     }

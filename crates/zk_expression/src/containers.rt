@@ -394,11 +394,11 @@ impl<F: Fn(Global, &Env<'_>, u64, Wanted<'_>, &Expr) -> Result<Typed, Refusal>> 
         match wanted {
             Wanted::Type(ValueType::Record(record)) => self.record_typed(place, *record, items),
             Wanted::Unclear => {
-                let judged = self.each_argument(Wanted::Unclear, items);
+                let judged = self.item_values(Wanted::Unclear, items);
                 Err(unclear(self.alloc, judged))
             }
             Wanted::Type(_) | Wanted::Nothing => {
-                let judged = self.each_argument(Wanted::Nothing, items);
+                let judged = self.item_values(Wanted::Nothing, items);
                 Err(wrong(self.alloc, judged, place))
             }
         }

@@ -9,7 +9,7 @@ ghost use Rattle.zk_typed.specs.Typing as spec;
 ghost use Rattle.zk_typed.specs.Typing.{Typed as TypedForm};
 ghost use Rattle.zk_typed.specs.View.{all_of, expr_of, type_of};
 ghost use Rattle.zk_expression.specs.Envs.{env_of};
-ghost use Rattle.zk_expression.specs.Parts.{and_then, behind_form, fitting_key, none_left};
+ghost use Rattle.zk_expression.specs.Parts.{and_then, behind_form, fitting_key};
 
 use crate::env::Env;
 use crate::refused::broken;
@@ -31,29 +31,15 @@ fn key_fits(alloc: Global, place: Place, key: SimpleType, one: Typed) -> Result<
     }
 }
 
-/// Whether there are neither keys nor expressions.
-fn none_left(keys: &[SimpleType], written: &[Expr]) -> bool
-    ensures { result ≡ none_left keys.now written.now }
-{
-    match keys.split_first() {
-        Some(_) => false,
-        None => match written.split_first() {
-            Some(_) => false,
-            None => true,
-        },
-    }
-}
-
-/// Values as keys of these types, each by the expression that it was written as.
-pub fn keys_fit(
+/// Values as keys of these types, as far as there are types, each by the expression that it was written as.
+fn fitted_keys(
     alloc: Global,
     env: &Env<'_>,
-    place: Place,
     keys: &[SimpleType],
     written: &[Expr],
     values: Vec<Typed>,
 ) -> Result<Vec<Typed>, Refusal>
-    ensures { Tells all_typed result (making.keys_fit (env_of env.now) place keys.now written.now (typed_all values.items)) }
+    ensures { Tells all_typed result (making.fitted_keys (env_of env.now) keys.now written.now (typed_all values.items)) }
 {
     let mut all = Ok(Vec::new(alloc));
     let mut keys_left = keys;
@@ -65,19 +51,34 @@ pub fn keys_fit(
                 keys_left = more_keys;
                 written_left = more_written;
             }
-            _ => return with_part(
-                all,
-                Err(Refusal::Broken(one_broken(alloc, Rule::WrongType, place)?)),
-            ),
+            _ => return all,
         }
     }
-    if none_left(keys_left, written_left) {
-        all
-    } else {
-        with_part(
-            all,
-            Err(Refusal::Broken(one_broken(alloc, Rule::WrongType, place)?)),
-        )
+    all
+}
+
+/// Values as keys of these types, as many as there are.
+#[tactic(auto, using(crate::proofs::Steps::all_passed, crate::proofs::MemberLaws::typed_length))]
+pub fn keys_fit(
+    alloc: Global,
+    env: &Env<'_>,
+    place: Place,
+    keys: &[SimpleType],
+    written: &[Expr],
+    values: Vec<Typed>,
+) -> Result<Vec<Typed>, Refusal>
+    ensures { Tells all_typed result (making.keys_fit (env_of env.now) place keys.now written.now (typed_all values.items)) }
+{
+    let as_many = keys.len() == values.len();
+    match fitted_keys(alloc, env, keys, written, values) {
+        Ok(fitting) => {
+            if keys.len() == fitting.len() && as_many {
+                Ok(fitting)
+            } else {
+                Err(Refusal::Broken(one_broken(alloc, Rule::WrongType, place)?))
+            }
+        }
+        Err(refusal) => Err(refusal),
     }
 }
 

@@ -98,8 +98,13 @@ impl<F: Fn(Global, &Env<'_>, u64, Wanted<'_>, &Expr) -> Result<Typed, Refusal>> 
         ensures { Tells typed_of result (rules.expr_to (suc self.now.depth) (env_of self.now.env.now) (wanted_in wanted.entry) one.now) }
     {
         match one {
-            Expr::Assign { left, right, .. } => {
-                self.assignment(self.env.expr_place(one), left.get(), right.get())
+            Expr::Assign {
+                left,
+                operator,
+                right,
+            } => {
+                let place = self.env.expr_place(one);
+                self.assignment(place, *operator, left.get(), right.get())
             }
             Expr::Choice { test, yes, no } => {
                 self.choice(wanted, test.get(), yes.get(), no.get())

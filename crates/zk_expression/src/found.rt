@@ -3,7 +3,7 @@ ghost use Rattle.zk_typed.specs.Typing as spec;
 ghost use Rattle.zk_expression.specs.Envs.{env_of, found_of};
 
 use crate::env::Env;
-use crate::names::local_named;
+use crate::names::local_meant;
 use std::alloc::Global;
 use zk_base::Mem;
 use zk_names::Declared;
@@ -22,7 +22,7 @@ pub enum Found<'a> {
 pub fn look_up<'a>(alloc: Global, env: &Env<'a>, name: &Name) -> Result<Found<'a>, Mem>
     ensures { IfOk result (λ found. found_of (env_of env.now) name.now found ≡ spec.found (env_of env.now) name.now) }
 {
-    if local_named(env.locals, name.text.as_slice())?.is_some() {
+    if local_meant(env.locals, name.text.as_slice())?.is_some() {
         return Ok(Found::Local);
     }
     let declared = env

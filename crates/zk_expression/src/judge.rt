@@ -3,6 +3,7 @@ ghost use Rattle.zk_operator.specs.Views.{typed_of, all_typed, wanted_in};
 ghost use Rattle.zk_typed.specs.Checked.{each};
 ghost use Rattle.zk_typed.specs.declared.rule.Rule.TheVariants as rule;
 ghost use Rattle.zk_typed.specs.Expressions as rules;
+ghost use Rattle.zk_typed.specs.LogCalls.{item_expr};
 ghost use Rattle.zk_typed.specs.Making as making;
 ghost use Rattle.zk_typed.specs.Predefined as type;
 ghost use Rattle.zk_typed.specs.Tells.{Tells};
@@ -46,6 +47,15 @@ impl<F: Fn(Global, &Env<'_>, u64, Wanted<'_>, &Expr) -> Result<Typed, Refusal>> 
         self.check(Wanted::Type(&truth), one)
     }
 
+    /// A part where a string is wanted.
+    pub fn string(&self, one: &Expr) -> Result<Typed, Refusal>
+        requires { Judges self.now.depth (F.pre self.now.part) (F.post self.now.part) }
+        ensures { Tells typed_of result (rules.expr_to self.now.depth (env_of self.now.env.now) (spec.Wants type.string) one.now) }
+    {
+        let string = ValueType::Simple(SimpleType::String);
+        self.check(Wanted::Type(&string), one)
+    }
+
     /// An item that names a field where a value is to stand.
     #[tactic(auto, using(crate::proofs::Steps::passed))]
     pub fn named_item(&self, place: u64, value: &Expr) -> Result<Typed, Refusal>
@@ -81,6 +91,29 @@ impl<F: Fn(Global, &Env<'_>, u64, Wanted<'_>, &Expr) -> Result<Typed, Refusal>> 
         let mut all = Ok(Vec::new(self.alloc));
         for item in items {
             all = with_part(all, self.argument(wanted, item));
+        }
+        all
+    }
+
+    /// The value of an item, whatever it is an item of.
+    fn item_value(&self, wanted: Wanted<'_>, item: &Item) -> Result<Typed, Refusal>
+        requires { Judges self.now.depth (F.pre self.now.part) (F.post self.now.part) }
+        ensures { Tells typed_of result (rules.expr_to self.now.depth (env_of self.now.env.now) (wanted_in wanted.entry) (item_expr item.now)) }
+    {
+        match item {
+            Item::Value { value } => self.check(wanted, value),
+            Item::Field { value, .. } => self.check(wanted, value),
+        }
+    }
+
+    /// The values of items, whatever they are items of.
+    pub fn item_values(&self, wanted: Wanted<'_>, items: &[Item]) -> Result<Vec<Typed>, Refusal>
+        requires { Judges self.now.depth (F.pre self.now.part) (F.post self.now.part) }
+        ensures { Tells all_typed result (making.item_values (rules.expr_to self.now.depth (env_of self.now.env.now)) (wanted_in wanted.entry) items.now) }
+    {
+        let mut all = Ok(Vec::new(self.alloc));
+        for item in items {
+            all = with_part(all, self.item_value(wanted, item));
         }
         all
     }

@@ -16,7 +16,7 @@ ghost use Rattle.zk_expression.specs.Parts.{and_then, stepped_side};
 use crate::env::Env;
 use crate::fields::known_type;
 use crate::judge::Judge;
-use crate::names::{global_type, local_named};
+use crate::names::{global_type, local_meant};
 use crate::refused::{broken, wrong};
 use crate::side::{Side, assignable};
 use sqlite_items::Items;
@@ -110,9 +110,9 @@ fn is_fixed(lasting: Lasting) -> bool
 
 /// What a name is as a left side.
 fn name_side(alloc: Global, env: &Env<'_>, name: &Name) -> Result<Side, Refusal>
-    ensures { Tells side_of result (rules.name_side (env_of env.now) name.now (spec.local_named name.now.text 0 (env_of env.now).locals)) }
+    ensures { Tells side_of result (rules.name_side (env_of env.now) name.now (spec.local_meant name.now.text (env_of env.now).locals)) }
 {
-    match local_named(env.locals, name.text.as_slice())? {
+    match local_meant(env.locals, name.text.as_slice())? {
         Some((number, local)) => local_side(alloc, number, &local.value_type),
         None => {
             let found = env

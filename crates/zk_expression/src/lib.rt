@@ -2,6 +2,7 @@
 #![tactic(auto)]
 
 mod arguments;
+mod assigning;
 mod built_ins;
 mod called;
 mod calls;
@@ -41,9 +42,9 @@ pub use expr::expr_to;
 pub use fields::{Read, is_wire, wire_read};
 pub use found::{Found, look_up};
 pub use judge::Judge;
-pub use names::{local_named, name_typed};
+pub use names::{local_meant, local_named, name_typed};
 pub use side::{Side, assignable};
 pub use whole::{
-    call_of, each_printed, each_typed, expr_typed, init_typed, left_side, parts_typed,
+    call_of, each_printed, each_typed, expr_typed, init_typed, left_side, post_typed, rest_of,
     signed_arguments, wrong_name,
 };

@@ -15,8 +15,8 @@ ghost use Rattle.zk_expression.specs.LogSettings.{AreAlike, all_texts, filter_na
 use crate::env::Env;
 use crate::judge::Judge;
 use crate::log_columns::is_among;
-use crate::log_made::{default_removed, filter_made, filter_removed, row_written, stream_made};
-use crate::log_parts::{FilterParts, StreamParts, column_parts, path_parts, stream_parts};
+use crate::log_made::{default_removed, filter_made, row_written, stream_made};
+use crate::log_parts::{FilterParts, StreamParts};
 use crate::log_words::{LogWord, logged_word};
 use crate::refused::{refused, wrong};
 use std::alloc::{AllocError, Global};
@@ -89,11 +89,11 @@ impl<F: Fn(Global, &Env<'_>, u64, Wanted<'_>, &Expr) -> Result<Typed, Refusal>> 
     /// The settings of `Log::create_stream`.
     fn stream_settings(&self, items: &[Item]) -> Result<((), StreamParts), Refusal>
         requires { Judges self.now.depth (F.pre self.now.part) (F.post self.now.part) }
-        ensures { Tells (λ parts. parts) result (both (logs.only_settings (rules.expr_to self.now.depth (env_of self.now.env.now)) (env_of self.now.env.now) stream_names [] items.now) (stream_told (env_of self.now.env.now) items.now)) }
+        ensures { Tells (λ parts. parts) result (both (logs.only_settings (rules.expr_to self.now.depth (env_of self.now.env.now)) (env_of self.now.env.now) stream_names [] items.now) (stream_told (rules.expr_to self.now.depth (env_of self.now.env.now)) (env_of self.now.env.now) items.now)) }
     {
         let allowed: [&[u8]; 4] = [b"columns", b"ev", b"path", b"policy"];
         let only = self.only_settings(&allowed, items);
-        both(only, stream_parts(self.alloc, self.env, items))
+        both(only, self.stream_parts(items))
     }
 
     /// `Log::create_stream`, by the settings in its brackets.
@@ -121,12 +121,12 @@ impl<F: Fn(Global, &Env<'_>, u64, Wanted<'_>, &Expr) -> Result<Typed, Refusal>> 
         items: &'i [Item],
     ) -> Result<FilterParts<'i>, Refusal>
         requires { Judges self.now.depth (F.pre self.now.part) (F.post self.now.part) }
-        ensures { Tells filter_view result (both (both (logs.only_settings (rules.expr_to self.now.depth (env_of self.now.env.now)) (env_of self.now.env.now) filter_names [] items.entry.now) (paths_told (env_of self.now.env.now) items.entry.now)) (kept_told (env_of self.now.env.now) known items.entry.now)) }
+        ensures { Tells filter_view result (both (both (logs.only_settings (rules.expr_to self.now.depth (env_of self.now.env.now)) (env_of self.now.env.now) filter_names [] items.entry.now) (paths_told (rules.expr_to self.now.depth (env_of self.now.env.now)) (env_of self.now.env.now) items.entry.now)) (kept_told (rules.expr_to self.now.depth (env_of self.now.env.now)) (env_of self.now.env.now) known items.entry.now)) }
     {
         let allowed: [&[u8]; 5] = [b"name", b"path", b"include", b"exclude", b"policy"];
         let only = self.only_settings(&allowed, items);
-        let paths = path_parts(self.alloc, self.env, items);
-        let kept = column_parts(self.alloc, self.env, known, items);
+        let paths = self.path_parts(items);
+        let kept = self.column_parts(known, items);
         both(both(only, paths), kept)
     }
 
@@ -218,9 +218,7 @@ impl<F: Fn(Global, &Env<'_>, u64, Wanted<'_>, &Expr) -> Result<Typed, Refusal>> 
         match function {
             LogFunction::CreateStream => self.stream_created(place, word.declared, one),
             LogFunction::AddFilter => self.filter_added(word, one),
-            LogFunction::RemoveFilter => {
-                filter_removed(self.alloc, self.env, word.declared, one)
-            }
+            LogFunction::RemoveFilter => self.filter_removed(word.declared, one),
             LogFunction::RemoveDefaultFilter => {
                 Err(Refusal::Broken(one_broken(self.alloc, Rule::Arguments, place)?))
             }

@@ -3,18 +3,23 @@ ghost use Rattle.std.specs.Prelude.{◌≡◌, IfOk};
 ghost use Rattle.std.specs.Option.{option_map};
 ghost use Rattle.zk_names.specs.Leaves.{leaf_of, leaves_lent};
 ghost use Rattle.zk_typed.specs.Checked.{each};
+ghost use Rattle.zk_typed.specs.Expressions as rules;
 ghost use Rattle.zk_typed.specs.LogCalls as logs;
 ghost use Rattle.zk_typed.specs.Tells.{Tells};
+ghost use Rattle.zk_typed.specs.View.{type_of};
 ghost use Rattle.zk_expression.specs.Envs.{env_of};
-ghost use Rattle.zk_expression.specs.LogSettings.{all_texts, item_text, literal_item, text_lent, texts_lent};
+ghost use Rattle.zk_expression.specs.Judging.{Judges};
+ghost use Rattle.zk_expression.specs.LogSettings.{all_texts, item_text, literal_item, names_text, text_lent, texts_lent};
 
 use crate::env::Env;
+use crate::judge::Judge;
 use crate::log_settings::text_of;
-use std::alloc::Global;
+use std::alloc::{AllocError, Global};
 use zk_base::{Mem, RecordNo, Sequence};
 use zk_names::Leaf;
-use zk_operator::with_part;
+use zk_operator::{Typed, Wanted, copied_keys, with_part};
 use zk_tree::{Container, Expr, Item, Place};
+use zk_typed::script::{SimpleType, ValueType};
 use zk_typed::{Refusal, Rule, one_broken};
 
 /// A name in quotes.
@@ -52,15 +57,10 @@ fn literal_items<'a>(
     all
 }
 
-/// The names of `set("a", "b")`.
-pub fn names_setting<'a>(
-    alloc: Global,
-    env: &Env<'_>,
-    one: &'a Expr,
-) -> Result<Vec<&'a [u8]>, Refusal>
-    ensures { Tells all_texts result (logs.names_setting (env_of env.now) one.entry.now) }
+/// The names of `set("a", "b")`, where they are strings in quotes.
+fn names_text<'a>(alloc: Global, place: Place, one: &'a Expr) -> Result<Vec<&'a [u8]>, Refusal>
+    ensures { Tells all_texts result (names_text place one.entry.now) }
 {
-    let place = env.expr_place(one);
     match one {
         Expr::Make {
             container: Container::Set,
@@ -68,6 +68,29 @@ pub fn names_setting<'a>(
             ..
         } => literal_items(alloc, place, items.as_slice()),
         _ => Err(Refusal::Broken(one_broken(alloc, Rule::Format, place)?)),
+    }
+}
+
+/// The type of sets of strings.
+fn string_set(alloc: Global) -> Result<ValueType, AllocError>
+    ensures { IfOk result (λ made. type_of made ≡ logs.string_set) }
+{
+    let keys = copied_keys(alloc, &[SimpleType::String])?;
+    Ok(ValueType::Set { keys })
+}
+
+impl<F: Fn(Global, &Env<'_>, u64, Wanted<'_>, &Expr) -> Result<Typed, Refusal>> Judge<'_, F> {
+    /// The names of `set("a", "b")`.
+    #[tactic(auto, using(crate::proofs::Steps::passed))]
+    pub fn names_setting<'i>(&self, one: &'i Expr) -> Result<Vec<&'i [u8]>, Refusal>
+        requires { Judges self.now.depth (F.pre self.now.part) (F.post self.now.part) }
+        ensures { Tells all_texts result (logs.names_setting (rules.expr_to self.now.depth (env_of self.now.env.now)) (env_of self.now.env.now) one.entry.now) }
+    {
+        let wanted = string_set(self.alloc)?;
+        match self.check(Wanted::Type(&wanted), one) {
+            Ok(_) => names_text(self.alloc, self.env.expr_place(one), one),
+            Err(refusal) => Err(refusal),
+        }
     }
 }
 

@@ -2,22 +2,25 @@
 ghost use Rattle.std.specs.Prelude.{◌≡◌, codes, IfOk};
 ghost use Rattle.zk_names.specs.Lent.{declared_of};
 ghost use Rattle.zk_operator.specs.Views.{typed_of};
+ghost use Rattle.zk_typed.specs.Expressions as rules;
 ghost use Rattle.zk_typed.specs.LogCalls as logs;
 ghost use Rattle.zk_typed.specs.Tells.{Tells};
 ghost use Rattle.zk_expression.specs.Envs.{env_of};
+ghost use Rattle.zk_expression.specs.Judging.{Judges};
 ghost use Rattle.zk_expression.specs.LogSettings.{filter_made, filter_of, kept_view, removed, removed_named, stream_made, written_row};
 ghost use Rattle.zk_expression.specs.Parts.{and_then};
 
 use crate::env::Env;
+use crate::judge::Judge;
 use crate::log_columns::{filter_columns, stream_columns};
 use crate::log_parts::{ColumnParts, PathParts, StreamParts};
-use crate::log_settings::{path_literal, path_or_module};
+use crate::log_settings::path_or_module;
 use crate::log_words::{LogWord, log_no};
 use sqlite_items::{Boxed, Items};
 use std::alloc::Global;
 use zk_base::{Bytes, Mem, RecordNo};
 use zk_names::Declared;
-use zk_operator::{Typed, applied};
+use zk_operator::{Typed, Wanted, applied};
 use zk_tree::{Expr, Place};
 use zk_typed::script::{Expr as TypedExpr, LogCall, Primitive, SimpleType, ValueType};
 use zk_typed::{Refusal, Rule, one_broken};
@@ -127,18 +130,17 @@ pub fn default_removed(alloc: Global, env: &Env<'_>, word: &Declared<'_>) -> Res
     removal(alloc, env, word, name)
 }
 
-/// `Log::remove_filter`, with the name of a filter.
-pub fn filter_removed(
-    alloc: Global,
-    env: &Env<'_>,
-    word: &Declared<'_>,
-    one: &Expr,
-) -> Result<Typed, Refusal>
-    ensures { Tells typed_of result (and_then (logs.path_literal (env_of env.now) one.now) (removed_named (env_of env.now) (declared_of word.now))) }
-{
-    match path_literal(alloc, env, one) {
-        Ok(name) => Ok(removal(alloc, env, word, name)?),
-        Err(refusal) => Err(refusal),
+impl<F: Fn(Global, &Env<'_>, u64, Wanted<'_>, &Expr) -> Result<Typed, Refusal>> Judge<'_, F> {
+    /// `Log::remove_filter`, with the name of a filter.
+    #[tactic(auto, using(crate::proofs::Steps::passed))]
+    pub fn filter_removed(&self, word: &Declared<'_>, one: &Expr) -> Result<Typed, Refusal>
+        requires { Judges self.now.depth (F.pre self.now.part) (F.post self.now.part) }
+        ensures { Tells typed_of result (and_then (logs.path_literal (rules.expr_to self.now.depth (env_of self.now.env.now)) (env_of self.now.env.now) one.now) (removed_named (env_of self.now.env.now) (declared_of word.now))) }
+    {
+        match self.path_literal(one) {
+            Ok(name) => Ok(removal(self.alloc, self.env, word, name)?),
+            Err(refusal) => Err(refusal),
+        }
     }
 }
 

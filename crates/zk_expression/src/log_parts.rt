@@ -3,20 +3,21 @@ ghost use Rattle.std.specs.Prelude.{◌≡◌, codes, IfOk, Option};
 ghost use Rattle.std.specs.Option.{option_map};
 ghost use Rattle.zk_base.specs.declared.numbers.RecordNo.{RecordNo as RecordNumber};
 ghost use Rattle.zk_typed.specs.Checked.{Checked};
+ghost use Rattle.zk_typed.specs.Expressions as rules;
 ghost use Rattle.zk_typed.specs.LogCalls as logs;
 ghost use Rattle.zk_typed.specs.Tells.{Tells};
 ghost use Rattle.zk_expression.specs.Envs.{env_of};
+ghost use Rattle.zk_expression.specs.Judging.{Judges};
 ghost use Rattle.zk_expression.specs.LogSettings.{all_texts, columns_told, kept_told, kept_view, maybe, paths_told, stream_told};
 
 use crate::env::Env;
-use crate::log_columns::names_setting;
+use crate::judge::Judge;
 use crate::log_names::{event_setting, policy_setting};
-use crate::log_settings::{log_path, path_literal};
-use crate::names::local_named;
+use crate::names::local_meant;
 use std::alloc::Global;
 use zk_base::{Bytes, EventNo, HookNo, Mem, RecordNo};
 use zk_names::{columns_type, setting};
-use zk_operator::both;
+use zk_operator::{Typed, Wanted, both};
 use zk_tree::{Expr, Item};
 use zk_typed::{Refusal, Rule, one_broken};
 
@@ -44,7 +45,7 @@ fn not_local(alloc: Global, env: &Env<'_>, one: &Expr) -> Result<(), Refusal>
 {
     match one {
         Expr::Name { name } => {
-            if local_named(env.locals, name.text.as_slice())?.is_some() {
+            if local_meant(env.locals, name.text.as_slice())?.is_some() {
                 let place = env.expr_place(one);
                 return Err(Refusal::Broken(one_broken(alloc, Rule::WrongType, place)?));
             }
@@ -112,73 +113,79 @@ fn maybe_policy(
     }
 }
 
-/// The path of `$path`, where it is given.
-fn maybe_path(alloc: Global, env: &Env<'_>, items: &[Item]) -> Result<Option<Bytes>, Refusal>
-    ensures { Tells (λ path. path) result (maybe (logs.log_path (env_of env.now)) (codes "path") items.now) }
-{
-    match setting(b"path", items) {
-        Some(one) => Ok(Some(log_path(alloc, env, one)?)),
-        None => Ok(None),
+impl<F: Fn(Global, &Env<'_>, u64, Wanted<'_>, &Expr) -> Result<Typed, Refusal>> Judge<'_, F> {
+    /// The path of `$path`, where it is given.
+    fn maybe_path(&self, items: &[Item]) -> Result<Option<Bytes>, Refusal>
+        requires { Judges self.now.depth (F.pre self.now.part) (F.post self.now.part) }
+        ensures { Tells (λ path. path) result (maybe (logs.log_path (rules.expr_to self.now.depth (env_of self.now.env.now)) (env_of self.now.env.now)) (codes "path") items.now) }
+    {
+        match setting(b"path", items) {
+            Some(one) => Ok(Some(self.log_path(one)?)),
+            None => Ok(None),
+        }
     }
-}
 
-/// The name of `$name`, where it is given.
-fn maybe_name(alloc: Global, env: &Env<'_>, items: &[Item]) -> Result<Option<Bytes>, Refusal>
-    ensures { Tells (λ name. name) result (maybe (logs.path_literal (env_of env.now)) (codes "name") items.now) }
-{
-    match setting(b"name", items) {
-        Some(one) => Ok(Some(path_literal(alloc, env, one)?)),
-        None => Ok(None),
+    /// The name of `$name`, where it is given.
+    fn maybe_name(&self, items: &[Item]) -> Result<Option<Bytes>, Refusal>
+        requires { Judges self.now.depth (F.pre self.now.part) (F.post self.now.part) }
+        ensures { Tells (λ name. name) result (maybe (logs.path_literal (rules.expr_to self.now.depth (env_of self.now.env.now)) (env_of self.now.env.now)) (codes "name") items.now) }
+    {
+        match setting(b"name", items) {
+            Some(one) => Ok(Some(self.path_literal(one)?)),
+            None => Ok(None),
+        }
     }
-}
 
-/// The names of `$include` or `$exclude`, where they are given.
-fn maybe_names<'a>(
-    alloc: Global,
-    env: &Env<'_>,
-    name: &[u8],
-    items: &'a [Item],
-) -> Result<Option<Vec<&'a [u8]>>, Refusal>
-    ensures { Tells (option_map all_texts) result (maybe (logs.names_setting (env_of env.now)) name.now items.entry.now) }
-{
-    match setting(name, items) {
-        Some(one) => Ok(Some(names_setting(alloc, env, one)?)),
-        None => Ok(None),
+    /// The names of `$include` or `$exclude`, where they are given.
+    fn maybe_names<'i>(
+        &self,
+        name: &[u8],
+        items: &'i [Item],
+    ) -> Result<Option<Vec<&'i [u8]>>, Refusal>
+        requires { Judges self.now.depth (F.pre self.now.part) (F.post self.now.part) }
+        ensures { Tells (option_map all_texts) result (maybe (logs.names_setting (rules.expr_to self.now.depth (env_of self.now.env.now)) (env_of self.now.env.now)) name.now items.entry.now) }
+    {
+        match setting(name, items) {
+            Some(one) => Ok(Some(self.names_setting(one)?)),
+            None => Ok(None),
+        }
     }
-}
 
-/// What the settings of a stream are.
-pub fn stream_parts(alloc: Global, env: &Env<'_>, items: &[Item]) -> Result<StreamParts, Refusal>
-    ensures { Tells (λ parts. parts) result (stream_told (env_of env.now) items.now) }
-{
-    let columns = columns_setting(alloc, env, items);
-    let known = known_columns(&columns)?;
-    let event = maybe_event(alloc, env, known, items);
-    let path = maybe_path(alloc, env, items);
-    let policy = maybe_policy(alloc, env, known, items);
-    both(both(columns, event), both(path, policy))
-}
+    /// What the settings of a stream are.
+    pub fn stream_parts(&self, items: &[Item]) -> Result<StreamParts, Refusal>
+        requires { Judges self.now.depth (F.pre self.now.part) (F.post self.now.part) }
+        ensures { Tells (λ parts. parts) result (stream_told (rules.expr_to self.now.depth (env_of self.now.env.now)) (env_of self.now.env.now) items.now) }
+    {
+        let columns = columns_setting(self.alloc, self.env, items);
+        let known = known_columns(&columns)?;
+        let event = maybe_event(self.alloc, self.env, known, items);
+        let path = self.maybe_path(items);
+        let policy = maybe_policy(self.alloc, self.env, known, items);
+        both(both(columns, event), both(path, policy))
+    }
 
-/// The name and the path of a filter.
-pub fn path_parts(alloc: Global, env: &Env<'_>, items: &[Item]) -> Result<PathParts, Refusal>
-    ensures { Tells (λ parts. parts) result (paths_told (env_of env.now) items.now) }
-{
-    let name = maybe_name(alloc, env, items);
-    let path = maybe_path(alloc, env, items);
-    both(name, path)
-}
+    /// The name and the path of a filter.
+    pub fn path_parts(&self, items: &[Item]) -> Result<PathParts, Refusal>
+        requires { Judges self.now.depth (F.pre self.now.part) (F.post self.now.part) }
+        ensures { Tells (λ parts. parts) result (paths_told (rules.expr_to self.now.depth (env_of self.now.env.now)) (env_of self.now.env.now) items.now) }
+    {
+        let name = self.maybe_name(items);
+        let path = self.maybe_path(items);
+        both(name, path)
+    }
 
-/// The columns and the policy of a filter.
-pub fn column_parts<'a>(
-    alloc: Global,
-    env: &Env<'_>,
-    known: Option<RecordNo>,
-    items: &'a [Item],
-) -> Result<ColumnParts<'a>, Refusal>
-    ensures { Tells kept_view result (kept_told (env_of env.now) known items.entry.now) }
-{
-    let included = maybe_names(alloc, env, b"include", items);
-    let excluded = maybe_names(alloc, env, b"exclude", items);
-    let policy = maybe_policy(alloc, env, known, items);
-    both(both(included, excluded), policy)
+    /// The columns and the policy of a filter.
+    pub fn column_parts<'i>(
+        &self,
+        known: Option<RecordNo>,
+        items: &'i [Item],
+    ) -> Result<ColumnParts<'i>, Refusal>
+        requires { Judges self.now.depth (F.pre self.now.part) (F.post self.now.part) }
+        ensures { Tells kept_view result (kept_told (rules.expr_to self.now.depth (env_of self.now.env.now)) (env_of self.now.env.now) known items.entry.now) }
+    {
+        let included = self.maybe_names(b"include", items);
+        let excluded = self.maybe_names(b"exclude", items);
+        let policy = maybe_policy(self.alloc, self.env, known, items);
+        both(both(included, excluded), policy)
+    }
 }

@@ -2,15 +2,19 @@
 ghost use Rattle.std.specs.Prelude.{◌≡◌, None};
 ghost use Rattle.std.specs.List.{list_all};
 ghost use Rattle.zk_names.specs.Lent.{declared_of};
+ghost use Rattle.zk_typed.specs.Expressions as rules;
 ghost use Rattle.zk_typed.specs.LogCalls as logs;
 ghost use Rattle.zk_typed.specs.Tells.{Tells};
 ghost use Rattle.zk_expression.specs.Envs.{env_of};
-ghost use Rattle.zk_expression.specs.LogSettings.{text_lent};
+ghost use Rattle.zk_expression.specs.Judging.{Judges};
+ghost use Rattle.zk_expression.specs.LogSettings.{path_text, text_lent};
 
 use crate::env::Env;
+use crate::judge::Judge;
 use std::alloc::Global;
 use zk_base::Bytes;
 use zk_names::{Declared, module_of};
+use zk_operator::{Typed, Wanted};
 use zk_tree::{Expr, Literal, Place};
 use zk_typed::{Refusal, Rule, one_broken};
 
@@ -53,11 +57,10 @@ fn is_path(bytes: &[u8]) -> bool
     1 <= bytes.len() && bytes.len() <= 64 && are_path_bytes(bytes)
 }
 
-/// A path or the name of a filter, which a string in quotes gives.
-pub fn path_literal(alloc: Global, env: &Env<'_>, one: &Expr) -> Result<Bytes, Refusal>
-    ensures { Tells (λ path. path) result (logs.path_literal (env_of env.now) one.now) }
+/// A path or the name of a filter, where it is a string in quotes.
+fn path_text(alloc: Global, place: Place, one: &Expr) -> Result<Bytes, Refusal>
+    ensures { Tells (λ path. path) result (path_text place one.now) }
 {
-    let place = env.expr_place(one);
     match text_of(one) {
         Some(bytes) => {
             if is_path(bytes) {
@@ -70,20 +73,35 @@ pub fn path_literal(alloc: Global, env: &Env<'_>, one: &Expr) -> Result<Bytes, R
     }
 }
 
-/// The path of a log: `reporter` is kept for the rows that tell faults.
-#[tactic(auto, using(crate::proofs::Steps::passed))]
-pub fn log_path(alloc: Global, env: &Env<'_>, one: &Expr) -> Result<Bytes, Refusal>
-    ensures { Tells (λ path. path) result (logs.log_path (env_of env.now) one.now) }
-{
-    match path_literal(alloc, env, one) {
-        Ok(path) => {
-            if path.as_slice() == b"reporter".as_slice() {
-                let place = env.expr_place(one);
-                return Err(Refusal::Broken(one_broken(alloc, Rule::Twice, place)?));
-            }
-            Ok(path)
+impl<F: Fn(Global, &Env<'_>, u64, Wanted<'_>, &Expr) -> Result<Typed, Refusal>> Judge<'_, F> {
+    /// A path or the name of a filter, which a string in quotes gives.
+    #[tactic(auto, using(crate::proofs::Steps::passed))]
+    pub fn path_literal(&self, one: &Expr) -> Result<Bytes, Refusal>
+        requires { Judges self.now.depth (F.pre self.now.part) (F.post self.now.part) }
+        ensures { Tells (λ path. path) result (logs.path_literal (rules.expr_to self.now.depth (env_of self.now.env.now)) (env_of self.now.env.now) one.now) }
+    {
+        match self.string(one) {
+            Ok(_) => path_text(self.alloc, self.env.expr_place(one), one),
+            Err(refusal) => Err(refusal),
         }
-        Err(refusal) => Err(refusal),
+    }
+
+    /// The path of a log: `reporter` is kept for the rows that tell faults.
+    #[tactic(auto, using(crate::proofs::Steps::passed))]
+    pub fn log_path(&self, one: &Expr) -> Result<Bytes, Refusal>
+        requires { Judges self.now.depth (F.pre self.now.part) (F.post self.now.part) }
+        ensures { Tells (λ path. path) result (logs.log_path (rules.expr_to self.now.depth (env_of self.now.env.now)) (env_of self.now.env.now) one.now) }
+    {
+        match self.path_literal(one) {
+            Ok(path) => {
+                if path.as_slice() == b"reporter".as_slice() {
+                    let place = self.env.expr_place(one);
+                    return Err(Refusal::Broken(one_broken(self.alloc, Rule::Twice, place)?));
+                }
+                Ok(path)
+            }
+            Err(refusal) => Err(refusal),
+        }
     }
 }
 

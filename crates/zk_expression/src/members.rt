@@ -203,8 +203,8 @@ impl<F: Fn(Global, &Env<'_>, u64, Wanted<'_>, &Expr) -> Result<Typed, Refusal>> 
         with_part(before, last)
     }
 
-    /// A member where no container of its kind is wanted: an entry by its keys and its value, and several
-    /// keys one by one.
+    /// A member where no container of its kind is wanted: an entry by its keys and its value, and what stands
+    /// in brackets one by one.
     fn loose(&self, wanted: Wanted<'_>, one: &Expr) -> Result<Vec<Typed>, Refusal>
         requires { Judges self.now.depth (F.pre self.now.part) (F.post self.now.part) }
         ensures { Tells all_typed result (making.loose (rules.expr_to self.now.depth (env_of self.now.env.now)) (env_of self.now.env.now) (wanted_in wanted.entry) one.now) }
@@ -218,7 +218,7 @@ impl<F: Fn(Global, &Env<'_>, u64, Wanted<'_>, &Expr) -> Result<Typed, Refusal>> 
                 Some((_, items)) => self.loose_parts(wanted, items, right.get()),
                 None => self.one_value(wanted, one),
             },
-            Expr::List { items, .. } => self.each_argument(wanted, items.as_slice()),
+            Expr::List { items, .. } => self.item_values(wanted, items.as_slice()),
             _ => self.one_value(wanted, one),
         }
     }

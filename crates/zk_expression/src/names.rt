@@ -14,7 +14,7 @@ use crate::env::{Env, GlobalType, Globals, LocalName};
 use sqlite_items::{Items, at};
 use std::alloc::Global;
 use zk_base::{Bytes, Mem};
-use zk_names::{Declared, Kind, Meant};
+use zk_names::{Declared, Kind, Meant, has_module};
 use zk_operator::{Typed, constant, copied_type};
 use zk_tree::{Name, Place};
 use zk_typed::script::{Expr, Literal, SimpleType, ValueType};
@@ -36,6 +36,19 @@ pub fn local_named<'a>(
         }
     }
     Ok(None)
+}
+
+/// The local that a name means, and its number: a name with `::` is one of a module's.
+pub fn local_meant<'a>(
+    locals: &'a [LocalName<'a>],
+    name: &[u8],
+) -> Result<Option<(u32, &'a LocalName<'a>)>, Mem>
+    ensures { IfOk result (λ found. option_map local_found found ≡ spec.local_meant name.now (locals_of locals.entry.now)) }
+{
+    if has_module(name) {
+        return Ok(None);
+    }
+    local_named(locals, name)
 }
 
 /// The value of a local.
@@ -138,7 +151,7 @@ fn declared_value(
 pub fn name_typed(alloc: Global, env: &Env<'_>, name: &Name) -> Result<Typed, Refusal>
     ensures { Tells typed_of result (spec.name_typed (env_of env.now) name.now) }
 {
-    match local_named(env.locals, name.text.as_slice())? {
+    match local_meant(env.locals, name.text.as_slice())? {
         Some((number, local)) => local_value(alloc, number, &local.value_type),
         None => {
             let found = env

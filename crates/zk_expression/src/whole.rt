@@ -8,7 +8,6 @@ ghost use Rattle.zk_typed.specs.Resolving as resolving;
 ghost use Rattle.zk_typed.specs.Statements as statements;
 ghost use Rattle.zk_typed.specs.Tells.{Tells};
 ghost use Rattle.zk_typed.specs.Typing as spec;
-ghost use Rattle.zk_typed.specs.Typing.{Typed as TypedForm};
 ghost use Rattle.zk_expression.specs.Envs.{env_of, side_of, called_of};
 ghost use Rattle.zk_expression.specs.Parts.{behind_wrong, behind_view};
 
@@ -84,15 +83,16 @@ pub fn call_of(alloc: Global, env: &Env<'_>, name: &Name, items: &[Item]) -> Res
     judge.call_of(name, items)
 }
 
-/// What stands before some parts, with them. Its place is that of the whole expression.
-pub fn parts_typed(
+/// An expression with the parts behind it, or a call of a name with those behind it. Its place is that of
+/// the whole expression.
+pub fn post_typed(
     alloc: Global,
     env: &Env<'_>,
     place: Place,
-    before: Result<Typed, Refusal>,
+    first: &Expr,
     parts: &[Part],
 ) -> Result<Typed, Refusal>
-    ensures { (given : Checked TypedForm) → Tells typed_of before given → Tells typed_of result (making.parts_typed (rules.expr_typed (env_of env.now)) (env_of env.now) place given parts.now) }
+    ensures { Tells typed_of result (making.post_typed (rules.expr_typed (env_of env.now)) (env_of env.now) place first.now parts.now (making.called_name first.now parts.now)) }
 {
     let judge = Judge {
         alloc,
@@ -100,7 +100,25 @@ pub fn parts_typed(
         depth: u64::MAX,
         part: expr_to,
     };
-    judge.parts_typed(place, before, parts)
+    judge.post_typed(place, first, parts)
+}
+
+/// A left side, or what is broken in it and on the right.
+pub fn rest_of(
+    alloc: Global,
+    env: &Env<'_>,
+    side: Result<Side, Refusal>,
+    right: &Expr,
+) -> Result<Side, Refusal>
+    ensures { (wanted : Checked rules.Side) → Tells side_of side wanted → Tells side_of result (rules.rest_of (rules.expr_typed (env_of env.now)) right.now wanted) }
+{
+    let judge = Judge {
+        alloc,
+        env,
+        depth: u64::MAX,
+        part: expr_to,
+    };
+    judge.rest_of(side, right)
 }
 
 /// Expressions where no type is wanted.

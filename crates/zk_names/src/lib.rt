@@ -49,7 +49,7 @@ pub use kind::Kind;
 pub use known::Names;
 pub use leaves::Leaf;
 pub use making::names;
-pub use name::{module_of, whole_name};
+pub use name::{has_module, module_of, whole_name};
 pub use node::{Node, add_decl_nodes};
 pub use outright::{outright_name, written};
 pub use scripts::Scripts;

@@ -1,6 +1,7 @@
 ghost use Rattle.std.specs.Prelude.{◌≡◌, IfOk};
 ghost use Rattle.std.specs.Option.{option_map};
 ghost use Rattle.zk_typed.specs.Making as making;
+ghost use Rattle.zk_typed.specs.Expressions.{added_type};
 ghost use Rattle.zk_typed.specs.Statements as spec;
 ghost use Rattle.zk_typed.specs.Forms as form;
 ghost use Rattle.zk_typed.specs.View.{type_of, expr_of};
@@ -114,7 +115,7 @@ pub fn added_type(
     operator: Assigning,
     one: &ValueType,
 ) -> Result<Option<ValueType>, AllocError>
-    ensures { IfOk result (λ made. option_map type_of made ≡ spec.added_type operator (type_of one.now)) }
+    ensures { IfOk result (λ made. option_map type_of made ≡ added_type operator (type_of one.now)) }
 {
     match one {
         ValueType::Simple(simple) => {

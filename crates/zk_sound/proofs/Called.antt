@@ -1,5 +1,5 @@
 -- Calls that the rules make have types: of functions, of hooks, of built-in functions and of the log framework.
-use Rattle.std.proofs.Common.{◌≡◌, ℕ, Bool, true, false, List, [], ◌∷◌, Option, Some, None, Ok, Err, refl, sym, ap, subst, ◌∙◌}
+use Rattle.std.proofs.Common.{◌≡◌, ℕ, ◌==◌, length, Bool, true, false, List, [], ◌∷◌, Option, Some, None, Ok, Err, refl, sym, ap, subst, ◌∙◌}
 use Rattle.std.specs.Prelude.{if◌then◌else◌, codes}
 use Rattle.std.specs.List.{AllByRecursion}
 use Rattle.zk_base.specs.declared.numbers.RecordNo.{RecordNo}
@@ -59,11 +59,6 @@ found_is env name one is never = by (is_local env name) refl
     by true e = let told = rw e at is in absurd (never (subst FoundVariable told tt))
     by false e = rw e at is
 
--- a copy of the one argument
-abbrev copy_next : Place → List Typed → Checked Called
-copy_next place (one ∷ []) = gives (typed one.type (built_in_call built_in.Copy (one ∷ [])))
-copy_next place others = broken rule.Arguments place
-
 module _ (program : Program) (names : Names) (check : Check) (well : ChecksWell program names check) (texts : TextsWell check) (env : Env) (agree : EnvAgrees program names env) where
   any_form : (one : Expr) → Sound (IsForm program names) (check Nothing one)
   any_form one = sound_more (Formed program names Nothing) (IsForm program names) (check Nothing one) (λ made h. h.0) (well Nothing one)
@@ -84,16 +79,8 @@ module _ (program : Program) (names : Names) (check : Check) (well : ChecksWell 
   Text pair = IsForm program names pair.0 × (pair.0.type ≡ type.string)
 
   format_sound : (one : Expr) → Sound Text (format_text check env one)
-  format_sound one = by (text_literal one) refl
-    where
-      by : (text : Option (List ℕ)) → text_literal one ≡ text → Sound Text (format_text check env one)
-      by None is = sound_bind (IsForm program names) Text (check Nothing one) _ (any_form one) (λ made h. rw is tt)
-      by (Some text) is = sound_bind (λ made. IsForm program names made × (made.type ≡ type.string)) Text (check Nothing one) _ (two (check Nothing one) (any_form one) (texts one text is)) (λ made h.
-          sound_bind (λ verbs. Unit {0}) Text _ (λ verbs. Ok (made, verbs)) (sound_any _) (λ verbs any. h))
-        where
-          two : (m : Checked Typed) → Sound (IsForm program names) m → Sound (λ made. made.type ≡ type.string) m → Sound (λ made. IsForm program names made × (made.type ≡ type.string)) m
-          two (Ok made) h k = (h, k)
-          two (Err rules) h k = tt
+  format_sound one = sound_bind (Formed program names (Wants type.string)) Text (check (Wants type.string) one) _ (well (Wants type.string) one) (λ made h.
+      sound_bind (λ verbs. Unit {0}) Text _ (λ verbs. Ok (made, verbs)) (sound_any _) (λ verbs any. h))
 
   fmt_sound : (place : Place) (items : List Item) → Sound (CalledForm program names) (fmt_typed check env place items)
   fmt_sound place [] = tt
@@ -109,12 +96,11 @@ module _ (program : Program) (names : Names) (check : Check) (well : ChecksWell 
       (λ args h. let rest = simples args h in applied program names (primitive.BuiltIn built_in.Cat) args type.string rest.0 (rest.1, refl))
 
   copy_sound : (place : Place) (items : List Item) → Sound (CalledForm program names) (copy_typed check env place items)
-  copy_sound place items = sound_bind (AllByRecursion (IsForm program names)) (CalledForm program names) (each (argument check env Nothing) items) _ (each_argument program names check well env items) one
-    where
-      one : (args : List Typed) → AllByRecursion (IsForm program names) args → Sound (CalledForm program names) (copy_next place args)
-      one [] all = tt
-      one (first ∷ []) all = applied program names (primitive.BuiltIn built_in.Copy) (first ∷ []) first.type all refl
-      one (first ∷ second ∷ others) all = tt
+  copy_sound place [] = tt
+  copy_sound place (first ∷ others) = sound_bind (IsForm program names) (CalledForm program names) (argument check env Nothing first) _
+      (item_sound program names check env (IsForm program names) (check Nothing) any_form first) (λ one h.
+      sound_require (CalledForm program names) (length others == 0) rule.Arguments place (gives (typed one.type (built_in_call built_in.Copy (one ∷ [])))) (λ alone.
+      applied program names (primitive.BuiltIn built_in.Copy) (one ∷ []) one.type (h, tt) refl))
 
   row_sound : (place : Place) (function : BuiltIn) (items : List Item) (row : Option (List ValueType × ValueType)) → ((types : List ValueType) (given : List ValueType × ValueType) → row ≡ Some given → types ≡ given.0 → BuiltInTakes function types given.1)
       → Sound (CalledForm program names) (by_row check env place function items row)
@@ -222,14 +208,14 @@ module _ (program : Program) (names : Names) (check : Check) (well : ChecksWell 
   create_sound place word brackets items =
       let columns = optional (not_local env) (setting (codes "columns") items) >> columns_type env.scripts env.home items in
       let settings = both (only_settings check env (codes "columns" ∷ codes "ev" ∷ codes "path" ∷ codes "policy" ∷ []) [] items)
-      (both (both columns (optional (event_setting env (if_known columns)) (setting (codes "ev") items))) (both (optional (log_path env) (setting (codes "path") items)) (optional (policy_setting env (if_known columns)) (setting (codes "policy") items)))) in
+      (both (both columns (optional (event_setting env (if_known columns)) (setting (codes "ev") items))) (both (optional (log_path check env) (setting (codes "path") items)) (optional (policy_setting env (if_known columns)) (setting (codes "policy") items)))) in
       sound_bind (λ parts. Unit {0}) (IsForm program names) settings _ (sound_any settings) (λ parts any. sound_bind (λ number. Unit {0}) (IsForm program names) (or_broken parts.1.0.0 rule.Field brackets) _ (sound_any (or_broken parts.1.0.0 rule.Field brackets)) (λ number any.
       sound_bind (λ path. Unit {0}) (IsForm program names) (path_or_module place word parts.1.1.0) _ (sound_any (path_or_module place word parts.1.1.0)) (λ path any logs. ([], tt, (refl, refl, logs.0)))))
 
   filter_sound : (word : Declared) (known : Option RecordNo) (brackets : Place) (items : List Item) → Sound (IsForm program names) (filter_typed check env word known brackets items)
   filter_sound word known brackets items =
-      let settings = both (both (only_settings check env (codes "name" ∷ codes "path" ∷ codes "include" ∷ codes "exclude" ∷ codes "policy" ∷ []) [] items) (both (optional (path_literal env) (setting (codes "name") items)) (optional (log_path env) (setting (codes "path") items))))
-      (both (both (optional (names_setting env) (setting (codes "include") items)) (optional (names_setting env) (setting (codes "exclude") items))) (optional (policy_setting env known) (setting (codes "policy") items))) in
+      let settings = both (both (only_settings check env (codes "name" ∷ codes "path" ∷ codes "include" ∷ codes "exclude" ∷ codes "policy" ∷ []) [] items) (both (optional (path_literal check env) (setting (codes "name") items)) (optional (log_path check env) (setting (codes "path") items))))
+      (both (both (optional (names_setting check env) (setting (codes "include") items)) (optional (names_setting check env) (setting (codes "exclude") items))) (optional (policy_setting env known) (setting (codes "policy") items))) in
       sound_bind (λ parts. Unit {0}) (IsForm program names) settings _ (sound_any settings) (λ parts any. sound_bind (λ name. Unit {0}) (IsForm program names) (or_broken parts.0.1.0 rule.Field brackets) _ (sound_any (or_broken parts.0.1.0 rule.Field brackets)) (λ name any.
       known_sound known (λ number. log_form (log.AddFilter (log_no env word) name parts.0.1.1 parts.1.1 (places_of (keeps parts.1.0.0 parts.1.0.1) 0 (logged (leaves env.scripts number))))) (λ number logs. ([], tt, (refl, refl, logs.0)))))
 
@@ -248,7 +234,7 @@ module _ (program : Program) (names : Names) (check : Check) (well : ChecksWell 
   with_sound : (place : Place) (function : LogFunction) (word : Declared) (known : Option RecordNo) → row_type program (log_no env word) ≡ known → (one : Expr) → Sound (IsForm program names) (log_with check env place function word known one)
   with_sound place CreateStream word known is one = settings_sound (create_typed check env place word) (create_sound place word) one
   with_sound place AddFilter word known is one = settings_sound (filter_typed check env word known) (filter_sound word known) one
-  with_sound place RemoveFilter word known is one = sound_bind (λ name. Unit {0}) (IsForm program names) (path_literal env one) _ (sound_any (path_literal env one)) (λ name any logs. ([], tt, (refl, refl, logs.0)))
+  with_sound place RemoveFilter word known is one = sound_bind (λ name. Unit {0}) (IsForm program names) (path_literal check env one) _ (sound_any (path_literal check env one)) (λ name any logs. ([], tt, (refl, refl, logs.0)))
   with_sound place RemoveDefaultFilter word known is one = tt
   with_sound place Write word known is one = sound_bind (Formed program names (row_wanted known)) (IsForm program names) (check (row_wanted known) one) (λ row. Ok (typed type.bool (form.Write (log_no env word) row.expr))) (well (row_wanted known) one) (λ row h. row_form word known row is h)
 

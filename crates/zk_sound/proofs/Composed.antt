@@ -36,7 +36,7 @@ use Rattle.zk_sound.specs.Having.{NamesTake, NameTakes, LoopTakes, StmtFits, Stm
 use Rattle.zk_sound.specs.Agreeing.{EnvAgrees, StmtLogsFit, StmtsLogsFit, LocalsAgree, StandsIn}
 use Rattle.zk_sound.proofs.Growth.{got_behind, got_last}
 use Rattle.zk_sound.proofs.Same.{same_type_is}
-use Rattle.zk_sound.proofs.Checks.{Sound, sound_bind, sound_after, never_ok, sound_require, sound_both, sound_is, sound_ok}
+use Rattle.zk_sound.proofs.Checks.{Sound, sound_bind, sound_after, never_ok, sound_require, sound_both, sound_any, sound_is, sound_ok}
 use Rattle.zk_sound.proofs.Formed.{types_of, IsForm, Formed, have_forms, at_type}
 use Rattle.zk_sound.proofs.Constructed.{braces_sound}
 use Rattle.zk_sound.proofs.Judged.{local_is, expr_sound}
@@ -109,12 +109,14 @@ module _ (program : Program) (names : Names) (gives : Option ValueType) (context
   local_well locals place name tree one = λ agree.
       let written = local_type context locals tree in
       let made = local_value context locals (place_of context place) written one in
+      let twice = require (not (is_some (local_named name.text 0 locals))) rule.Twice (place_of context place) in
       let new : LocalName = record { name = name.text; type = type_for written made } in
       let before = fewer program names gives locals (new ∷ []) agree in (
         before,
-        sound_bind (Second program names gives) (StmtForm program names gives) made _
-            (local_value_sound locals before (place_of context place) written one (λ of is. agree.of (length locals) new of (got_last locals new) is))
-            (λ pair h. sound_after (StmtForm program names gives) (require (not (is_some (local_named name.text 0 locals))) rule.Twice (place_of context place)) (Ok pair.1) h),
+        sound_bind (λ parts. Unit {0} × Second program names gives parts.1) (StmtForm program names gives) (both twice made) _
+            (sound_both (λ done. Unit {0}) (Second program names gives) twice made (sound_any twice)
+            (local_value_sound locals before (place_of context place) written one (λ of is. agree.of (length locals) new of (got_last locals new) is)))
+            (λ parts h. h.1),
       )
 
   -- The names of a `for` -----------------------------------------------------------------------------------------------

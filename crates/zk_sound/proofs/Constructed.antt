@@ -23,7 +23,7 @@ use Rattle.zk_typed.specs.declared.script.types.SimpleType.{SimpleType}
 use Rattle.zk_typed.specs.declared.script.types.SimpleType.TheVariants as simple
 use Rattle.zk_typed.specs.Checked.{Checked, broken, elsewhere, ◌>>◌, both, each, or_broken}
 use Rattle.zk_typed.specs.Forms as form
-use Rattle.zk_typed.specs.Making.{argument, matched, arguments, field_named, field_of, is_wire, keys_fit, element, GivenField, wire_read, and_given, givens, given_field, given_once, all_given, record_typed, plain_shape, Members, members_in, one_value, bracketed, each_key, member_keys, joined, entry, loose, loosely, wanted_container, types_same, vector_alone, simple_types, set_alone, container_alone, container_typed, braces_typed, brackets_typed}
+use Rattle.zk_typed.specs.Making.{argument, matched, arguments, field_named, field_of, is_wire, fitted_keys, keys_fit, element, GivenField, wire_read, and_given, givens, given_field, given_once, all_given, record_typed, plain_shape, Members, members_in, one_value, bracketed, each_key, member_keys, joined, entry, item_values, loose, loosely, wanted_container, types_same, vector_alone, simple_types, set_alone, container_alone, container_typed, braces_typed, brackets_typed}
 use Rattle.zk_typed.specs.Operations.{same_type}
 use Rattle.zk_typed.specs.Predefined as type
 use Rattle.zk_typed.specs.Program.{Program}
@@ -130,15 +130,29 @@ module _ (program : Program) (names : Names) (env : Env) (agree : EnvAgrees prog
 -- Elements ---------------------------------------------------------------------------------------------------------
 
 module _ (program : Program) (names : Names) (env : Env) where
-  pub keys_sound : (place : Place) (keys : List SimpleType) (written : List Expr) (ones : List Typed) → AllByRecursion (IsForm program names) ones → Sound (AreForms program names (key_types keys)) (keys_fit env place keys written ones)
-  keys_sound place [] [] [] all = (tt, refl)
-  keys_sound place (key ∷ keys) (one ∷ others) (first ∷ more) (h, all) = sound_bind (λ pair. (IsForm program names pair.0 × (pair.0.type ≡ Simple key)) × AreForms program names (key_types keys) pair.1) (AreForms program names (key_types (key ∷ keys)))
-      (both (or_broken (fits (Simple key) first) rule.WrongType (expr_place env one)) (keys_fit env place keys others more)) (λ parts. Ok (parts.0 ∷ parts.1))
-      (sound_both (λ made. IsForm program names made × (made.type ≡ Simple key)) (AreForms program names (key_types keys)) (or_broken (fits (Simple key) first) rule.WrongType (expr_place env one)) (keys_fit env place keys others more)
+  -- the keys that have a type, which are all where they are as many
+  abbrev Fitted : List SimpleType → List Typed → Type 0
+  Fitted keys ones = AllByRecursion (IsForm program names) ones × (length keys ≡ length ones → types_of ones ≡ key_types keys)
+
+  fitted_sound : (keys : List SimpleType) (written : List Expr) (ones : List Typed) → AllByRecursion (IsForm program names) ones → Sound (Fitted keys) (fitted_keys env keys written ones)
+  fitted_sound [] written ones all = (tt, λ many. refl)
+  fitted_sound (key ∷ keys) [] ones all = (tt, λ many. absurd (omega (arith, many)))
+  fitted_sound (key ∷ keys) (one ∷ others) [] all = (tt, λ many. absurd (omega (arith, many)))
+  fitted_sound (key ∷ keys) (one ∷ others) (first ∷ more) (h, all) = sound_bind (λ pair. (IsForm program names pair.0 × (pair.0.type ≡ Simple key)) × Fitted keys pair.1) (Fitted (key ∷ keys))
+      (both (or_broken (fits (Simple key) first) rule.WrongType (expr_place env one)) (fitted_keys env keys others more)) (λ parts. Ok (parts.0 ∷ parts.1))
+      (sound_both (λ made. IsForm program names made × (made.type ≡ Simple key)) (Fitted keys) (or_broken (fits (Simple key) first) rule.WrongType (expr_place env one)) (fitted_keys env keys others more)
       (sound_or (λ made. IsForm program names made × (made.type ≡ Simple key)) (fits (Simple key) first) rule.WrongType (expr_place env one) (λ made is. fits_is program names (Simple key) first made h is))
-      (keys_sound place keys others more all))
-      (λ parts k. ((k.0.0, k.1.0), ap (λ x. x ∷ types_of parts.1) k.0.1 ∙ ap (λ xs. Simple key ∷ xs) k.1.1))
-  keys_sound place keys written ones all = tt
+      (fitted_sound keys others more all))
+      (λ parts k. ((k.0.0, k.1.0), λ many. ap (λ x. x ∷ types_of parts.1) k.0.1 ∙ ap (λ xs. Simple key ∷ xs) (k.1.1 (omega (arith, many)))))
+
+  pub keys_sound : (place : Place) (keys : List SimpleType) (written : List Expr) (ones : List Typed) → AllByRecursion (IsForm program names) ones → Sound (AreForms program names (key_types keys)) (keys_fit env place keys written ones)
+  keys_sound place keys written ones all = sound_bind (Fitted keys) (AreForms program names (key_types keys)) (fitted_keys env keys written ones) _ (fitted_sound keys written ones all) (λ fitting h.
+      sound_require (AreForms program names (key_types keys)) (length keys == length fitting && length keys == length ones) rule.WrongType place (Ok fitting) (λ held.
+      (h.0, h.1 (eqb-true (length keys) (length fitting) (left_true (length keys == length fitting) held)))))
+    where
+      left_true : (a : Bool) → a && length keys == length ones ≡ true → a ≡ true
+      left_true true held = refl
+      left_true false held = absurd cc
 
   pub element_sound : (place : Place) (one : Typed) (written : List Expr) (keys : List Typed) → IsForm program names one → AllByRecursion (IsForm program names) keys → Sound (IsForm program names) (element env place one written keys)
   element_sound place one written keys h all = by one.type one.expr h
@@ -232,9 +246,9 @@ module _ (program : Program) (names : Names) (check : Check) (well : ChecksWell 
       (λ whole. ((λ logs. (refl, given_forms program names env number given all logs)), refl))))
 
   pub brackets_sound : (place : Place) (items : List Item) (wanted : Wanted) → Sound (Formed program names wanted) (brackets_typed check env place items wanted)
-  brackets_sound place items Unclear = sound_after (Formed program names Unclear) (each (argument check env Unclear) items) elsewhere tt
+  brackets_sound place items Unclear = sound_after (Formed program names Unclear) (item_values check Unclear items) elsewhere tt
   brackets_sound place items (Wants (Record number)) = record_sound place number items
-  brackets_sound place items wanted = never_ok (Formed program names wanted) (each (argument check env Nothing) items) rule.WrongType place
+  brackets_sound place items wanted = never_ok (Formed program names wanted) (item_values check Nothing items) rule.WrongType place
 
 -- Containers -------------------------------------------------------------------------------------------------------
 

@@ -1,6 +1,6 @@
 -- Each expression that the rules give a typed form has the type that it was given.
 use Rattle.std.proofs.Common.{◌≡◌, ℕ, zero, suc, ◌+◌, Bool, true, false, ◌||◌, List, [], ◌∷◌, Option, Some, None, Ok, refl, sym, ap, ◌∙◌, arith}
-use Rattle.std.specs.Prelude.{slice_get}
+use Rattle.std.specs.Prelude.{slice_get, is_some, if◌then◌else◌}
 use Rattle.std.specs.List.{AllByRecursion}
 use Rattle.std.specs.Str.{bytes_eq}
 use Rattle.zk_tree.specs.declared.expr.Expr.{Expr, out-Expr}
@@ -28,16 +28,16 @@ use Rattle.zk_typed.specs.declared.script.primitive.Relation.{Relation}
 use Rattle.zk_typed.specs.declared.script.primitive.Unary.TheVariants as unary
 use Rattle.zk_typed.specs.declared.script.types.SimpleType.TheVariants as simple
 use Rattle.zk_typed.specs.Checked.{Checked, broken, ◌>>=◌, ◌>>◌, both}
-use Rattle.zk_typed.specs.Expressions.{Side, side, declared_side, name_side, element_side, ends_in_element, left_side, assignable, stepped, unary_typed, compared, arms, choice, wanted_first, size_typed, expr_to, expr_typed, is_fixed, has_expiry}
+use Rattle.zk_typed.specs.Expressions.{Side, side, declared_side, name_side, element_side, ends_in_element, left_side, assignable, stepped, unary_typed, compared, arms, choice, wanted_first, size_typed, assigned_parts, expr_to, expr_typed, is_fixed, has_expiry}
 use Rattle.zk_typed.specs.Expressions as expressions
 use Rattle.zk_typed.specs.Forms as form
 use Rattle.zk_typed.specs.Making.{called_name, members_in}
-use Rattle.zk_typed.specs.Names.{Declared, Meant, Word, Variable}
+use Rattle.zk_typed.specs.Names.{Declared, Meant, Word, Variable, module_in}
 use Rattle.zk_typed.specs.Operations.{same_type, relation_of}
 use Rattle.zk_typed.specs.Predefined as type
 use Rattle.zk_typed.specs.Program.{Program}
 use Rattle.zk_typed.specs.Types.{ValueType, Simple, Table, Set, Vector}
-use Rattle.zk_typed.specs.Typing.{Typed, typed, Env, LocalName, at, apply, expr_place, Wanted, Nothing, Wants, Unclear, Check, fit, constant, interval_of, literal_typed, declared_value, name_value, name_typed, local_named, found, number_among, is_variable, beside, left_of_in, related}
+use Rattle.zk_typed.specs.Typing.{Typed, typed, Env, LocalName, at, apply, expr_place, Wanted, Nothing, Wants, Unclear, Check, fit, constant, interval_of, literal_typed, declared_value, name_value, name_typed, local_named, local_meant, found, number_among, is_variable, beside, left_of_in, related}
 use Rattle.zk_typed.specs.Within.{depth_max}
 use Rattle.zk_sound.specs.Worlds.{Names, type_of}
 use Rattle.zk_sound.specs.Having.{HasForm, HaveForms, SideTakes, IsStepped}
@@ -62,6 +62,14 @@ local_at name number (one ∷ others) given is = by (bytes_eq one.name name) (λ
     by true rest e = here cc
     by false rest e = let (m, other, far, there, of) = rest e in (suc m, other, far ∙ omega arith, there, of)
 
+-- a name that means a local is its name
+meant_named : (name : List ℕ) (locals : List LocalName) (given : ℕ × Checked ValueType) → local_meant name locals ≡ Some given → local_named name 0 locals ≡ Some given
+meant_named name locals given is = by (is_some (module_in name)) is
+  where
+    by : (elsewhere : Bool) → (if elsewhere then None else local_named name 0 locals) ≡ Some given → local_named name 0 locals ≡ Some given
+    by true e = absurd cc
+    by false e = e
+
 module _ (program : Program) (names : Names) (env : Env) (agree : EnvAgrees program names env) where
   pub local_is : (name : List ℕ) (given : ℕ × Checked ValueType) (of : ValueType) → local_named name 0 env.locals ≡ Some given → given.1 ≡ Ok of → type_of names given.0 ≡ Some of
   local_is name given of is known =
@@ -81,11 +89,11 @@ module _ (program : Program) (names : Names) (env : Env) (agree : EnvAgrees prog
       of_meant meant one = tt
 
   pub name_sound : (name : Name) → Sound (IsForm program names) (name_typed env name)
-  name_sound name = by (local_named name.text 0 env.locals) refl
+  name_sound name = by (local_meant name.text env.locals) refl
     where
-      by : (local : Option (ℕ × Checked ValueType)) → local_named name.text 0 env.locals ≡ local → Sound (IsForm program names) (name_value env name local)
+      by : (local : Option (ℕ × Checked ValueType)) → local_meant name.text env.locals ≡ local → Sound (IsForm program names) (name_value env name local)
       by None is = declared_sound (at env name.place) (found env name)
-      by (Some local) is = sound_bind (λ of. local.1 ≡ Ok of) (IsForm program names) local.1 (λ of. Ok (typed of (form.Local local.0))) (sound_is local.1) (λ of known logs. local_is name.text local of is known)
+      by (Some local) is = sound_bind (λ of. local.1 ≡ Ok of) (IsForm program names) local.1 (λ of. Ok (typed of (form.Local local.0))) (sound_is local.1) (λ of known logs. local_is name.text local of (meant_named name.text env.locals local is) known)
 
   -- Left sides -------------------------------------------------------------------------------------------------------
 
@@ -104,9 +112,9 @@ module _ (program : Program) (names : Names) (env : Env) (agree : EnvAgrees prog
           (λ of. Ok (record { left = left.Global number; operands = form.NoExpr; type = of; fixed = is_fixed lasting; expires = has_expiry attrs })) (sound_is (env.global_type number)) (λ of known logs. ([], tt, (refl, agree.globals number of known)))
       of_meant meant one = tt
 
-  name_side_sound : (name : Name) (local : Option (ℕ × Checked ValueType)) → local_named name.text 0 env.locals ≡ local → Sound SideForm (name_side env name local)
+  name_side_sound : (name : Name) (local : Option (ℕ × Checked ValueType)) → local_meant name.text env.locals ≡ local → Sound SideForm (name_side env name local)
   name_side_sound name None is = declared_side_sound (at env name.place) (found env name)
-  name_side_sound name (Some local) is = sound_bind (λ of. local.1 ≡ Ok of) SideForm local.1 (λ of. Ok (side (left.Local local.0) form.NoExpr of)) (sound_is local.1) (λ of known logs. ([], tt, (refl, local_is name.text local of is known)))
+  name_side_sound name (Some local) is = sound_bind (λ of. local.1 ≡ Ok of) SideForm local.1 (λ of. Ok (side (left.Local local.0) form.NoExpr of)) (sound_is local.1) (λ of known logs. ([], tt, (refl, local_is name.text local of (meant_named name.text env.locals local is) known)))
 
   element_side_sound : (place : Place) (one : Typed) → IsForm program names one → Sound SideForm (element_side place one)
   element_side_sound place one h = by one.expr h
@@ -132,7 +140,7 @@ module _ (program : Program) (names : Names) (check : Check) (well : ChecksWell 
       ends first parts false is e = rw (is, e) wrong
 
       by : (f : Expr-F Expr Item Part Link) → out-Expr one ≡ f → Sound (SideForm program names env agree) (left_side check env one)
-      by (written.Name name) is = rw is (name_side_sound program names env agree name (local_named name.text 0 env.locals) refl)
+      by (written.Name name) is = rw is (name_side_sound program names env agree name (local_meant name.text env.locals) refl)
       by (written.Post first parts) is = ends first parts (ends_in_element parts) is refl
       by f is = rw is wrong
 
@@ -238,7 +246,7 @@ module _ (program : Program) (names : Names) (env : Env) (agree : EnvAgrees prog
 
   -- a form by the checks of its parts
   form_sound : (depth : ℕ) (wanted : Wanted) (one : Expr) → ChecksWell program names (expr_to depth env) → TextsWell (expr_to depth env) → (f : Expr-F Expr Item Part Link) → out-Expr one ≡ f → Sound (Formed program names wanted) (expr_to (suc depth) env wanted one)
-  form_sound depth wanted one well texts (written.Assign a operator b) is = rw is (never_ok (Formed program names wanted) (both (expr_to depth env Nothing a) (expr_to depth env Nothing b)) rule.WrongType (expr_place env one))
+  form_sound depth wanted one well texts (written.Assign a operator b) is = rw is (never_ok (Formed program names wanted) (assigned_parts (expr_to depth env) env operator a b) rule.WrongType (expr_place env one))
   form_sound depth wanted one well texts (written.Choice test a b) is = rw is (choice_sound program names (expr_to depth env) well texts env agree wanted test a b)
   form_sound depth wanted one well texts (written.Chain level first links) is = rw is (fitting (expr_place env one) wanted _
       (chained_sound program names (expr_to depth env) well env level (expr_place env first) links (expr_to depth env (wanted_first level) first) (first_of program names (expr_to depth env) well texts env agree level first)))

@@ -21,15 +21,15 @@ use Rattle.zk_typed.specs.declared.script.primitive.FieldNo.{FieldNo}
 use Rattle.zk_typed.specs.declared.script.types.SimpleType.{SimpleType}
 use Rattle.zk_typed.specs.declared.script.types.SimpleType.TheVariants as simple
 use Rattle.zk_typed.specs.Checked.{Checked, broken, elsewhere, ◌>>=◌, both, each}
-use Rattle.zk_typed.specs.Expressions.{Side, left_side, assignable, expr_typed}
+use Rattle.zk_typed.specs.Expressions.{Side, left_side, assignable, added_type, rest_of, expr_typed}
 use Rattle.zk_typed.specs.Forms as form
-use Rattle.zk_typed.specs.Making.{Called, Gives, Performs, arguments, argument, printed, keys_fit, parts_typed, call_of, called_name, is_wire, wire_read}
+use Rattle.zk_typed.specs.Making.{Called, Gives, Performs, arguments, argument, printed, keys_fit, post_typed, call_of, called_name, is_wire, wire_read}
 use Rattle.zk_typed.specs.Names.{Declared, Meant, Event}
 use Rattle.zk_typed.specs.Predefined as type
 use Rattle.zk_typed.specs.Program.{Program}
 use Rattle.zk_typed.specs.Resolving.{params_of}
 use Rattle.zk_typed.specs.Statements as statements
-use Rattle.zk_typed.specs.Statements.{Within, InFunction, InHook, InHandler, Context, Locals, env_of, Stated, stated, check_in, place_of, init_typed, empty_of, assigned, added_type, binary_of, added, rest_of, assignment, indexed, keys_in, element_of, event_args, do_with, return_typed}
+use Rattle.zk_typed.specs.Statements.{Within, InFunction, InHook, InHandler, Context, Locals, env_of, Stated, stated, check_in, place_of, init_typed, empty_of, assigned, binary_of, added, assignment, indexed, keys_in, element_of, event_args, do_with, return_typed}
 use Rattle.zk_typed.specs.Types.{ValueType, Simple, Record, Table, Set, Vector}
 use Rattle.zk_typed.specs.Within.{depth_max}
 use Rattle.zk_typed.specs.Typing.{Typed, Env, at, exprs, expr_place, Nothing, Wants, Unclear, found}
@@ -40,7 +40,7 @@ use Rattle.zk_sound.specs.Agreeing.{EnvAgrees, AllLogsFit, StmtLogsFit, WithinGi
 use Rattle.zk_sound.proofs.Checks.{Sound, sound_bind, sound_after, never_ok, sound_both, sound_each, sound_more}
 use Rattle.zk_sound.proofs.Formed.{types_of, IsForm, Formed, ChecksWell, have_forms, at_type}
 use Rattle.zk_sound.proofs.Constructed.{AreForms, given_arguments, keys_sound, wire_is, wire_form}
-use Rattle.zk_sound.proofs.Called.{TextsWell, CalledForm, call_sound, parts_sound, printed_sound, simples, found_is}
+use Rattle.zk_sound.proofs.Called.{TextsWell, CalledForm, call_sound, post_sound, printed_sound, simples, found_is}
 use Rattle.zk_sound.proofs.Judged.{SideForm, left_side_sound, text_is, expr_sound}
 
 -- a typed statement fits its body, where what it says of logs fits
@@ -239,9 +239,9 @@ module _ (program : Program) (names : Names) (gives : Option ValueType) (env : E
       index : (first : Expr) (parts : List Part) (found : Option (List Part × List Expr)) → out-Expr one ≡ written.Post first parts → indexed parts ≡ found → Sound (ElementForm tables) (element_of (expr_typed env) env place tables one)
       index first parts None is e = rw (is, e) (never_ok (ElementForm tables) (expr_typed env Nothing one) rule.WrongType place)
       index first parts (Some found) is e = rw (is, e) (sound_bind (λ pair. IsForm program names pair.0 × AllByRecursion (IsForm program names) pair.1) (ElementForm tables)
-          (both (parts_typed (expr_typed env) env (expr_place env first) (expr_typed env Nothing first) found.0) (each (expr_typed env Nothing) found.1)) (λ parts. keys_next env place found.1 parts (keys_in tables parts.0.type))
-          (sound_both (IsForm program names) (AllByRecursion (IsForm program names)) (parts_typed (expr_typed env) env (expr_place env first) (expr_typed env Nothing first) found.0) (each (expr_typed env Nothing) found.1)
-          (parts_sound program names (expr_typed env) (well program names gives env agree) (texts program names gives env agree) env agree (expr_place env first) found.0 (expr_typed env Nothing first) (any_sound first))
+          (both (post_typed (expr_typed env) env (expr_place env first) first found.0 (called_name first found.0)) (each (expr_typed env Nothing) found.1)) (λ parts. keys_next env place found.1 parts (keys_in tables parts.0.type))
+          (sound_both (IsForm program names) (AllByRecursion (IsForm program names)) (post_typed (expr_typed env) env (expr_place env first) first found.0 (called_name first found.0)) (each (expr_typed env Nothing) found.1)
+          (post_sound program names (expr_typed env) (well program names gives env agree) (texts program names gives env agree) env agree (expr_place env first) first found.0 (called_name first found.0))
           (sound_each (IsForm program names) (expr_typed env Nothing) any_sound found.1))
           (λ parts h. keyed place tables found.1 parts h.0 h.1 (keys_in tables parts.0.type) refl))
 

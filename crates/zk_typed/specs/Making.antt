@@ -90,7 +90,8 @@ fitted_keys env keys others more = Ok []
 -- keys of these types, as many as there are
 abbrev pub keys_fit : Env → Place → List SimpleType → List Expr → List Typed → Checked (List Typed)
 keys_fit env place keys written values =
-    fitted_keys env keys written values >>= (λ fitting. require (length keys == length values) rule.WrongType place >> Ok fitting)
+    fitted_keys env keys written values >>= (λ fitting.
+    require (length keys == length fitting && length keys == length values) rule.WrongType place >> Ok fitting)
 
 abbrev pub element : Env → Place → Typed → List Expr → List Typed → Checked Typed
 element env place one written keys = of_type one.type

@@ -10,7 +10,7 @@ ghost use Rattle.zk_names.specs.Lent.{declared_lent, declared_of, home_of};
 ghost use Rattle.zk_names.specs.Scripted.{scripts_in};
 ghost use Rattle.zk_operator.specs.Views.{typed_of};
 ghost use Rattle.zk_expression.specs.Envs.{global_of, globals_at};
-ghost use Rattle.zk_check.specs.Rounds.{IsGlobals, IsRound, by_init, filled, is_mark};
+ghost use Rattle.zk_check.specs.Rounds.{IsGlobals, IsRound, by_init, filled};
 
 use std::alloc::Global;
 use zk_base::Mem;
@@ -21,8 +21,8 @@ use zk_tree::{Init, Type};
 use zk_typed::{Broken, Refusal, Rule};
 
 /// Whether a rule marks what can't be told for globals that rest on each other's initial values.
-fn is_mark(one: &Broken) -> bool
-    ensures { result ≡ is_mark one.now }
+pub fn is_mark(one: &Broken) -> bool
+    ensures { result ≡ spec.is_mark one.now }
 {
     match one.rule {
         Rule::Recursive => true,

@@ -1,5 +1,6 @@
-ghost use Rattle.std.specs.Prelude.{◌≡◌, IfOk};
+ghost use Rattle.std.specs.Prelude.{◌≡◌, filter, not, IfOk};
 ghost use Rattle.zk_typed.specs.Checked.{Checked};
+ghost use Rattle.zk_typed.specs.Declarations.{is_mark};
 ghost use Rattle.zk_typed.specs.Errors as spec;
 ghost use Rattle.zk_typed.specs.Resolving as resolving;
 ghost use Rattle.zk_typed.specs.Tells.{Tells};
@@ -12,15 +13,17 @@ ghost use Rattle.zk_operator.specs.Views.{typed_of, wanted_in};
 ghost use Rattle.zk_check.specs.Valued.{IsValued, global_rules, inferred, place_of_init, variable_rules, written, written_with};
 
 use crate::rules::ground::Ground;
-use crate::rules::rounds::is_circular;
+use crate::rules::rounds::{is_circular, is_mark};
 use crate::rules::told::dropped;
+use sqlite_items::Items;
 use std::alloc::Global;
+use zk_base::Mem;
 use zk_expression::{Env, Globals, init_typed};
 use zk_names::{Declared, Home, Meant, Scripts, Signature, place_in};
 use zk_operator::{Typed, Wanted, also, signature_attrs};
 use zk_tree::{Attr, Init, Lasting, Place, Type};
 use zk_typed::script::ValueType;
-use zk_typed::{Refusal, Rule, one_broken};
+use zk_typed::{Broken, Refusal, Rule, one_broken};
 
 /// What the rules of initial values stand on.
 #[derive(Clone, Copy)]
@@ -44,17 +47,35 @@ pub struct Declaration<'a> {
     pub attrs: &'a [Attr],
 }
 
-/// An initial value that rests on names whose types rest on it has no type that can be told.
+/// The rules that are broken beside what can't be told for a circle.
+fn unmarked(alloc: Global, rules: Items<Broken>) -> Result<Items<Broken>, Mem>
+    ensures { IfOk result (λ others. others ≡ filter (λ one. not (is_mark one)) rules) }
+{
+    let mut others = Items::new(alloc);
+    for one in rules {
+        if !is_mark(&one) {
+            others.push(one)?;
+        }
+    }
+    Ok(others)
+}
+
+/// An initial value that rests on names whose types rest on it has no type that can be told. What else is
+/// broken in it hides that.
 fn told(alloc: Global, place: Place, one: Result<Typed, Refusal>) -> Result<Typed, Refusal>
     ensures { (checked : Checked typing.Typed) → Tells typed_of one checked → Tells typed_of result (spec.told place checked) }
 {
     match one {
         Ok(one) => Ok(one),
         Err(Refusal::Broken(rules)) => {
-            if is_circular(rules.as_slice()) {
+            if !is_circular(rules.as_slice()) {
+                return Err(Refusal::Broken(rules));
+            }
+            let others = unmarked(alloc, rules)?;
+            if others.is_empty() {
                 Err(Refusal::Broken(one_broken(alloc, Rule::WrongType, place)?))
             } else {
-                Err(Refusal::Broken(rules))
+                Err(Refusal::Broken(others))
             }
         }
         Err(Refusal::NoMemory) => Err(Refusal::NoMemory),
@@ -72,7 +93,22 @@ pub fn init_place(home: Home<'_>, init: &Init) -> Place
 }
 
 impl Valued<'_> {
-    /// An initial value where a type is wanted.
+    /// The initial value that tells a name's type.
+    fn telling_value(&self, home: Home<'_>, init: &Init) -> Result<Typed, Refusal>
+        requires { IsValued self.now }
+        ensures { Tells typed_of result (spec.telling_value (scripts_in self.now.ground.names.now) (home_of home.entry) init.now) }
+    {
+        let env = Env {
+            scripts: self.scripts,
+            home,
+            locals: &[],
+            globals: self.told,
+        };
+        let one = init_typed(self.ground.alloc, &env, Wanted::Nothing, init);
+        told(self.ground.alloc, init_place(home, init), one)
+    }
+
+    /// A value that is given to a name whose type is told elsewhere, where a type is wanted.
     pub fn init_checked(
         &self,
         home: Home<'_>,
@@ -86,10 +122,9 @@ impl Valued<'_> {
             scripts: self.scripts,
             home,
             locals: &[],
-            globals: self.told,
+            globals: self.known,
         };
-        let one = init_typed(self.ground.alloc, &env, wanted, init);
-        told(self.ground.alloc, init_place(home, init), one)
+        init_typed(self.ground.alloc, &env, wanted, init)
     }
 
     /// An initial value where the type of a declaration is wanted.
@@ -115,7 +150,7 @@ impl Valued<'_> {
         requires { IsValued self.now }
         ensures { Tells type_of result (inferred (scripts_in self.now.ground.names.now) (home_of home.entry) init.now) }
     {
-        match self.init_checked(home, Wanted::Nothing, init) {
+        match self.telling_value(home, init) {
             Ok(one) => Ok(one.value_type),
             Err(refusal) => Err(refusal),
         }

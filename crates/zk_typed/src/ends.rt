@@ -1,7 +1,6 @@
 use zk_tree::Place;
 
-/// What can go wrong while a script runs. So far only `Unset` occurs; the others come with the forms
-/// that can fail so.
+/// What can go wrong while a script runs.
 #[derive(Clone, Copy, Debug, PartialEq, Eq)]
 pub enum FaultKind {
     /// A table without a default lacks the key, or a vector ends before the index.

@@ -6,4 +6,3 @@ pub mod Gather
 pub mod Literals
 pub mod Gathering
 pub mod Values
-pub mod Holding

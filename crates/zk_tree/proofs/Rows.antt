@@ -1,4 +1,4 @@
--- The predefined events by their numbers and the places of nodes, computed by the checker.
+-- The places of nodes, computed by the checker.
 use Rattle.std.specs.Prelude.{◌≡◌, [], ◌∷◌, codes, refl}
 use Rattle.zk_tree.specs.declared.expr.Expr.{Expr}
 use Rattle.zk_tree.specs.declared.expr.Expr.TheVariants as expr
@@ -7,20 +7,6 @@ use Rattle.zk_tree.specs.declared.operator.Comparing.TheVariants as comparing
 use Rattle.zk_tree.specs.declared.stmt.Stmt.TheVariants as stmt
 use Rattle.zk_tree.specs.Opening.{trees}
 use Rattle.zk_tree.specs.Places.{expr_place, stmt_place}
-use Rattle.zk_tree.specs.declared.events.TheConstants.{ZEEK_INIT, ZEEK_DONE, PACKET_SEEN, NO_EVENT}
-use Rattle.zk_tree.specs.Forms.{event_number}
-
-zeek_init_has_its_number : event_number (codes "zeek_init") ≡ ZEEK_INIT
-zeek_init_has_its_number = refl
-
-zeek_done_has_its_number : event_number (codes "zeek_done") ≡ ZEEK_DONE
-zeek_done_has_its_number = refl
-
-packet_seen_has_its_number : event_number (codes "packet_seen") ≡ PACKET_SEEN
-packet_seen_has_its_number = refl
-
-another_name_has_none_of_them : event_number (codes "zeek_begun") ≡ NO_EVENT
-another_name_has_none_of_them = refl
 
 -- 7 in x ? 8 : 9, where the question mark does not begin the expression
 abbrev choice_of_a_comparison : Expr

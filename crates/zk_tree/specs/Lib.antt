@@ -1,5 +1,4 @@
 pub mod Classes
-pub mod Forms
 pub mod Grammar
 pub mod Lists
 pub mod Marks

@@ -5,7 +5,6 @@ mod decl;
 mod events;
 mod expiry;
 mod expr;
-pub mod first;
 mod keyword;
 mod laws;
 mod name;
@@ -17,7 +16,7 @@ mod token;
 mod types;
 
 pub use decl::{BodyKind, Decl, Lasting, Redefining, Redefinition, Tree};
-pub use events::{PACKET_SEEN, ZEEK_DONE, ZEEK_INIT, event_number};
+pub use events::{ZEEK_DONE, ZEEK_INIT};
 pub use expiry::Expiry;
 pub use expr::{Expr, Item, Link, Literal, Part};
 pub use keyword::{Keyword, Mark};

@@ -20,10 +20,12 @@ use Rattle.zk_typed.specs.declared.script.primitive.Shape.{Shape}
 use Rattle.zk_typed.specs.Forms.{Expr, Constant, Local, Global, Apply, Hook, Exprs, NoExpr, AndExpr, Stmt, Block, Do, Evaluate, Perform, If, While, ForKeys, Return, Break, Stmts, NoStmt, AndStmt}
 use Rattle.zk_typed.specs.Log.{Row, Cell, One, Text, Plain}
 use Rattle.zk_typed.specs.Predefined as type
-use Rattle.zk_typed.specs.Predefined.{events, record_types}
+use Rattle.zk_typed.specs.Predefined.{events, record_types, zeek_init, zeek_done}
 use Rattle.zk_typed.specs.Program as program
 use Rattle.zk_typed.specs.Program.{Program, Handler, Function, HookBody}
-use Rattle.zk_typed.specs.Running.{Item, run, world_in, dispatches_max}
+use Rattle.zk_typed.specs.Running.{Item, Goes, Floods, run, drained, world_in, dispatches_max}
+use Rattle.zk_typed.specs.State.{World, first_world, queued_behind}
+use Rattle.zk_typed.specs.World.{queued}
 
 -- Programs -----------------------------------------------------------------------------------------------------------
 
@@ -225,3 +227,64 @@ entries_expire_at_their_own_moments = refl
 no_entry_expires_at_the_end : (world_in (run agenda 1000 [] (moment 25000000))).lines ≡ codes "5" ∷ codes "7" ∷ []
 unfolding agenda item expiring ten_seconds seconds delete table_global set plain script handler print number apply block stmts exprs moment at digits dispatches_max same entry_at entry_numbered with_entry without moment_after first_due span_decimal
 no_entry_expires_at_the_end = refl
+
+-- Events that wait -----------------------------------------------------------------------------------------------------
+
+-- a handler of `zeek_done`
+at_the_end : List Stmt → Handler
+at_the_end list = record { event = record { 0 = 1 }; priority = pos 0; locals = 0; body = block list }
+
+-- print network_time();
+tell_time : ℕ → Stmt
+tell_time byte = print byte (apply (primitive.BuiltIn built_in.NetworkTime) [] ∷ [])
+
+-- event zeek_init() { print network_time(); } event zeek_done() { print network_time(); }
+times : Program
+times = script [] [] [] (handler (pos 0) 0 (tell_time 20 ∷ []) ∷ at_the_end (tell_time 60 ∷ []) ∷ [])
+
+a_run_begins_at_0_and_ends_at_the_last_network_time : (world_in (run times 2 [] (moment 1700000000020000))).lines ≡ codes "0.000000" ∷ codes "1700000000.020000" ∷ []
+unfolding times at_the_end tell_time script handler print apply block stmts exprs moment at digits dispatches_max span_decimal
+a_run_begins_at_0_and_ends_at_the_last_network_time = refl
+
+-- a unit for the statement, and one for the call of the function
+a_spent_print_prints_nothing : said times 1 ≡ []
+unfolding said times at_the_end tell_time script handler print apply block stmts exprs moment at digits dispatches_max
+a_spent_print_prints_nothing = refl
+
+-- event zeek_init() { schedule 5 sec { zeek_done() }; } event zeek_done() { print network_time(); }
+scheduling : Program
+scheduling = script [] [] []
+    (handler (pos 0) 0 (Do (at 20) (action.Schedule (record { 0 = 1 })) (exprs (Constant (seconds 5) ∷ [])) ∷ []) ∷
+    at_the_end (tell_time 60 ∷ []) ∷ [])
+
+a_scheduled_event_has_its_due_as_network_time : (world_in (run scheduling 1000 (item ∷ []) (moment 25000000))).lines ≡ codes "5.000000" ∷ codes "25.000000" ∷ []
+unfolding scheduling at_the_end tell_time item seconds script handler print apply block stmts exprs moment at digits dispatches_max span_decimal
+a_scheduled_event_has_its_due_as_network_time = refl
+
+-- event zeek_init() { print "a"; } event zeek_done() { print "b"; }
+two_words : Program
+two_words = script [] [] [] (handler (pos 0) 0 (text 20 (codes "a") [] ∷ []) ∷ at_the_end (text 50 (codes "b") [] ∷ []) ∷ [])
+
+-- `zeek_done` and then `zeek_init` wait to be dispatched
+waiting : World
+waiting = queued_behind (queued zeek_done [] ∷ queued zeek_init [] ∷ []) (first_world [])
+
+events_leave_the_queue_first_in_first_out : (world_in (drained two_words 1 2 waiting)).lines ≡ codes "b" ∷ codes "a" ∷ []
+unfolding two_words waiting at_the_end text script handler print block stmts exprs at digits
+events_leave_the_queue_first_in_first_out = refl
+
+-- no script at all
+silent : Program
+silent = script [] [] [] []
+
+an_event_without_handlers_is_dispatched_too : drained silent 1 3 waiting ≡ Goes (first_world []) 1
+unfolding silent waiting script
+an_event_without_handlers_is_dispatched_too = refl
+
+as_many_dispatches_as_may_come_do : drained silent 1 2 waiting ≡ Goes (first_world []) 0
+unfolding silent waiting script
+as_many_dispatches_as_may_come_do = refl
+
+one_dispatch_more_is_a_flood : drained silent 1 1 waiting ≡ Floods (queued_behind (queued zeek_init [] ∷ []) (first_world []))
+unfolding silent waiting script
+one_dispatch_more_is_a_flood = refl

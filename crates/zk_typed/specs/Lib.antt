@@ -1,9 +1,6 @@
-pub mod Typed
 pub mod Text
 pub mod Log
 pub mod World
-pub mod Exec
-pub mod Run
 pub mod Types
 pub mod Forms
 pub mod Program

@@ -16,7 +16,7 @@ use Rattle.zk_typed.specs.declared.script.literal.Literal.TheVariants as literal
 use Rattle.zk_typed.specs.declared.script.literal.Sign.TheVariants.{Negated}
 use Rattle.zk_base.specs.declared.Mem.{Mem}
 use Rattle.zk_typed.specs.Errors.{body_made}
-use Rattle.zk_typed.specs.Declarations.{default_typed, env_at, variables}
+use Rattle.zk_typed.specs.Declarations.{constant_typed, env_at, variables}
 use Rattle.zk_typed.specs.Forms as form
 use Rattle.zk_typed.specs.LoadOrder.{File, Home, Stated as LoadStated}
 use Rattle.zk_typed.specs.Names.{Declared, Signature, Known}
@@ -42,7 +42,7 @@ IsChecked checked (Err memory) = Unit {0}
 
 -- the value of an attribute where a type is wanted, where it is right
 abbrev pub value_of : Scripts → Home → List Attr → List ℕ → ValueType → Option DefaultValue
-value_of scripts home attrs name wanted = option_and_then (λ one. if_checked (default_typed (env_at scripts home) wanted one)) (attr_value name attrs)
+value_of scripts home attrs name wanted = option_and_then (λ one. if_checked (constant_typed (env_at scripts home) wanted one)) (attr_value name attrs)
 
 -- no statements stand for what isn't right
 abbrev pub stmts_or : Option form.Stmt → form.Stmt

@@ -2,6 +2,7 @@
 
 pub mod bodies;
 pub mod decls;
+mod defaults;
 mod edges;
 mod fields;
 mod globals;

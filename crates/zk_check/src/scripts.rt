@@ -54,6 +54,7 @@ fn first_rule<'a>(
     let ground = Ground {
         alloc,
         names,
+        source,
         depths: &depths,
         values,
     };

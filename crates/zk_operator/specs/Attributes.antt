@@ -3,14 +3,13 @@ use Rattle.std.specs.Prelude.{ℕ, zero, suc, Bool, true, false, not, ◌&&◌, 
 use Rattle.std.specs.List.{list_any}
 use Rattle.zk_tree.specs.declared.types.Attr.{Attr}
 use Rattle.zk_typed.specs.declared.rule.Rule.TheVariants as rule
-use Rattle.zk_typed.specs.Checked.{Checked, elsewhere, require, ◌>>◌}
+use Rattle.zk_typed.specs.Checked.{Checked, require, ◌>>◌}
 use Rattle.zk_typed.specs.Declarations.{is_one_of, is_expiry, with_value}
 use Rattle.zk_typed.specs.LoadOrder.{Home}
 use Rattle.zk_typed.specs.Operations.{same_type}
 use Rattle.zk_typed.specs.Predefined as type
 use Rattle.zk_typed.specs.Resolving.{place_in}
 use Rattle.zk_typed.specs.Types.{ValueType}
-use Rattle.zk_typed.specs.Typing.{Env}
 
 abbrev pub counted : ValueType → Bool
 counted one = same_type one type.count || same_type one type.string
@@ -36,12 +35,3 @@ fitting false given = not given
 abbrev pub one_rule : Home → (List ℕ → Bool) → (Attr → Checked (Unit {0})) → List (List ℕ) → Attr → Checked (Unit {0})
 one_rule home allowed value_rules others attr =
     require (stands_behind allowed others attr.name && fitting (with_value attr.name) (is_some attr.value)) rule.Attribute (place_in home attr.place) >> value_rules attr
-
--- where a literal stands in a file
-abbrev pub env_in : ℕ → Env
-env_in file = record {
-  scripts = record { stated = []; nodes = []; names = [] };
-  home = record { file = file; module_name = []; exported = true };
-  locals = [];
-  global_type = λ number. elsewhere;
-}

@@ -13,8 +13,11 @@ use std::alloc::Global;
 use zk_tree::{Attr, Expr, Place};
 use zk_typed::{Refusal, Rule, one_broken};
 
-/// Which attributes may stand at a declaration, and the rules of their values.
+/// Which attributes may stand at a declaration, and the rules of their values, which are known where what
+/// these rest on `stands`.
 pub trait Attributes {
+    ghost stands: { Self → Type 0 };
+
     ghost allowed: { Self → List ℕ → Bool };
 
     ghost value_rules: { Self → SyntaxAttr → Checked (Unit {0}) };
@@ -25,6 +28,7 @@ pub trait Attributes {
 
     /// The rules that the value of an attribute breaks.
     fn value(&self, alloc: Global, attr: &Attr) -> Result<(), Refusal>
+        requires { stands self.now }
         ensures { Tells (λ done. done) result (value_rules self.now attr.now) };
 }
 
@@ -58,7 +62,8 @@ fn one_attr<A: Attributes>(
     end: usize,
     attr: &Attr,
 ) -> Result<(), Refusal>
-    requires { end ≤ length attrs.now }
+    requires end { end ≤ length attrs.now }
+    requires stands { A.stands kind.now }
     ensures { (home : Home) → home.file ≡ file → Tells (λ done. done) result (one_rule home (A.allowed kind.now) (A.value_rules kind.now) (before end attrs.now) attr.now) }
 {
     let name = attr.name.as_slice();
@@ -80,6 +85,7 @@ pub fn attr_rules<A: Attributes>(
     kind: &A,
     attrs: &[Attr],
 ) -> Result<(), Refusal>
+    requires { A.stands kind.now }
     ensures { (home : Home) → home.file ≡ file → Tells (λ done. done) result (spec.attr_rules home (A.allowed kind.now) spec.with_value (A.value_rules kind.now) [] attrs.now) }
 {
     let mut rules = Ok(());

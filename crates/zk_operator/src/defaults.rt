@@ -240,14 +240,15 @@ fn other_default(
 }
 
 /// The value of `&default`, of `&priority` and of an expiry, where a type is wanted: a literal with at
-/// most one minus sign, or an empty container. The expression stands in the file of this number.
-pub fn default_typed(
+/// most one minus sign, or an empty container. The expression stands in the file of this number, and keeps
+/// the rules of expressions.
+pub fn constant_typed(
     alloc: Global,
     file: usize,
     wanted: &ValueType,
     one: &Expr,
 ) -> Result<DefaultValue, Refusal>
-    ensures { (env : Env) → env.home.file ≡ file → Tells (λ made. made) result (spec.default_typed env (type_of wanted.now) one.now) }
+    ensures { (env : Env) → env.home.file ≡ file → Tells (λ made. made) result (spec.constant_typed env (type_of wanted.now) one.now) }
 {
     let place = Place {
         file,

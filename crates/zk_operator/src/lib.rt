@@ -23,10 +23,10 @@ pub use attributes::{
     field_attribute, global_attribute, is_column, is_expiry, is_made, with_value,
 };
 pub use attrs::{Attributes, attr_rules};
-pub use defaults::default_typed;
+pub use defaults::constant_typed;
 pub use gather::{also, both};
 pub use gathering::with_part;
-pub use kinds::{body_attrs, field_attrs, signature_attrs};
+pub use kinds::signature_attrs;
 pub use laws::operators_keep_types;
 pub use literals::{constant, interval_of, literal_typed};
 pub use membership::{is_left_of_in, operands_of, size_typed, vector_alone};

@@ -230,9 +230,47 @@ unfolding with_priority attr file name trees depth_max
 a_priority_below_0 = refl
 
 -- hook h() &priority=k { }
-a_priority_that_is_no_literal : errors (file (with_priority (expr.Name (name 19 (codes "k"))) ∷ [])) ≡ told rule.NotConst 19
+a_priority_that_means_nothing : errors (file (with_priority (expr.Name (name 19 (codes "k"))) ∷ [])) ≡ told rule.Unknown 19
+unfolding with_priority attr file told name trees depth_max
+a_priority_that_means_nothing = refl
+
+-- hook h() &priority=(5) { }
+a_priority_that_is_no_literal : errors (file (with_priority (expr.Parenthesis 19 (expr.Number 20 5)) ∷ [])) ≡ told rule.NotConst 19
 unfolding with_priority attr file told name trees depth_max
 a_priority_that_is_no_literal = refl
+
+-- hook h() &priority=9223372036854775808 { }
+a_priority_past_the_greatest_int : errors (file (with_priority (expr.Number 19 9_223_372_036_854_775_808) ∷ [])) ≡ told rule.WrongType 19
+unfolding with_priority attr file told name trees depth_max
+a_priority_past_the_greatest_int = refl
+
+-- hook h() &priority=-9223372036854775808 { }
+a_priority_that_is_the_least_int : errors (file (with_priority (expr.Unary 19 prefix.Negate (expr.Number 20 9_223_372_036_854_775_808)) ∷ [])) ≡ []
+unfolding with_priority attr file name trees depth_max
+a_priority_that_is_the_least_int = refl
+
+-- type R: record { a: count &default=VALUE; };
+with_default : Expr → List File
+with_default value = file (decl.Type 0 (name 5 (codes "R")) (written.Record 8 (
+    roll-Field (record { name = name 17 (codes "a"); field_type = count_at 20; attrs = attr 26 (codes "default") (Some value) ∷ [] }) ∷ [])) ∷ [])
+
+plus : Expr → Expr → Expr
+plus a b = expr.Chain level.Sum a (roll-Link (record { operator = operator.Plus; operand = b }) ∷ [])
+
+-- "a" + "b"
+a_default_of_another_type : errors (with_default (plus (string 35 (codes "a")) (string 41 (codes "b")))) ≡ told rule.WrongType 35
+unfolding with_default plus file told attr count_at string name trees depth_max
+a_default_of_another_type = refl
+
+-- 1 + 2
+a_default_that_is_computed : errors (with_default (plus (expr.Number 35 1) (expr.Number 39 2))) ≡ told rule.NotConst 35
+unfolding with_default plus file told attr count_at name trees depth_max
+a_default_that_is_computed = refl
+
+-- 1 + y
+a_broken_part_of_a_default : errors (with_default (plus (expr.Number 35 1) (expr.Name (name 39 (codes "y"))))) ≡ told rule.Unknown 39
+unfolding with_default plus file told attr count_at name trees depth_max
+a_broken_part_of_a_default = refl
 
 -- global x: count = 1 &log;
 an_attribute_of_another_place :
@@ -324,9 +362,6 @@ circle = file (count_named 0 (codes "a") (expr.Name (name 11 (codes "b"))) ∷ c
 types_that_rest_on_each_other : errors circle ≡ told rule.WrongType 11 ++ told rule.WrongType 25
 unfolding circle count_named file told name trees depth_max
 types_that_rest_on_each_other = refl
-
-plus : Expr → Expr → Expr
-plus a b = expr.Chain level.Sum a (roll-Link (record { operator = operator.Plus; operand = b }) ∷ [])
 
 -- global a: count = b; global b = b;
 a_type_that_is_written_rests_on_no_value :

@@ -42,6 +42,7 @@ use Rattle.zk_typed.specs.declared.script.literal.Sign.TheVariants.{Plain, Conve
 use Rattle.zk_typed.specs.declared.script.types.SimpleType.{SimpleType}
 use Rattle.zk_typed.specs.declared.script.types.SimpleType.TheVariants as simple
 use Rattle.zk_typed.specs.Checked.{Checked, Broken, broken, elsewhere, ◌>>=◌, ◌>>◌, both, each, require}
+use Rattle.zk_typed.specs.Expressions.{expr_typed}
 use Rattle.zk_typed.specs.LoadOrder.{Home, Stated}
 use Rattle.zk_typed.specs.Names.{Declared, Meant, Variable, Function, Signature, whole_name, look_up}
 use Rattle.zk_typed.specs.Operations.{same_type, same_simple}
@@ -49,7 +50,7 @@ use Rattle.zk_typed.specs.Predefined as type
 use Rattle.zk_typed.specs.Resolving.{Scripts, place_in, type_of, deeper, leads, hushed, params_of, result_of}
 use Rattle.zk_typed.specs.Statements.{init_typed}
 use Rattle.zk_typed.specs.Types.{ValueType, Simple, Record, Table, Set, Vector}
-use Rattle.zk_typed.specs.Typing.{Typed, Env, Nothing, expr_place, interval_of, is_variable}
+use Rattle.zk_typed.specs.Typing.{Typed, Env, Nothing, Wants, expr_place, interval_of, is_variable}
 use Rattle.zk_tree.specs.declared.operator.TimeUnit.{TimeUnit}
 use Rattle.zk_tree.specs.Value as plain
 use Rattle.zk_tree.specs.declared.decl.Lasting.TheVariants as lasting
@@ -167,9 +168,9 @@ container_default place (Set keys) container.Set = Ok default.EmptyTable
 container_default place (Vector item) container.Vector = Ok default.EmptyVector
 container_default place other made = broken rule.WrongType place
 
--- the value of a `&default`: a literal with at most one minus sign, or an empty container
-abbrev pub default_typed : Env → ValueType → Expr → Checked DefaultValue
-default_typed env wanted one = of_literal (literal_of one)
+-- a literal with at most one minus sign, or an empty container
+abbrev pub constant_typed : Env → ValueType → Expr → Checked DefaultValue
+constant_typed env wanted one = of_literal (literal_of one)
   where
     place : Place
     place = expr_place env one
@@ -189,6 +190,10 @@ default_typed env wanted one = of_literal (literal_of one)
     of_literal : Option (value.Literal × SimpleType) → Checked DefaultValue
     of_literal None = of_minus (minus_operand one)
     of_literal (Some one) = literal_default place wanted one
+
+-- the value of a `&default`, which keeps the rules of its expression first
+abbrev pub default_typed : Env → ValueType → Expr → Checked DefaultValue
+default_typed env wanted one = expr_typed env (Wants wanted) one >> constant_typed env wanted one
 
 -- Attributes -------------------------------------------------------------------------------------------------------
 

@@ -1,5 +1,5 @@
 -- The rules of names and types that scripts break, by load order, place and kind.
-use Rattle.std.specs.Prelude.{ℕ, slice_get, filter, ◌==◌, nat_lt, Bool, true, false, not, ◌&&◌, ◌||◌, List, [], ◌∷◌, ◌++◌, length, map, flat_map, codes, Option, Some, None, Ok, Err, if◌then◌else◌}
+use Rattle.std.specs.Prelude.{ℕ, slice_get, filter, ◌^◌, ◌==◌, nat_lt, nat_le, Bool, true, false, not, ◌&&◌, ◌||◌, List, [], ◌∷◌, ◌++◌, length, map, flat_map, codes, Option, Some, None, Ok, Err, if◌then◌else◌}
 use Rattle.std.specs.List.{list_any, list_all}
 use Rattle.std.specs.Str.{bytes_eq}
 use Rattle.zk_tree.specs.declared.decl.BodyKind.{BodyKind}
@@ -23,6 +23,9 @@ use Rattle.zk_tree.specs.declared.types.Type.{«Type»}
 use Rattle.zk_typed.specs.declared.rule.Rule.{Rule}
 use Rattle.zk_typed.specs.declared.rule.Rule.TheVariants as rule
 use Rattle.zk_typed.specs.declared.script.literal.DefaultValue.{DefaultValue}
+use Rattle.zk_typed.specs.declared.script.literal.DefaultValue.TheVariants as default
+use Rattle.zk_typed.specs.declared.script.literal.Literal.TheVariants as literal
+use Rattle.zk_typed.specs.declared.script.literal.Sign.TheVariants.{Negated}
 use Rattle.zk_typed.specs.declared.script.types.SimpleType.TheVariants as simple
 use Rattle.zk_typed.specs.Checked.{Checked, Broken, broken, ◌>>=◌, ◌>>◌, both, each, require, rules_of}
 use Rattle.zk_typed.specs.Declarations.{bodiless, env_at, told_type, global_type, is_mark, is_circular, default_typed, attr_rules, is_one_of, with_value, type_rules, maybe_rules, param_rules, fields_rules, field_rules, recursive_rules, global_attrs, const_attribute, nothing}
@@ -206,9 +209,15 @@ abbrev pub function_kind : Meant → Option Signature
 function_kind (Function signature) = Some signature
 function_kind other = None
 
+-- a number that a minus sign may stand before is one of an int
+abbrev pub is_int_number : DefaultValue → Bool
+is_int_number (default.Literal (literal.Count number) Negated) = nat_le number (2 ^ 63)
+is_int_number (default.Literal (literal.Count number) sign) = nat_lt number (2 ^ 63)
+is_int_number other = true
+
 -- the value of `&priority`: a number with at most one minus sign
 abbrev pub priority_typed : Env → Expr → Checked DefaultValue
-priority_typed env one = default_typed env type.int one
+priority_typed env one = default_typed env type.int one >>= (λ given. require (is_int_number given) rule.WrongType (expr_place env one) >> Ok given)
 
 abbrev pub priority_rules : Scripts → Home → Option Expr → Checked (Unit {0})
 priority_rules scripts home None = Ok tt

@@ -26,9 +26,9 @@ use Rattle.zk_typed.specs.declared.script.literal.Sign.TheVariants.{Negated}
 use Rattle.zk_typed.specs.declared.script.primitive.Primitive.TheVariants as primitive
 use Rattle.zk_typed.specs.declared.script.primitive.Shape.{Shape}
 use Rattle.zk_typed.specs.Checked.{Checked}
-use Rattle.zk_typed.specs.Declarations.{variables, global_type, env_at, default_typed, values_of, is_set}
+use Rattle.zk_typed.specs.Declarations.{variables, global_type, env_at, constant_typed, values_of, is_set}
 use Rattle.zk_typed.specs.Declaring.{scripts_of}
-use Rattle.zk_typed.specs.Errors.{errors, body_made, within_of, redef_wants, result_wanted, priority_typed}
+use Rattle.zk_typed.specs.Errors.{errors, body_made, within_of, redef_wants, result_wanted}
 use Rattle.zk_typed.specs.Forms as form
 use Rattle.zk_typed.specs.LogCalls.{is_log_word, stream_type}
 use Rattle.zk_typed.specs.LoadOrder.{File, Home, Stated}
@@ -72,7 +72,7 @@ field_begins scripts field one = of_default field.default
   where
     of_default : Option Expr → Option DefaultValue
     of_default None = if field.optional then None else empty_default one
-    of_default (Some given) = if_checked (default_typed (env_at scripts field.home) one given)
+    of_default (Some given) = if_checked (constant_typed (env_at scripts field.home) one given)
 
 abbrev pub field_of : Scripts → FieldInfo → program.Field
 field_of scripts field =
@@ -102,7 +102,7 @@ expiry_of scripts home attrs =
     of_default other = record { 0 = pos 0 }
 
     span : List ℕ → Option Span
-    span name = option_map of_default (option_and_then (λ one. if_checked (default_typed (env_at scripts home) type.interval one)) (attr_value name attrs))
+    span name = option_map of_default (option_and_then (λ one. if_checked (constant_typed (env_at scripts home) type.interval one)) (attr_value name attrs))
 
     first : Option Span → (Span → Expiry) → Option Expiry → Option Expiry
     first None make other = other
@@ -113,7 +113,7 @@ default_type (Table keys value) = value
 default_type other = other
 
 abbrev pub default_of : Scripts → Home → ValueType → List Attr → Option DefaultValue
-default_of scripts home one attrs = option_and_then (λ given. if_checked (default_typed (env_at scripts home) (default_type one) given)) (attr_value (codes "default") attrs)
+default_of scripts home one attrs = option_and_then (λ given. if_checked (constant_typed (env_at scripts home) (default_type one) given)) (attr_value (codes "default") attrs)
 
 abbrev pub with_shape : Option Expiry → Option DefaultValue → Shape → Shape
 with_shape expiry default shape = record shape { expiry = expiry; default = default }
@@ -199,7 +199,7 @@ abbrev pub stmt_in : statement.Stated → form.Stmt
 stmt_in one = checked_or no_stmt one.made
 
 abbrev pub priority_of : Scripts → Home → List Attr → ℤ
-priority_of scripts home attrs = of_default (option_and_then (λ one. if_checked (priority_typed (env_at scripts home) one)) (attr_value (codes "priority") attrs))
+priority_of scripts home attrs = of_default (option_and_then (λ one. if_checked (constant_typed (env_at scripts home) type.int one)) (attr_value (codes "priority") attrs))
   where
     of_default : Option DefaultValue → ℤ
     of_default (Some (default.Literal (literal.Count number) Negated)) = neg_ℤ (pos number)

@@ -19,7 +19,7 @@ use crate::source::Source;
 use std::alloc::Global;
 use zk_base::Mem;
 use zk_names::{Home, attr_value};
-use zk_operator::default_typed;
+use zk_operator::constant_typed;
 use zk_tree::{Attr, Block, Param, Type};
 use zk_typed::Refusal;
 use zk_typed::script::{DefaultValue, Literal, Sign, SimpleType, Stmt, ValueType};
@@ -56,7 +56,7 @@ pub fn value_of(
 {
     match attr_value(attrs, name) {
         None => Ok(None),
-        Some(one) => if_checked(default_typed(alloc, home.file, wanted, one)),
+        Some(one) => if_checked(constant_typed(alloc, home.file, wanted, one)),
     }
 }
 

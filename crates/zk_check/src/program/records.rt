@@ -14,7 +14,7 @@ use crate::source::Source;
 use std::alloc::Global;
 use zk_base::{Bytes, Mem, RecordNo, Sequence};
 use zk_names::{FieldInfo, Node};
-use zk_operator::{copied_type, default_typed};
+use zk_operator::{constant_typed, copied_type};
 use zk_typed::script::{DefaultValue, Field, RecordType, SimpleType, ValueType};
 
 /// How many record types are predefined.
@@ -42,7 +42,7 @@ fn begins(
     ensures { (scripts : Scripts) → IfOk result (λ made. made ≡ spec.field_begins scripts (field_of field.now) (type_of one.now)) }
 {
     match field.default {
-        Some(given) => if_checked(default_typed(alloc, field.home.file, one, given)),
+        Some(given) => if_checked(constant_typed(alloc, field.home.file, one, given)),
         None => {
             if field.optional {
                 Ok(None)

@@ -20,7 +20,7 @@ use crate::rules::told::{dropped, require};
 use crate::rules::variables::Valued;
 use crate::source::Source;
 use zk_names::{Declared, Home, Meant};
-use zk_operator::{also, body_attrs};
+use zk_operator::also;
 use zk_tree::{Attr, Block, BodyKind, Name, Param, Place, Type};
 use zk_typed::script::Log;
 use zk_typed::{Refusal, Rule};
@@ -105,7 +105,7 @@ impl<'a> Bodied<'a> {
         let ground = &self.valued.ground;
         let params = ground.param_rules(body.home, body.params);
         let head = ground.body_head(body.home, body.place, kind, body.name, body.params);
-        let marked = body_attrs(ground.alloc, body.home.file, attrs);
+        let marked = ground.body_attrs(body.home, attrs);
         let locals = ground.local_rules(body.home, body.block);
         let stated = self.body_rules(kind, body);
         also(also(params, head), also(marked, also(locals, stated)))

@@ -20,11 +20,10 @@ use std::alloc::Global;
 use zk_base::Mem;
 use zk_names::{Declared, Home, Meant, Signature, place_in};
 use zk_operator::{
-    Attributes, attr_rules, copied_type, default_typed, global_attribute, is_made, same_type,
-    same_types,
+    Attributes, attr_rules, copied_type, global_attribute, is_made, same_type, same_types,
 };
 use zk_tree::{Attr, Expr, Lasting, Place, Redefining};
-use zk_typed::script::{DefaultValue, SimpleType, ValueType};
+use zk_typed::script::{SimpleType, ValueType};
 use zk_typed::{Refusal, Rule, one_broken};
 
 /// The type of intervals.
@@ -210,18 +209,12 @@ impl Ground<'_> {
         }
     }
 
-    /// The value of an expiry: a literal interval.
-    fn expiry_value(&self, home: Home<'_>, value: &Expr) -> Result<DefaultValue, Refusal>
-        ensures { Tells (λ made. made) result (spec.expiry_value (spec.env_at (scripts_in self.now.names.now) (home_of home.entry)) value.now) }
-    {
-        default_typed(self.alloc, home.file, &INTERVAL, value)
-    }
-
-    /// The rules of the value of an expiry.
+    /// The rules of the value of an expiry: a literal interval.
     fn expiry_rules(&self, home: Home<'_>, value: &Expr) -> Result<(), Refusal>
+        requires { IsGround self.now }
         ensures { Tells (λ done. done) result (spec.nothing (spec.expiry_value (spec.env_at (scripts_in self.now.names.now) (home_of home.entry)) value.now)) }
     {
-        dropped(self.expiry_value(home, value))
+        dropped(self.default_typed(home, &INTERVAL, value))
     }
 
     /// The rules of the value of an attribute of a global.
@@ -232,10 +225,11 @@ impl Ground<'_> {
         name: &[u8],
         value: &Expr,
     ) -> Result<(), Refusal>
+        requires { IsGround self.now }
         ensures { Tells (λ done. done) result (attr_value (spec.env_at (scripts_in self.now.names.now) (home_of home.entry)) (type_of one.now) name.now value.now) }
     {
         if is_name(name, b"default") {
-            dropped(default_typed(self.alloc, home.file, item_type(one), value))
+            dropped(self.default_typed(home, item_type(one), value))
         } else if is_name(name, b"expire_func") {
             self.expire_func(home, one, value)
         } else {
@@ -245,6 +239,8 @@ impl Ground<'_> {
 }
 
 impl Attributes for GlobalAttributes<'_> {
+    ghost stands = { λ kind. IsGround kind.ground };
+
     ghost allowed = { λ kind. spec.allowed_in kind.lasting kind.made (type_of kind.value_type.now) };
 
     ghost value_rules = { λ kind attr. spec.attr_checked (spec.env_at (scripts_in kind.ground.names.now) (home_of kind.home)) (type_of kind.value_type.now) attr };

@@ -150,7 +150,7 @@ impl Ground<'_> {
         requires { IsGround self.now }
         ensures { (before : List (List ℕ)) → twice ≡ is_one_of before (out-Field field.now).name.text → Tells (λ done. done) result (added_field (scripts_in self.now.names.now) owner (home_of home.entry) before field.now) }
     {
-        let own = field_rules(self.alloc, self.names, home, twice, field);
+        let own = field_rules(self, home, twice, field);
         let parts = self.parts_rules(Limit::Added, home, &field.field_type);
         let added = self.added_rules(home, owner, field);
         also(also(own, parts), added)

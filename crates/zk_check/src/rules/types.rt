@@ -53,7 +53,7 @@ impl Ground<'_> {
     {
         let one = self.names.type_of(self.alloc, home, tree);
         let deep = self.depth_rules(limit, place_in(home, tree.place()), &one);
-        let inner = nested(self.alloc, u64::MAX, self.names, home, tree);
+        let inner = nested(self, u64::MAX, home, tree);
         also(deep, inner)
     }
 

@@ -13,7 +13,7 @@ use Rattle.zk_check.proofs.rules.fields.+nesting.Goals as goal
 
 pub nested-returns-in-Record : goal.nested-returns-in-Record
 nested-returns-in-Record t c =
-    let scripts = scripts_in c.args.names.now in
+    let scripts = scripts_in c.args.ground.now.names.now in
     let home = home_of c.args.home in
     subst (λ (given : Checked (Unit {0})). Rules c.nested_fields.result given)
     (ap (nested_fields (c.args.depth - 1) scripts home) c.as_slice.ensures ∙ sym (nested_record c.args.depth scripts home c.in-Record.place c.in-Record.fields c.if-depth-eq0.false) ∙ ap (nested_to c.args.depth scripts home) (sym c.in-Record.is))
@@ -21,7 +21,7 @@ nested-returns-in-Record t c =
 
 pub nested_fields-loop-field-preserved : goal.nested_fields-loop-field-preserved
 nested_fields-loop-field-preserved t c =
-    let scripts = scripts_in c.args.names.now in
+    let scripts = scripts_in c.args.ground.now.names.now in
     let home = home_of c.args.home in
     let field = c.field-item.result in
     walk_turn Sees (fields_rules (nested_field c.args.depth scripts home) home) (nested_field c.args.depth scripts home home) (λ field. (out-Field field).name.text)

@@ -16,5 +16,5 @@ decreases-nested_fields l = 2 * l.depth + 1
 
 abbrev pub invariant-nested_fields-loop-field : goal.invariant-nested_fields-loop-field
 invariant-nested_fields-loop-field l =
-    WalksOn Sees (fields_rules (nested_field l.depth (scripts_in l.names) (home_of l.home)) (home_of l.home)) (nested_field l.depth (scripts_in l.names) (home_of l.home) (home_of l.home)) (λ field. (out-Field field).name.text)
-    l.seen l.rules l.fields l.field-index (nested_fields l.depth (scripts_in l.names) (home_of l.home) l.fields)
+    WalksOn Sees (fields_rules (nested_field l.depth (scripts_in l.ground.names.now) (home_of l.home)) (home_of l.home)) (nested_field l.depth (scripts_in l.ground.names.now) (home_of l.home) (home_of l.home)) (λ field. (out-Field field).name.text)
+    l.seen l.rules l.fields l.field-index (nested_fields l.depth (scripts_in l.ground.names.now) (home_of l.home) l.fields)

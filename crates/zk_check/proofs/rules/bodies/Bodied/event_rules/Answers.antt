@@ -1,4 +1,4 @@
-use Rattle.std.proofs.Common.{[], ◌∷◌, None, codes, refl, sym}
+use Rattle.std.proofs.Common.{[], ◌∷◌, None, codes, sym}
 use Rattle.zk_typed.specs.Checked.{both}
 use Rattle.zk_typed.specs.Declarations.{attr_rules, is_one_of, local_rules, nothing, param_rules, with_value}
 use Rattle.zk_typed.specs.Errors.{body_made, head_rules, kind_of, priority_rules, within_of}
@@ -21,7 +21,7 @@ returns c =
     same_rules c.also-4.result (sym (five_parts params head marked locals stated))
     (also_tells c.also.result c.also-3.result c.also-4.result (nothing (both params head)) (nothing (both marked (nothing (both locals (nothing stated)))))
     (also_tells c.param_rules-params.result c.body_head-head.result c.also.result params head c.param_rules-params.ensures c.body_head-head.ensures c.also.ensures)
-    (also_tells c.body_attrs-marked.result c.also-2.result c.also-3.result marked (nothing (both locals (nothing stated))) (c.body_attrs-marked.ensures scripts home refl)
+    (also_tells c.body_attrs-marked.result c.also-2.result c.also-3.result marked (nothing (both locals (nothing stated))) c.body_attrs-marked.ensures
     (also_tells c.local_rules-locals.result c.body_rules-stated.result c.also-2.result locals (nothing stated) c.local_rules-locals.ensures c.body_rules-stated.ensures c.also-2.ensures)
     c.also-3.ensures)
     c.also-4.ensures)

@@ -12,7 +12,7 @@ use Rattle.zk_check.proofs.scripts.first_rule.Goals as goal
 pub first_broken-requires : goal.first_broken-requires
 first_broken-requires c = record {
   valued = record {
-    ground = record { depths = c.in_ok-depths.ensures; values = c.requires.values };
+    ground = record { source = c.requires.source; same = refl; depths = c.in_ok-depths.ensures; values = c.requires.values };
     same = refl;
     told = c.requires.told;
     known = c.requires.source.known;

@@ -21,7 +21,7 @@ use Rattle.zk_typed.specs.Checked.{Checked, broken, elsewhere, ◌>>=◌, both, 
 use Rattle.zk_typed.specs.LoadOrder.{Home, Stated}
 use Rattle.zk_typed.specs.Names.{Declared, Meant, KnownType, WrittenType, Node, RecordNode, EnumNode, is_record, look_up, record_number, enum_number}
 use Rattle.zk_typed.specs.Predefined.{record_no, record_types}
-use Rattle.zk_typed.specs.Resolving.{Scripts, leads, leads_by, leads_to, named_type, place_in, as_key, simple_of, type_named, type_of, type_to, unless_deep, FieldInfo, attr_value, fields_of, has_attr, hushed, is_that, known_field, own_fields, written_field}
+use Rattle.zk_typed.specs.Resolving.{Scripts, leads, leads_by, leads_to, named_type, next_text, followed, followed_to, known_type, place_in, as_key, simple_of, type_named, type_of, type_to, unless_deep, FieldInfo, attr_value, fields_of, has_attr, hushed, is_that, known_field, own_fields, written_field}
 use Rattle.zk_typed.specs.Types.{ValueType, Simple, Record, Table, Set, Vector}
 use Rattle.zk_typed.specs.Within.{mentions}
 use Rattle.zk_names.specs.Fields.{decl_fields, node_fields, own_of, predefined_fields, stated_fields}
@@ -61,42 +61,90 @@ Naming = (Home → «Type» → Checked ValueType) → Place → Option Declared
 same_naming : (scripts : Scripts) (stated : List Stated) → Path Naming (λ check. named_type check (with_stated scripts stated)) (λ check. named_type check scripts)
 same_naming scripts stated = ap (λ (leads : List ℕ → Home → Name → Bool). λ check place found. named_by leads check place found) (same_leads scripts stated)
 
--- a type, by what names mean and by the types in the texts
-abbrev type_by : Naming → List Declared → (ℕ → ℕ → ℕ) → (ℕ → ℕ → ℕ) → (Home → «Type» → Checked ValueType) → Home → «Type» → Checked ValueType
-type_by naming names record_at enum_at check home tree = of_form check (out-Type tree)
+abbrev Following : Type 0
+Following = Home → «Type» → Option (Home × «Type»)
+
+abbrev by_next : Following → Home → «Type» → Option (Home × «Type») → Option (Home × «Type»)
+by_next before home tree None = Some (home, tree)
+by_next before home tree (Some next) = before next.0 next.1
+
+next_is : (most : ℕ) (scripts : Scripts) (home : Home) (tree : «Type») → followed_to (suc most) scripts home tree ≡ by_next (followed_to most scripts) home tree (next_text scripts home tree)
+next_is most scripts home tree = refl
+
+same_followed_to : (most : ℕ) (scripts : Scripts) (stated : List Stated) → followed_to most (with_stated scripts stated) ≡ followed_to most scripts
+same_followed_to zero scripts stated = refl
+same_followed_to (suc most) scripts stated =
+    ap (λ (before : Following). λ (home : Home) (tree : «Type»). by_next before home tree (next_text scripts home tree)) (same_followed_to most scripts stated)
+
+same_followed : (scripts : Scripts) (stated : List Stated) → followed (with_stated scripts stated) ≡ followed scripts
+same_followed scripts stated = same_followed_to (suc (length scripts.names)) scripts stated
+
+-- a type by its form, by what names mean and by the types in the texts
+abbrev formed_by : List Declared → (ℕ → ℕ → ℕ) → (ℕ → ℕ → ℕ) → (Home → «Type» → Checked ValueType) → Home → «Type» → Checked ValueType
+formed_by names record_at enum_at check home tree = of_form (out-Type tree)
   where
-    key : (Home → «Type» → Checked ValueType) → «Type» → Checked SimpleType
-    key check one = check home one >>= as_key (place_in home (type_place one))
+    key : «Type» → Checked SimpleType
+    key one = check home one >>= as_key (place_in home (type_place one))
 
-    of_form : (Home → «Type» → Checked ValueType) → Type-F «Type» Field Param → Checked ValueType
-    of_form check (written.Atomic place atomic) = Ok (Simple (simple_of atomic))
-    of_form check (written.Named name) = naming check (place_in home name.place) (look_up names home.module_name name.text)
-    of_form check (written.Table place keys value) = both (each (key check) keys) (check home value) >>= (λ parts. Ok (Table parts.0 parts.1))
-    of_form check (written.Set place keys) = each (key check) keys >>= (λ parts. Ok (Set parts))
-    of_form check (written.Vector place item) = check home item >>= (λ part. Ok (Vector part))
-    of_form check (written.Record place fields) = Ok (Record (record_no (record_at home.file place)))
-    of_form check (written.Enum place words comma) = Ok (Simple (simple.Enum (enum_at home.file place)))
-    of_form check other = broken WrongType (place_in home (type_place tree))
+    of_form : Type-F «Type» Field Param → Checked ValueType
+    of_form (written.Atomic place atomic) = Ok (Simple (simple_of atomic))
+    of_form (written.Named name) = known_type (place_in home name.place) (look_up names home.module_name name.text)
+    of_form (written.Table place keys value) = both (each key keys) (check home value) >>= (λ parts. Ok (Table parts.0 parts.1))
+    of_form (written.Set place keys) = each key keys >>= (λ parts. Ok (Set parts))
+    of_form (written.Vector place item) = check home item >>= (λ part. Ok (Vector part))
+    of_form (written.Record place fields) = Ok (Record (record_no (record_at home.file place)))
+    of_form (written.Enum place words comma) = Ok (Simple (simple.Enum (enum_at home.file place)))
+    of_form other = broken WrongType (place_in home (type_place tree))
 
-type_is : (depth : ℕ) (scripts : Scripts) →
-    type_to (suc depth) scripts ≡ type_by (λ check. named_type check scripts) scripts.names (record_number scripts.nodes) (enum_number scripts.nodes) (type_to depth scripts)
+abbrev behind_by : Following → (Home → «Type» → Checked ValueType) → Home → «Type» → Checked ValueType
+behind_by following form home tree = of_end (following home tree)
+  where
+    of_end : Option (Home × «Type») → Checked ValueType
+    of_end None = elsewhere
+    of_end (Some end) = form end.0 end.1
+
+abbrev name_by : Naming → Following → List Declared → (Home → «Type» → Checked ValueType) → Home → Name → Checked ValueType
+name_by naming following names form home name = naming (behind_by following form) (place_in home name.place) (look_up names home.module_name name.text)
+
+abbrev type_by : Naming → Following → List Declared → (Home → «Type» → Checked ValueType) → Home → «Type» → Checked ValueType
+type_by naming following names form home tree = of_form (out-Type tree)
+  where
+    of_form : Type-F «Type» Field Param → Checked ValueType
+    of_form (written.Named name) = name_by naming following names form home name
+    of_form other = form home tree
+
+-- the forms of types whose parts nest at most so deep
+abbrev form_to : ℕ → Scripts → Home → «Type» → Checked ValueType
+form_to depth scripts = formed_by scripts.names (record_number scripts.nodes) (enum_number scripts.nodes) (type_to depth scripts)
+
+type_is : (depth : ℕ) (scripts : Scripts) → type_to (suc depth) scripts ≡ type_by (λ check. named_type check scripts) (followed scripts) scripts.names (form_to depth scripts)
 type_is depth scripts = refl
+
+same_form : (depth : ℕ) (scripts : Scripts) (stated : List Stated) → type_to depth (with_stated scripts stated) ≡ type_to depth scripts → form_to depth (with_stated scripts stated) ≡ form_to depth scripts
+same_form depth scripts stated same = ap (formed_by scripts.names (record_number scripts.nodes) (enum_number scripts.nodes)) same
 
 same_type_to : (depth : ℕ) (scripts : Scripts) (stated : List Stated) → type_to depth (with_stated scripts stated) ≡ type_to depth scripts
 same_type_to zero scripts stated = refl
 same_type_to (suc depth) scripts stated =
     type_is depth (with_stated scripts stated) ∙
-    ap (λ (naming : Naming). type_by naming scripts.names (record_number scripts.nodes) (enum_number scripts.nodes) (type_to depth (with_stated scripts stated))) (same_naming scripts stated) ∙
-    ap (type_by (λ check. named_type check scripts) scripts.names (record_number scripts.nodes) (enum_number scripts.nodes)) (same_type_to depth scripts stated) ∙
+    ap (λ (naming : Naming). type_by naming (followed (with_stated scripts stated)) scripts.names (form_to depth (with_stated scripts stated))) (same_naming scripts stated) ∙
+    ap (λ (following : Following). type_by (λ check. named_type check scripts) following scripts.names (form_to depth (with_stated scripts stated))) (same_followed scripts stated) ∙
+    ap (type_by (λ check. named_type check scripts) (followed scripts) scripts.names) (same_form depth scripts stated (same_type_to depth scripts stated)) ∙
     sym (type_is depth scripts)
 
 pub same_type_of : (scripts : Scripts) (stated : List Stated) → type_of (with_stated scripts stated) ≡ type_of scripts
 same_type_of = same_type_to 200
 
+name_is : (scripts : Scripts) → type_named scripts ≡ name_by (λ check. named_type check scripts) (followed scripts) scripts.names (form_to 199 scripts)
+name_is scripts = refl
+
 pub same_type_named : (scripts : Scripts) (stated : List Stated) → type_named (with_stated scripts stated) ≡ type_named scripts
 same_type_named scripts stated =
-    ap (λ (check : Home → «Type» → Checked ValueType). λ (home : Home) (name : Name). named_type check (with_stated scripts stated) (place_in home name.place) (look_up scripts.names home.module_name name.text)) (same_type_of scripts stated) ∙
-    ap (λ (naming : Naming). λ (home : Home) (name : Name). naming (type_of scripts) (place_in home name.place) (look_up scripts.names home.module_name name.text)) (same_naming scripts stated)
+    name_is (with_stated scripts stated) ∙
+    ap (λ (naming : Naming). name_by naming (followed (with_stated scripts stated)) scripts.names (form_to 199 (with_stated scripts stated))) (same_naming scripts stated) ∙
+    ap (λ (following : Following). name_by (λ check. named_type check scripts) following scripts.names (form_to 199 (with_stated scripts stated))) (same_followed scripts stated) ∙
+    ap (name_by (λ check. named_type check scripts) (followed scripts) scripts.names) (same_form 199 scripts stated (same_type_to 199 scripts stated)) ∙
+    sym (name_is scripts)
 
 -- The fields of record types, with the declarations that add some.
 

@@ -82,3 +82,7 @@ declared_of one = record { name = one.name.items; exported = one.exported; meant
 
 abbrev pub declared_lent : List LentDeclared → List Declared
 declared_lent names = map declared_of names
+
+-- the text of a type, with where it stands
+abbrev pub text_lent : LentHome × Bor «Type» → Home × «Type»
+text_lent text = (home_of text.0, text.1.now)

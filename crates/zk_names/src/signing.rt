@@ -112,7 +112,7 @@ impl Names<'_> {
     ) -> Result<ValueType, Refusal>
         ensures { Tells type_of result (spec.type_named (scripts_in self.now) (home_of home.entry) name.now) }
     {
-        named_type(alloc, DEPTH, self, home, name)
+        named_type(alloc, DEPTH - 1, self, home, name)
     }
 
     /// The types of parameters.

@@ -1,4 +1,5 @@
 ghost use Rattle.std.specs.Prelude.{◌≡◌, List, IfOk};
+ghost use Rattle.std.specs.Option.{option_map};
 ghost use Rattle.std.specs.List.{list_any};
 ghost use Rattle.zk_typed.specs.Checked.{Checked};
 ghost use Rattle.zk_typed.specs.declared.script.types.SimpleType as key;
@@ -9,7 +10,7 @@ ghost use Rattle.zk_typed.specs.Tells.{Tells};
 ghost use Rattle.zk_typed.specs.Types as typed;
 ghost use Rattle.zk_typed.specs.View.{type_of};
 ghost use Rattle.zk_names.specs.Keys.{keyed, keys_to, tabled};
-ghost use Rattle.zk_names.specs.Lent.{home_of};
+ghost use Rattle.zk_names.specs.Lent.{home_of, text_lent};
 ghost use Rattle.zk_names.specs.Scripted.{scripts_in};
 
 use crate::copying::copied_type;
@@ -19,7 +20,7 @@ use crate::home::Home;
 use crate::known::Names;
 use sqlite_items::{Boxed, Items};
 use std::alloc::Global;
-use zk_base::{RecordNo, Sequence};
+use zk_base::{Mem, RecordNo, Sequence};
 use zk_tree::{Atomic, Name, Place, Type};
 use zk_typed::script::{SimpleType, ValueType};
 use zk_typed::{Broken, Refusal, Rule, one_broken};
@@ -158,7 +159,75 @@ fn unless_deep(
     }
 }
 
-/// A type, with names followed at most so deep.
+/// The text that a name stands for, with where it stands.
+fn next_text<'a>(
+    alloc: Global,
+    names: &Names<'a>,
+    home: Home<'_>,
+    tree: &Type,
+) -> Result<Option<(Home<'a>, &'a Type)>, Mem>
+    ensures { IfOk result (λ next. option_map text_lent next ≡ spec.next_text (scripts_in names.now) (home_of home.entry) tree.now) }
+{
+    let Type::Named { name } = tree else {
+        return Ok(None);
+    };
+    match names.look_up(alloc, home.module_name, name.text.as_slice())? {
+        Some(one) => match &one.meant {
+            Meant::WrittenType { home, tree } => Ok(Some((*home, tree))),
+            _ => Ok(None),
+        },
+        None => Ok(None),
+    }
+}
+
+/// The text of a type, with the names followed that stand for others. There is none where names stand for
+/// each other.
+fn followed<'a>(
+    alloc: Global,
+    names: &Names<'a>,
+    home: Home<'a>,
+    tree: &'a Type,
+) -> Result<Option<(Home<'a>, &'a Type)>, Mem>
+    ensures { IfOk result (λ end. option_map text_lent end ≡ spec.followed (scripts_in names.now) (home_of home.entry) tree.entry.now) }
+{
+    let most = names.declared().len();
+    let mut end = (home, tree);
+    for _step in 0..=most {
+        match next_text(alloc, names, end.0, end.1)? {
+            Some(next) => end = next,
+            None => return Ok(Some(end)),
+        }
+    }
+    Ok(None)
+}
+
+/// A name that stands for no text.
+fn known_type(
+    alloc: Global,
+    names: &Names<'_>,
+    home: Home<'_>,
+    name: &Name,
+) -> Result<ValueType, Refusal>
+    ensures { Tells type_of result (spec.known_type (spec.place_in (home_of home.entry) name.now.place) (look_up (scripts_in names.now).names home.entry.module_name.now name.now.text)) }
+{
+    let place = place_in(home, name.place);
+    let Some(one) = names.look_up(alloc, home.module_name, name.text.as_slice())? else {
+        return Err(Refusal::Broken(one_broken(alloc, Rule::Unknown, place)?));
+    };
+    match &one.meant {
+        Meant::KnownType { known } => Ok(copied_type(alloc, known)?),
+        Meant::WrittenType { .. } => Err(Refusal::Broken(Items::new(alloc))),
+        Meant::Word { .. }
+        | Meant::Variable { .. }
+        | Meant::Event { .. }
+        | Meant::Hook { .. }
+        | Meant::Function { .. }
+        | Meant::BuiltInFunction { .. }
+        | Meant::Log { .. } => Err(Refusal::Broken(one_broken(alloc, Rule::WrongType, place)?)),
+    }
+}
+
+/// A type whose parts nest at most so deep; a name is no level.
 #[cycle(typing)]
 #[tactic(auto, unfolding(crate::specs::Scripted::scripts_in))]
 pub fn type_to(
@@ -170,28 +239,46 @@ pub fn type_to(
 ) -> Result<ValueType, Refusal>
     ensures { Tells type_of result (spec.type_to depth (scripts_in names.now) (home_of home.entry) tree.now) }
 {
-    let place = place_in(home, tree.place());
     if depth == 0 {
+        let place = place_in(home, tree.place());
         return Err(Refusal::Broken(one_broken(alloc, Rule::Recursive, place)?));
     }
     match tree {
-        Type::Atomic { place: _, atomic } => Ok(ValueType::Simple(simple_of(*atomic))),
         Type::Named { name } => named_type(alloc, depth - 1, names, home, name),
+        _ => formed(alloc, depth - 1, names, home, tree),
+    }
+}
+
+/// A type by its form, whose parts nest at most so deep.
+#[cycle(typing)]
+#[tactic(auto, unfolding(crate::specs::Scripted::scripts_in))]
+fn formed(
+    alloc: Global,
+    depth: u8,
+    names: &Names<'_>,
+    home: Home<'_>,
+    tree: &Type,
+) -> Result<ValueType, Refusal>
+    ensures { Tells type_of result (spec.formed (spec.type_to depth (scripts_in names.now)) (scripts_in names.now) (home_of home.entry) tree.now) }
+{
+    match tree {
+        Type::Atomic { place: _, atomic } => Ok(ValueType::Simple(simple_of(*atomic))),
+        Type::Named { name } => known_type(alloc, names, home, name),
         Type::Table {
             place: _,
             keys,
             value,
         } => {
-            let keys = keys_to(alloc, depth - 1, names, home, keys.as_slice());
-            let value = type_to(alloc, depth - 1, names, home, value.get());
+            let keys = keys_to(alloc, depth, names, home, keys.as_slice());
+            let value = type_to(alloc, depth, names, home, value.get());
             table_of(alloc, keys, value)
         }
         Type::Set { place: _, keys } => {
-            let keys = keys_to(alloc, depth - 1, names, home, keys.as_slice())?;
+            let keys = keys_to(alloc, depth, names, home, keys.as_slice())?;
             Ok(ValueType::Set { keys })
         }
         Type::Vector { place: _, item } => {
-            let item = type_to(alloc, depth - 1, names, home, item.get())?;
+            let item = type_to(alloc, depth, names, home, item.get())?;
             let item = Boxed::new(alloc, item)?;
             Ok(ValueType::Vector { item })
         }
@@ -208,6 +295,7 @@ pub fn type_to(
             Ok(enum_type(number))
         }
         Type::Event { .. } | Type::Hook { .. } | Type::Procedure { .. } | Type::Function { .. } => {
+            let place = place_in(home, tree.place());
             Err(Refusal::Broken(one_broken(alloc, Rule::WrongType, place)?))
         }
     }
@@ -233,7 +321,24 @@ fn keys_to(
     all
 }
 
-/// The type that a name names, with names behind it followed at most so deep.
+/// The type of a text with the names in front of it followed, whose parts nest at most so deep.
+#[cycle(typing)]
+fn behind_names<'a>(
+    alloc: Global,
+    depth: u8,
+    names: &Names<'a>,
+    home: Home<'a>,
+    tree: &'a Type,
+) -> Result<ValueType, Refusal>
+    ensures { Tells type_of result (spec.behind_names (spec.type_to depth (scripts_in names.now)) (scripts_in names.now) (home_of home.entry) tree.entry.now) }
+{
+    match followed(alloc, names, home, tree)? {
+        Some((home, tree)) => formed(alloc, depth, names, home, tree),
+        None => Err(Refusal::Broken(Items::new(alloc))),
+    }
+}
+
+/// The type that a name names, by what it stands for, whose parts nest at most so deep.
 #[cycle(typing)]
 pub fn named_type(
     alloc: Global,
@@ -242,7 +347,7 @@ pub fn named_type(
     home: Home<'_>,
     name: &Name,
 ) -> Result<ValueType, Refusal>
-    ensures { Tells type_of result (spec.named_type (spec.type_to depth (scripts_in names.now)) (scripts_in names.now) (spec.place_in (home_of home.entry) name.now.place) (look_up (scripts_in names.now).names home.entry.module_name.now name.now.text)) }
+    ensures { Tells type_of result (spec.type_of_name (spec.type_to depth (scripts_in names.now)) (scripts_in names.now) (home_of home.entry) name.now) }
 {
     let place = place_in(home, name.place);
     let Some(one) = names.look_up(alloc, home.module_name, name.text.as_slice())? else {
@@ -254,7 +359,7 @@ pub fn named_type(
             if names.is_circular(alloc, &one.name, *other, tree)? {
                 return Err(Refusal::Broken(Items::new(alloc)));
             }
-            let behind = type_to(alloc, depth, names, *other, tree);
+            let behind = behind_names(alloc, depth, names, *other, tree);
             unless_deep(alloc, place, behind)
         }
         Meant::Word { .. }

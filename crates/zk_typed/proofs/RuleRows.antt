@@ -1,5 +1,5 @@
 -- What the rules of names and types give for small scripts, computed by the checker.
-use Rattle.std.proofs.Common.{◌≡◌, ℕ, ◌+◌, List, [], ◌∷◌, ◌++◌, codes, pos, refl, Option, Some, None, true, false, map}
+use Rattle.std.proofs.Common.{◌≡◌, ℕ, zero, suc, ◌+◌, List, [], ◌∷◌, ◌++◌, codes, pos, refl, Option, Some, None, true, false, map}
 use Rattle.zk_tree.specs.declared.decl.BodyKind.TheVariants as body
 use Rattle.zk_tree.specs.declared.decl.Decl.{Decl}
 use Rattle.zk_tree.specs.declared.decl.Decl.TheVariants as decl
@@ -397,6 +397,19 @@ a_function_declares_its_name_before_a_handler :
     decl.Function 14 (name 23 (codes "f")) [] None (roll-Block (record { place = 27; stmts = [] })) ∷ [])) ≡ told rule.WrongType 6
 unfolding file told name trees depth_max
 a_function_declares_its_name_before_a_handler = refl
+
+-- type N0: count; type N1: N0; and so on, so many of them; the text of each stands at byte 0
+names_of_names : ℕ → List Decl
+names_of_names zero = decl.Type 0 (name 0 (codes "N")) (count_at 0) ∷ []
+names_of_names (suc more) = decl.Type 0 (name 0 (digits more ++ codes "N")) (written.Named (name 0 (before more))) ∷ names_of_names more
+  where
+    before : ℕ → List ℕ
+    before zero = codes "N"
+    before (suc fewer) = digits fewer ++ codes "N"
+
+a_name_is_no_level_of_a_type : errors (file (names_of_names 205)) ≡ []
+unfolding names_of_names file name count_at trees depth_max digits
+a_name_is_no_level_of_a_type = refl
 
 -- Broken parts ------------------------------------------------------------------------------------------------------
 

@@ -111,24 +111,79 @@ named_type check scripts place (Some one) = of_meant one.meant
     ]
     of_meant other = broken WrongType place
 
--- A type, with names followed at most so deep. Keys are atomic or enums, and a type of events, hooks or functions is no type
+-- the text that a name stands for, with where it stands
+abbrev pub next_text : Scripts → Home → «Type» → Option (Home × «Type»)
+next_text scripts home tree = of_form (out-Type tree)
+  where
+    of_meant : Option Meant → Option (Home × «Type»)
+    of_meant (Some (WrittenType other inner)) = Some (other, inner)
+    of_meant other = None
+
+    of_form : Type-F «Type» Field Param → Option (Home × «Type»)
+    of_form (written.Named name) = of_meant (meaning scripts home name.text)
+    of_form other = None
+
+-- a text, with the names followed that stand for others, by way of so many at most
+abbrev pub followed_to : ℕ → Scripts → Home → «Type» → Option (Home × «Type»)
+followed_to zero scripts home tree = None
+followed_to (suc most) scripts home tree = of_next (next_text scripts home tree)
+  where
+    of_next : Option (Home × «Type») → Option (Home × «Type»)
+    of_next None = Some (home, tree)
+    of_next (Some next) = followed_to most scripts next.0 next.1
+
+-- by way of as many as there are; there is none where names stand for each other
+abbrev pub followed : Scripts → Home → «Type» → Option (Home × «Type»)
+followed scripts = followed_to (suc (length scripts.names)) scripts
+
+-- a name that stands for no text
+abbrev pub known_type : Place → Option Declared → Checked ValueType
+known_type place None = broken Unknown place
+known_type place (Some one) = of_meant one.meant
+  where
+    of_meant : Meant → Checked ValueType
+    of_meant (KnownType type) = Ok type
+    of_meant (WrittenType home tree) = elsewhere
+    of_meant other = broken WrongType place
+
+-- A type by its form and the types of its parts. Keys are atomic or enums, and a type of events, hooks or functions is no type
 -- of values.
+abbrev pub formed : (Home → «Type» → Checked ValueType) → Scripts → Home → «Type» → Checked ValueType
+formed check scripts home tree = of_form (out-Type tree)
+  where
+    key : «Type» → Checked SimpleType
+    key one = check home one >>= as_key (place_in home (type_place one))
+
+    of_form : Type-F «Type» Field Param → Checked ValueType
+    of_form (written.Atomic place atomic) = Ok (Simple (simple_of atomic))
+    of_form (written.Named name) = known_type (place_in home name.place) (look_up scripts.names home.module_name name.text)
+    of_form (written.Table place keys value) = both (each key keys) (check home value) >>= (λ parts. Ok (Table parts.0 parts.1))
+    of_form (written.Set place keys) = each key keys >>= (λ parts. Ok (Set parts))
+    of_form (written.Vector place item) = check home item >>= (λ part. Ok (Vector part))
+    of_form (written.Record place fields) = Ok (Record (record_no (record_number scripts.nodes home.file place)))
+    of_form (written.Enum place words comma) = Ok (Simple (simple.Enum (enum_number scripts.nodes home.file place)))
+    of_form other = broken WrongType (place_in home (type_place tree))
+
+-- the type of a text with the names in front of it followed
+abbrev pub behind_names : (Home → «Type» → Checked ValueType) → Scripts → Home → «Type» → Checked ValueType
+behind_names check scripts home tree = of_end (followed scripts home tree)
+  where
+    of_end : Option (Home × «Type») → Checked ValueType
+    of_end None = elsewhere
+    of_end (Some end) = formed check scripts end.0 end.1
+
+-- the type of a name, by those of the parts of what it stands for
+abbrev pub type_of_name : (Home → «Type» → Checked ValueType) → Scripts → Home → Name → Checked ValueType
+type_of_name check scripts home name = named_type (behind_names check scripts) scripts (place_in home name.place) (look_up scripts.names home.module_name name.text)
+
+-- A type whose parts nest at most so deep. A name is no level: what it stands for is.
 abbrev pub type_to : ℕ → Scripts → Home → «Type» → Checked ValueType
 type_to zero scripts home tree = broken Recursive (place_in home (type_place tree))
 type_to (suc depth) scripts home tree = of_form (type_to depth scripts) (out-Type tree)
   where
-    key : (Home → «Type» → Checked ValueType) → «Type» → Checked SimpleType
-    key check one = check home one >>= as_key (place_in home (type_place one))
-
     of_form : (Home → «Type» → Checked ValueType) → Type-F «Type» Field Param → Checked ValueType
-    of_form check (written.Atomic place atomic) = Ok (Simple (simple_of atomic))
-    of_form check (written.Named name) = named_type check scripts (place_in home name.place) (look_up scripts.names home.module_name name.text)
-    of_form check (written.Table place keys value) = both (each (key check) keys) (check home value) >>= (λ parts. Ok (Table parts.0 parts.1))
-    of_form check (written.Set place keys) = each (key check) keys >>= (λ parts. Ok (Set parts))
-    of_form check (written.Vector place item) = check home item >>= (λ part. Ok (Vector part))
-    of_form check (written.Record place fields) = Ok (Record (record_no (record_number scripts.nodes home.file place)))
-    of_form check (written.Enum place words comma) = Ok (Simple (simple.Enum (enum_number scripts.nodes home.file place)))
-    of_form check other = broken WrongType (place_in home (type_place tree))
+    of_form check (written.Named name) = type_of_name check scripts home name
+    of_form check other = formed check scripts home tree
 
 -- no type nests deeper than 200
 abbrev pub type_of : Scripts → Home → «Type» → Checked ValueType
@@ -215,8 +270,7 @@ is_that number other = false
 
 -- the type that a declaration of a record or an enum names
 abbrev pub type_named : Scripts → Home → Name → Checked ValueType
-type_named scripts home name =
-    named_type (type_of scripts) scripts (place_in home name.place) (look_up scripts.names home.module_name name.text)
+type_named scripts = type_of_name (type_to 199 scripts) scripts
 
 -- the fields that `redef record` adds to a record type, in load order
 abbrev pub added_fields : Scripts → ℕ → List FieldInfo

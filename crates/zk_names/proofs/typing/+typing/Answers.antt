@@ -1,6 +1,6 @@
 use Rattle.std.proofs.Common.{ℕ, Ok, refl, ap, sym, ◌∙◌, subst}
 use Rattle.zk_tree.specs.declared.place.Place.{Place}
-use Rattle.zk_typed.specs.Resolving.{place_in, type_to}
+use Rattle.zk_typed.specs.Resolving.{formed, place_in, type_to}
 use Rattle.zk_typed.specs.Predefined.{enum, record_no}
 use Rattle.zk_typed.specs.Tells.{Tells}
 use Rattle.zk_typed.specs.Types.{Record}
@@ -8,7 +8,7 @@ use Rattle.zk_names.specs.Keys.{key_to, keyed}
 use Rattle.zk_names.specs.Lent.{home_of}
 use Rattle.zk_names.specs.Scripted.{scripts_in}
 use Rattle.zk_names.proofs.GatherLaws.{told_on}
-use Rattle.zk_names.proofs.TypeLaws.{enum_to, record_to}
+use Rattle.zk_names.proofs.TypeLaws.{enum_formed, record_formed}
 use Rattle.zk_names.proofs.typing.+typing.Goals as goal
 
 pub keys_to-loop-key-preserved : goal.keys_to-loop-key-preserved
@@ -20,16 +20,18 @@ keys_to-loop-key-preserved t c =
     (subst (λ (place : Place). Tells (λ key. key) c.as_key-one.result (keyed place checked)) (c.place_in.ensures ∙ ap (place_in home) c.place.ensures) (c.as_key-one.ensures checked c.type_to-one.ensures))
     c.appended-all.ensures
 
-pub type_to-returns-in_ok-number-in-Record : goal.type_to-returns-in_ok-number-in-Record
-type_to-returns-in_ok-number-in-Record t c =
+pub formed-returns-in_ok-number-in-Record : goal.formed-returns-in_ok-number-in-Record
+formed-returns-in_ok-number-in-Record t c =
     let scripts = scripts_in c.args.names.now in
     let home = home_of c.args.home in
-    ap (type_to c.args.depth scripts home) c.in-Record.is ∙ record_to c.args.depth scripts home c.in-Record.place c.in-Record.fields c.if-depth-eq0.false ∙
+    let check = type_to c.args.depth scripts in
+    ap (formed check scripts home) c.in-Record.is ∙ record_formed check scripts home c.in-Record.place c.in-Record.fields ∙
     ap (λ (n : ℕ). Ok (Record (record_no n))) (sym c.in_ok-number-in-Record.ensures) ∙ ap Ok (sym c.record_type.ensures)
 
-pub type_to-returns-in_ok-number-in-Enum : goal.type_to-returns-in_ok-number-in-Enum
-type_to-returns-in_ok-number-in-Enum t c =
+pub formed-returns-in_ok-number-in-Enum : goal.formed-returns-in_ok-number-in-Enum
+formed-returns-in_ok-number-in-Enum t c =
     let scripts = scripts_in c.args.names.now in
     let home = home_of c.args.home in
-    ap (type_to c.args.depth scripts home) c.in-Enum.is ∙ enum_to c.args.depth scripts home c.in-Enum.place c.in-Enum.words c.in-Enum.comma c.if-depth-eq0.false ∙
+    let check = type_to c.args.depth scripts in
+    ap (formed check scripts home) c.in-Enum.is ∙ enum_formed check scripts home c.in-Enum.place c.in-Enum.words c.in-Enum.comma ∙
     ap (λ (n : ℕ). Ok (enum n)) (sym c.in_ok-number-in-Enum.ensures) ∙ ap Ok (sym c.enum_type.ensures)

@@ -7,6 +7,7 @@ ghost use Rattle.zk_names.specs.Lent.{home_of};
 ghost use Rattle.zk_names.specs.Scripted.{scripts_in};
 ghost use Rattle.zk_check.specs.Grounds.{IsGround};
 
+use crate::rules::globals::is_name;
 use crate::rules::ground::Ground;
 use crate::rules::told::dropped;
 use std::alloc::Global;
@@ -151,7 +152,7 @@ impl Attributes for BodyAttributes<'_> {
     ghost value_rules = { λ kind attr. errors.priority_rules (scripts_in kind.ground.names.now) (home_of kind.home) attr.value };
 
     fn allows(&self, name: &[u8]) -> bool {
-        name == b"priority".as_slice()
+        is_name(b"priority", name)
     }
 
     fn value(&self, alloc: Global, attr: &Attr) -> Result<(), Refusal> {

@@ -41,7 +41,7 @@ struct GlobalAttributes<'a> {
 }
 
 /// Whether two names are the same.
-fn is_name(one: &[u8], other: &[u8]) -> bool
+pub fn is_name(one: &[u8], other: &[u8]) -> bool
     ensures { result ≡ bytes_eq one.now other.now }
 {
     one == other

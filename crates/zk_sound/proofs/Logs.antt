@@ -1,35 +1,35 @@
 -- Calls of the log framework keep the types of a world: policies and events of streams take the record of their log.
 use Rattle.std.proofs.Common.{◌≡◌, ℕ, ◌==◌, Bool, true, false, not, List, [], ◌∷◌, ◌++◌, map, Option, Some, None, refl, sym, ap, ◌∙◌}
-use Rattle.std.specs.Prelude.{if◌then◌else◌}
+use Rattle.std.specs.Prelude.{slice_get, if◌then◌else◌}
 use Rattle.std.specs.List.{AllByRecursion}
 use Rattle.std.proofs.lemmas.Bool.{eqb-true}
 use Rattle.zk_base.specs.declared.numbers.EventNo.{EventNo}
 use Rattle.zk_base.specs.declared.numbers.HookNo.{HookNo}
 use Rattle.zk_base.specs.declared.numbers.LogId.{LogId}
 use Rattle.zk_base.specs.declared.numbers.RecordNo.{RecordNo}
-use Rattle.zk_tree.specs.Store as object
+use Rattle.zk_tree.specs.declared.place.Place.{Place}
 use Rattle.zk_tree.specs.Value as value
 use Rattle.zk_tree.specs.Value.{Value}
 use Rattle.zk_typed.specs.declared.script.log_call.LogCall.{LogCall}
 use Rattle.zk_typed.specs.declared.script.log_call.LogCall.TheVariants.{Create, AddFilter, RemoveFilter}
+use Rattle.zk_typed.specs.Columns.{record_fields}
 use Rattle.zk_typed.specs.Does.{Does, ◌>>◌, change}
 use Rattle.zk_typed.specs.Log.{Stream, Filter}
-use Rattle.zk_typed.specs.Logs.{stream_of, is_named, has_filter, with_filter, without_filter, change_stream, truth, create, add_filter, remove_filter, first_filter, log_call, write_row, log_word, CallsHook, unless_vetoed, ask, by_policy, still_there, if_there, by_filters, queue_row, to_stream, write_log, policy_of, path_of}
+use Rattle.zk_typed.specs.Logs.{stream_of, is_named, has_filter, with_filter, without_filter, change_stream, truth, create, add_filter, remove_filter, first_filter, log_call, write_row, log_word, CallsHook, unless_vetoed, described, ask, by_policy, still_there, if_there, by_filters, queue_row, to_stream, write_log, policy_of, path_of}
 use Rattle.zk_typed.specs.Predefined as type
 use Rattle.zk_typed.specs.Predefined.{filter_record}
 use Rattle.zk_typed.specs.Program.{Program}
 use Rattle.zk_typed.specs.State.{with_streams, queued_behind}
 use Rattle.zk_typed.specs.Types.{ValueType, Record}
 use Rattle.zk_typed.specs.World.{queued}
-use Rattle.zk_sound.specs.Holding.{Kinds, HasType, HaveTypes, FieldsFit, field_types}
+use Rattle.zk_sound.specs.Holding.{Kinds, HasType, HaveTypes, field_types}
 use Rattle.zk_sound.specs.Worlds.{row_type, hook_params, event_params, policy_params, PolicyFits, RowEventFits, FilterFits, StreamFits, QueuedFits}
-use Rattle.zk_sound.specs.Having.{LogCallFits, FilterTypes}
+use Rattle.zk_sound.specs.Having.{LogCallFits, FieldBegins, FilterTypes}
 use Rattle.zk_sound.specs.Keeping.{Setting, Keeps, Any, Of}
 use Rattle.zk_sound.proofs.Growth.{all_append, has_later}
 use Rattle.zk_sound.proofs.Core.{keeps_bind, keeps_then, keeps_pure, keeps_read, keeps_change}
-use Rattle.zk_sound.proofs.Places.{keeps_new_object}
 use Rattle.zk_sound.proofs.Tables.{all_find, all_images, all_filter}
-use Rattle.zk_sound.proofs.Objects.{find_passes}
+use Rattle.zk_sound.proofs.Objects.{GivenFits, find_passes, got_map, keeps_new_record}
 
 -- Streams ----------------------------------------------------------------------------------------------------------
 
@@ -158,24 +158,35 @@ module _ {setting : Setting} {kinds : Kinds} where
 pub record HooksKeep (setting : Setting) (hook : CallsHook) : Type 0 where
   pub by : (kinds : Kinds) (number : HookNo) (types : List ValueType) (args : List Value) → hook_params setting.program number ≡ Some types → HaveTypes kinds types args → Keeps setting Any kinds (hook number args)
 
-module _ (setting : Setting) (filters : FilterTypes (field_types setting.program filter_record)) (hook : CallsHook) (keeps : HooksKeep setting hook) (number : RecordNo) where
-  filter_fits : (kinds : Kinds) (types : List ValueType) (name path : List ℕ) → FilterTypes types → FieldsFit kinds types (Some (value.String name) ∷ Some (value.String path) ∷ [])
-  filter_fits kinds types name path (added, is) = rw is (refl, (refl, tt))
+-- a text is given to a field of a filter
+text_given : (program : Program) (kinds : Kinds) (n : ℕ) (text : List ℕ) → slice_get (field_types program filter_record) n ≡ Some type.string → GivenFits program filter_record kinds (n, value.String text)
+text_given program kinds n text is = record {
+  of = type.string;
+  field = sym (got_map (λ one. one.field_type) (record_fields program filter_record) n) ∙ is;
+  fits = refl;
+}
 
-  ask_keeps : {kinds : Kinds} (word : List ℕ) (stream : Stream) (one : Filter) (row : Value) (policy : HookNo) → PolicyFits setting.program number (Some policy) → HasType kinds (Record number) row
-      → Keeps setting Any kinds (ask filter_record hook word stream one row policy)
-  ask_keeps {kinds = kinds} word stream one row policy fits h = keeps_bind
-      (keeps_new_object (Record filter_record) (object.Record filter_record _) (refl, filter_fits kinds (field_types setting.program filter_record) one.name (path_of stream one) filters))
-      (λ later grows described named. keeps.by later policy (policy_params number) (row ∷ value.Enum word ∷ described ∷ []) fits (has_later grows (Record number) row h, (refl, (named, tt))))
+module _ (setting : Setting) (filters : FilterTypes (field_types setting.program filter_record)) (begins : AllByRecursion FieldBegins (record_fields setting.program filter_record))
+    (place : Place) (hook : CallsHook) (keeps : HooksKeep setting hook) (number : RecordNo) where
+  described_keeps : {kinds : Kinds} (stream : Stream) (one : Filter) → Keeps setting (Of (Record filter_record)) kinds (described setting.program filter_record place stream one)
+  described_keeps {kinds = kinds} stream one = keeps_new_record place filter_record ((0, value.String one.name) ∷ (1, value.String (path_of stream one)) ∷ []) begins (
+    text_given setting.program kinds 0 one.name (ap (λ types. slice_get types 0) filters.1),
+    (text_given setting.program kinds 1 (path_of stream one) (ap (λ types. slice_get types 1) filters.1), tt),
+  )
+
+  ask_keeps : {kinds : Kinds} (stream : Stream) (one : Filter) (row : Value) (policy : HookNo) → PolicyFits setting.program number (Some policy) → HasType kinds (Record number) row
+      → Keeps setting Any kinds (ask setting.program filter_record place hook stream one row policy)
+  ask_keeps stream one row policy fits h = keeps_bind (described_keeps stream one)
+      (λ later grows told named. keeps.by later policy (policy_params number) (row ∷ value.Enum (log_word setting.program stream.id) ∷ told ∷ []) fits (has_later grows (Record number) row h, (refl, (named, tt))))
 
   vetoed_keeps : {kinds : Kinds} (stream : Stream) (one : Filter) (row : Value) (ran : Bool) → Keeps setting Any kinds (unless_vetoed (write_row setting.program stream one row) ran)
   vetoed_keeps stream one row true = row_keeps stream one row
   vetoed_keeps stream one row false = keeps_pure tt tt
 
   policy_keeps : {kinds : Kinds} (stream : Stream) (one : Filter) (row : Value) (policy : Option HookNo) → PolicyFits setting.program number policy → HasType kinds (Record number) row
-      → Keeps setting Any kinds (by_policy setting.program filter_record hook stream one row policy)
+      → Keeps setting Any kinds (by_policy setting.program filter_record place hook stream one row policy)
   policy_keeps stream one row None fits h = row_keeps stream one row
-  policy_keeps stream one row (Some policy) fits h = keeps_bind (ask_keeps (log_word setting.program stream.id) stream one row policy fits h) (λ later grows ran any. vetoed_keeps stream one row ran)
+  policy_keeps stream one row (Some policy) fits h = keeps_bind (ask_keeps stream one row policy fits h) (λ later grows ran any. vetoed_keeps stream one row ran)
 
   policy_fits : (stream : Stream) (one : Filter) (own : Option HookNo) → PolicyFits setting.program number stream.policy → PolicyFits setting.program number own → PolicyFits setting.program number (policy_of stream (record one { policy = own }))
   policy_fits stream one None of_stream of_filter = of_stream
@@ -186,16 +197,16 @@ module _ (setting : Setting) (filters : FilterTypes (field_types setting.program
   there_keeps false written keeps = keeps_pure tt tt
 
   filters_keep : {kinds : Kinds} (stream : Stream) (row : Value) (filters : List Filter) → PolicyFits setting.program number stream.policy → AllByRecursion (FilterFits setting.program number) filters → HasType kinds (Record number) row
-      → Keeps setting Any kinds (by_filters setting.program filter_record hook stream row filters)
+      → Keeps setting Any kinds (by_filters setting.program filter_record place hook stream row filters)
   filters_keep stream row [] policy all h = keeps_pure tt tt
   filters_keep stream row (one ∷ others) policy (first, rest) h = keeps_read (still_there stream.id one.name)
-      (λ there. if_there there (by_policy setting.program filter_record hook stream one row (policy_of stream one)) >> by_filters setting.program filter_record hook stream row others) (λ world holds. keeps_then
-      (there_keeps (still_there stream.id one.name world) (by_policy setting.program filter_record hook stream one row (policy_of stream one))
+      (λ there. if_there there (by_policy setting.program filter_record place hook stream one row (policy_of stream one)) >> by_filters setting.program filter_record place hook stream row others) (λ world holds. keeps_then
+      (there_keeps (still_there stream.id one.name world) (by_policy setting.program filter_record place hook stream one row (policy_of stream one))
       (policy_keeps stream one row (policy_of stream one) (policy_fits stream one one.policy policy first) h))
       (λ later grows. filters_keep stream row others policy rest (has_later grows (Record number) row h)))
 
   to_stream_keeps : {kinds : Kinds} (row : Value) (stream : Option Stream) → ((one : Stream) → stream ≡ Some one → StreamFits setting.program one × (row_type setting.program one.id ≡ Some number)) → HasType kinds (Record number) row
-      → Keeps setting (Of type.bool) kinds (to_stream setting.program filter_record hook row stream)
+      → Keeps setting (Of type.bool) kinds (to_stream setting.program filter_record place hook row stream)
   to_stream_keeps row None fits h = keeps_truth false
   to_stream_keeps row (Some stream) fits h =
       let (fit, typed) = fits stream refl in
@@ -203,8 +214,8 @@ module _ (setting : Setting) (filters : FilterTypes (field_types setting.program
       keeps_then (filters_keep stream row stream.filters (fit.policy number typed) (fit.filters number typed) (has_later grows (Record number) row h)) (λ last more. keeps_truth true))
 
   -- `Log::write(ID, r)`
-  pub keeps_write_log : {kinds : Kinds} (log : LogId) (row : Value) → row_type setting.program log ≡ Some number → HasType kinds (Record number) row → Keeps setting (Of type.bool) kinds (write_log setting.program filter_record hook log row)
-  keeps_write_log log row typed h = keeps_read (λ world. stream_of log world.streams) (to_stream setting.program filter_record hook row) (λ world holds. to_stream_keeps row (stream_of log world.streams) (λ one is. (
+  pub keeps_write_log : {kinds : Kinds} (log : LogId) (row : Value) → row_type setting.program log ≡ Some number → HasType kinds (Record number) row → Keeps setting (Of type.bool) kinds (write_log setting.program filter_record place hook log row)
+  keeps_write_log log row typed h = keeps_read (λ world. stream_of log world.streams) (to_stream setting.program filter_record place hook row) (λ world holds. to_stream_keeps row (stream_of log world.streams) (λ one is. (
     all_find (StreamFits setting.program) (λ stream. stream.id.0 == log.0) world.streams one is holds.streams,
     ap (row_type setting.program) (same_log one.id log (find_passes (λ stream. stream.id.0 == log.0) world.streams one is)) ∙ typed,
   )) h)

@@ -74,8 +74,9 @@ field_read kinds (t ∷ types) (f ∷ fields) (suc n) of one is (first, others) 
 
 field_write : (kinds : Kinds) (types : List ValueType) (fields : List (Option Value)) (n : ℕ) (of : ValueType) (one : Value)
     → slice_get types n ≡ Some of → FieldsFit kinds types fields → HasType kinds of one → FieldsFit kinds types (slice_set fields n (Some one))
-field_write kinds types [] n of one is fits h = tt
+field_write kinds [] [] n of one is fits h = tt
 field_write kinds [] (f ∷ fields) n of one is fits h = absurd fits
+field_write kinds (t ∷ types) [] n of one is fits h = absurd fits
 field_write kinds (t ∷ types) (f ∷ fields) zero of one is (first, others) h = let same : of ≡ t = cc in (rw same at h, others)
 field_write kinds (t ∷ types) (f ∷ fields) (suc n) of one is (first, others) h = (first, field_write kinds types fields n of one is others h)
 

@@ -67,10 +67,11 @@ HaveTypes kinds (of ∷ types) (one ∷ others) = HasType kinds of one × HaveTy
 
 -- Objects ----------------------------------------------------------------------------------------------------------
 
--- the fields that a record has have these types; it may have fewer than its type
+-- a record has the fields of its type, each with a value of the field's type or with none
 abbrev pub FieldsFit : Kinds → List ValueType → List (Option Value) → Type 0
-FieldsFit kinds types [] = Unit {0}
+FieldsFit kinds [] [] = Unit {0}
 FieldsFit kinds [] (one ∷ others) = ⊥
+FieldsFit kinds (of ∷ types) [] = ⊥
 FieldsFit kinds (of ∷ types) (one ∷ others) = MayHaveType kinds of one × FieldsFit kinds types others
 
 abbrev pub field_types : Program → RecordNo → List ValueType

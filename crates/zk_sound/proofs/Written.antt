@@ -165,18 +165,18 @@ module _ (program : Program) (kinds : Kinds) (store : Store) (objects : AllZip (
   record_fields_fit number (object.Vector items) fits = absurd fits
   record_fields_fit number (object.Table table) fits = absurd fits
 
-  behind_fit : (number : RecordNo) (one : Option Value) → MayHaveType kinds (Record number) one → FieldsFit kinds (field_types program number) (fields_behind store one)
-  behind_fit number None h = tt
-  behind_fit number (Some (value.Object n)) h = let (one, there, fits) = zip_get (ObjectFits program kinds) kinds store n.0 (Record number) h objects in rw there (record_fields_fit number one fits)
-  behind_fit number (Some one) h = absurd h
+  behind_fit : (number : RecordNo) (one : Value) → HasType kinds (Record number) one → FieldsFit kinds (field_types program number) (fields_behind store (Some one))
+  behind_fit number (value.Object n) h = let (one, there, fits) = zip_get (ObjectFits program kinds) kinds store n.0 (Record number) h objects in rw there (record_fields_fit number one fits)
+  behind_fit number one h = absurd h
 
   -- a field of what may be a record has its type, where it has a value
   read_field : (number : RecordNo) (n : ℕ) (of : ValueType) (one : Option Value) → field_type program number n ≡ Some of → MayHaveType kinds (Record number) one → MayHaveType kinds of (in_field n (fields_behind store one))
-  read_field number n of one typed h = by (in_field n (fields_behind store one)) refl
+  read_field number n of None typed h = tt
+  read_field number n of (Some one) typed h = by (in_field n (fields_behind store (Some one))) refl
     where
-      by : (found : Option Value) → in_field n (fields_behind store one) ≡ found → MayHaveType kinds of found
+      by : (found : Option Value) → in_field n (fields_behind store (Some one)) ≡ found → MayHaveType kinds of found
       by None is = tt
-      by (Some found) is = field_read kinds (field_types program number) (fields_behind store one) n of found (types_at program number n of typed) (behind_fit number one h) is
+      by (Some found) is = field_read kinds (field_types program number) (fields_behind store (Some one)) n of found (types_at program number n of typed) (behind_fit number one h) is
 
   -- what leads to a leaf has the type that names its column
   record Reads (number : RecordNo) (leaf : Leaf) : Type 0 where

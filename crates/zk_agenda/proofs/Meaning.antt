@@ -23,8 +23,8 @@ use Rattle.zk_typed.specs.Program.{Program, Function, HookBody}
 use Rattle.zk_typed.specs.State.{World}
 use Rattle.zk_agenda.specs.Onward.{Onward}
 use Rattle.zk_agenda.proofs.OnwardLemmas.{alike}
-use Rattle.zk_agenda.proofs.Steps.{Goes, reached, goes_bind, goes_then, goes_pure, goes_fault, goes_misfit, goes_or_fault, goes_tick, goes_of, goes_local, goes_global, goes_new_object, goes_new_record, goes_field, goes_set_field, goes_table, goes_vector, goes_item}
-use Rattle.zk_agenda.proofs.Primitives.{goes_perform, goes_act, goes_set_names, goes_write_row, goes_queue_row}
+use Rattle.zk_agenda.proofs.Steps.{Goes, reached, goes_bind, goes_then, goes_pure, goes_fault, goes_misfit, goes_or_fault, goes_tick, goes_of, goes_local, goes_global, goes_new_record, goes_field, goes_set_field, goes_table, goes_vector, goes_item}
+use Rattle.zk_agenda.proofs.Primitives.{goes_perform, goes_act, goes_set_names, goes_described, goes_write_row, goes_queue_row}
 
 pub record CallsGo (c : Calls) : Type 0 where
   pub call : (function : ℕ) (args : List Value) (place : Place) → Goes (c.call function args place)
@@ -37,31 +37,31 @@ goes_choose place one a b = goes_misfit place
 
 -- Writes -----------------------------------------------------------------------------------------------------------
 
-module _ (program : Program) (of : RecordNo) (hook : CallsHook) (goes : (number : HookNo) (args : List Value) → Goes (hook number args)) where
+module _ (program : Program) (of : RecordNo) (place : Place) (hook : CallsHook) (goes : (number : HookNo) (args : List Value) → Goes (hook number args)) where
   goes_vetoed : {written : Does (Unit {0})} → Goes written → (ran : Bool) → Goes (unless_vetoed written ran)
   goes_vetoed one true = one
   goes_vetoed one false = goes_pure tt
 
-  goes_by_policy : (stream : Stream) (one : Filter) (row : Value) (policy : Option HookNo) → Goes (by_policy program of hook stream one row policy)
+  goes_by_policy : (stream : Stream) (one : Filter) (row : Value) (policy : Option HookNo) → Goes (by_policy program of place hook stream one row policy)
   goes_by_policy stream one row None = goes_write_row program stream one row
   goes_by_policy stream one row (Some policy) = goes_bind
-      (goes_bind (goes_new_object _) (λ described. goes policy (row ∷ plain.Enum (log_word program stream.id) ∷ described ∷ [])))
+      (goes_bind (goes_described program of place stream one) (λ told. goes policy (row ∷ plain.Enum (log_word program stream.id) ∷ told ∷ [])))
       (λ ran. goes_vetoed (goes_write_row program stream one row) ran)
 
   goes_if_there : (there : Bool) {written : Does (Unit {0})} → Goes written → Goes (if_there there written)
   goes_if_there true one = one
   goes_if_there false one = goes_pure tt
 
-  goes_by_filters : (stream : Stream) (row : Value) (filters : List Filter) → Goes (by_filters program of hook stream row filters)
+  goes_by_filters : (stream : Stream) (row : Value) (filters : List Filter) → Goes (by_filters program of place hook stream row filters)
   goes_by_filters stream row [] = goes_pure tt
   goes_by_filters stream row (one ∷ others) = goes_of (still_there stream.id one.name) (λ there.
       goes_then (goes_if_there there (goes_by_policy stream one row (policy_of stream one))) (goes_by_filters stream row others))
 
-  goes_to_stream : (row : Value) (stream : Option Stream) → Goes (to_stream program of hook row stream)
+  goes_to_stream : (row : Value) (stream : Option Stream) → Goes (to_stream program of place hook row stream)
   goes_to_stream row None = goes_pure (plain.Bool false)
   goes_to_stream row (Some stream) = goes_then (goes_queue_row stream.event row) (goes_then (goes_by_filters stream row stream.filters) (goes_pure (plain.Bool true)))
 
-  pub goes_write_log : (log : LogId) (row : Value) → Goes (write_log program of hook log row)
+  pub goes_write_log : (log : LogId) (row : Value) → Goes (write_log program of place hook log row)
   goes_write_log log row = goes_of (λ world. stream_of log world.streams) (λ stream. goes_to_stream row stream)
 
 -- Forms ------------------------------------------------------------------------------------------------------------
@@ -80,7 +80,7 @@ module _ (program : Program) (c : Calls) (go : CallsGo c) where
     value_goes place (form.Call function operands) = goes_bind (values_go place operands) (λ args. goes_bind (go.call function args place) (λ given. goes_or_fault Unset place given))
     value_goes place (form.Hook hook operands) = goes_bind (values_go place operands) (λ args. goes_bind (go.hook hook args place) (λ ran. goes_pure (plain.Bool ran)))
     value_goes place (form.Write log row) = goes_bind (value_goes place row) (λ one. goes_then (goes_tick place)
-        (goes_write_log program filter_record (λ hook args. c.hook hook args place) (λ hook args. go.hook hook args place) log one))
+        (goes_write_log program filter_record place (λ hook args. c.hook hook args place) (λ hook args. go.hook hook args place) log one))
 
     pub values_go : (place : Place) (list : Exprs) → Goes (values program c place list)
     values_go place form.NoExpr = goes_pure []

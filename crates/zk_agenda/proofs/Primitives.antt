@@ -22,16 +22,17 @@ use Rattle.zk_typed.specs.declared.script.primitive.BuiltIn.TheVariants as built
 use Rattle.zk_typed.specs.declared.script.primitive.Primitive.{Primitive}
 use Rattle.zk_typed.specs.declared.script.primitive.Primitive.TheVariants as primitive
 use Rattle.zk_typed.specs.declared.script.stmt.Names.{Names}
+use Rattle.zk_typed.specs.Columns.{record_fields}
 use Rattle.zk_typed.specs.Does.{Does}
 use Rattle.zk_typed.specs.Log.{Stream, Filter}
-use Rattle.zk_typed.specs.Logs.{stream_of, create, add_filter, remove_filter, log_call, first_filter, write_row, queue_row}
+use Rattle.zk_typed.specs.Logs.{stream_of, create, add_filter, remove_filter, log_call, first_filter, described, write_row, queue_row}
 use Rattle.zk_typed.specs.Meaning.{set_keys, set_names}
 use Rattle.zk_typed.specs.Program.{Program}
 use Rattle.zk_typed.specs.Objects as objects
 use Rattle.zk_typed.specs.Objects.{Given, table_in, vector_in, fields_in, in_field}
 use Rattle.zk_typed.specs.Primitives as primitives
 use Rattle.zk_agenda.proofs.OnwardLemmas.{alike, scheduled_onward}
-use Rattle.zk_agenda.proofs.Steps.{Goes, goes_binary, goes_bind, goes_change_table, goes_copied_to, goes_element, goes_field, goes_global, goes_has_field, goes_has_key, goes_item, goes_local, goes_misfit, goes_new_object, goes_new_set, goes_new_table, goes_now, goes_object, goes_of, goes_pure, goes_set_field, goes_set_global, goes_set_item, goes_set_local, goes_set_object, goes_size, goes_stepped, goes_string, goes_then, goes_tick, goes_unary, goes_vector}
+use Rattle.zk_agenda.proofs.Steps.{Goes, goes_binary, goes_bind, goes_change_table, goes_copied_to, goes_element, goes_field, goes_global, goes_has_field, goes_has_key, goes_item, goes_local, goes_misfit, goes_new_object, goes_new_record, goes_new_set, goes_new_table, goes_now, goes_object, goes_of, goes_pure, goes_set_field, goes_set_global, goes_set_item, goes_set_local, goes_set_object, goes_size, goes_stepped, goes_string, goes_then, goes_tick, goes_unary, goes_vector}
 
 -- Logs -------------------------------------------------------------------------------------------------------------
 
@@ -54,6 +55,9 @@ goes_log_call (RemoveFilter log name) = goes_of (λ world. stream_of log world.s
 
 pub goes_write_row : (program : Program) (stream : Stream) (one : Filter) (row : Value) → Goes (write_row program stream one row)
 goes_write_row program stream one row = record { by = λ state. alike _ _ refl refl refl refl }
+
+pub goes_described : (program : Program) (filter_type : RecordNo) (place : Place) (stream : Stream) (one : Filter) → Goes (described program filter_type place stream one)
+goes_described program filter_type place stream one = goes_new_record place filter_type (record_fields program filter_type) _
 
 pub goes_queue_row : (event : Option EventNo) (row : Value) → Goes (queue_row event row)
 goes_queue_row None row = record { by = λ state. alike _ _ refl refl refl refl }

@@ -4,15 +4,14 @@ use Rattle.std.specs.Prelude.{slice_get}
 use Rattle.zk_base.specs.declared.numbers.HookNo.{HookNo}
 use Rattle.zk_base.specs.declared.numbers.LogId.{LogId}
 use Rattle.zk_tree.specs.declared.place.Place.{Place}
-use Rattle.zk_tree.specs.Store as object
 use Rattle.zk_tree.specs.Value as plain
 use Rattle.zk_tree.specs.Value.{Value}
 use Rattle.zk_typed.specs.declared.ends.FaultKind.TheVariants.{Unset, Depth}
-use Rattle.zk_typed.specs.Does.{Does, and_then, ◌>>=◌, ◌>>◌, pure, fault, or_fault, tick, read, new_object}
+use Rattle.zk_typed.specs.Does.{Does, and_then, ◌>>=◌, ◌>>◌, pure, fault, or_fault, tick, read}
 use Rattle.zk_typed.specs.Forms.{Stmt}
 use Rattle.zk_typed.specs.Log.{Stream, Filter}
 use Rattle.zk_typed.specs.Logs as logs
-use Rattle.zk_typed.specs.Logs.{path_of, policy_of, still_there, stream_of, log_word, write_row, write_log, unless_vetoed, queue_row}
+use Rattle.zk_typed.specs.Logs.{policy_of, still_there, stream_of, log_word, described, write_row, write_log, unless_vetoed, queue_row}
 use Rattle.zk_typed.specs.Meaning.{Calls, Flow, Normal, Broke, Nexted, Returned, result_of, does, enter, first_locals, function_body, unless_broken, hook_bodies, bodies_of, calls}
 use Rattle.zk_typed.specs.Predefined.{filter_record}
 use Rattle.zk_typed.specs.Program.{Program, Function, HookBody}
@@ -118,6 +117,9 @@ module _ (program : Program) (code : Code) (stands : Stands code program) where
   word_same : (log : LogId) → log_word (types_in code) log ≡ log_word program log
   word_same log = ap (λ types. log_word types log) stands.types
 
+  described_same : (place : Place) (stream : Stream) (one : Filter) → described (types_in code) filter_record place stream one ≡ described program filter_record place stream one
+  described_same place stream one = ap (λ types. described types filter_record place stream one) stands.types
+
   module _ (c : Calls) (left : ℕ) (place : Place) (back : ℕ) (held : Held) (r : room held ≡ left) (hooks : HooksRun c left) where
     abbrev policies : logs.CallsHook
     policies = λ number args. c.hook number args place
@@ -129,7 +131,7 @@ module _ (program : Program) (code : Code) (stands : Stands code program) where
     abbrev filters_from : Stream → Value → List Filter → Start
     filters_from stream row filters = λ state. rest code (by (by_filters code (room held) place stream row filters state) (onward back place held))
 
-    module _ (stream : Stream) (row : Value) (one : Filter) (others : List Filter) (rest_run : Runs (logs.by_filters program filter_record policies stream row others) (filters_from stream row others) (λ done. written true)) where
+    module _ (stream : Stream) (row : Value) (one : Filter) (others : List Filter) (rest_run : Runs (logs.by_filters program filter_record place policies stream row others) (filters_from stream row others) (λ done. written true)) where
       abbrev pending : Pending
       pending = record { stream = stream; row = row; filter = one; others = others }
 
@@ -137,35 +139,38 @@ module _ (program : Program) (code : Code) (stands : Stands code program) where
       vetoed_runs ran = runs_from (λ state. ap (λ write. rest code (by ((unless_vetoed write ran >> by_filters code (room held) place stream row others) state) (onward back place held))) (row_same pending))
           (runs_part code (unless_vetoed (write_row program stream one row) ran) (λ done. by_filters code (room held) place stream row others) (onward back place held))
 
-      policy_runs : (policy : Option HookNo) → Runs (logs.by_policy program filter_record policies stream one row policy >> logs.by_filters program filter_record policies stream row others)
+      -- a policy, where that is the word of the log, with what it is told of the filter
+      abbrev asked_with : HookNo → List ℕ → Value → Does Onward
+      asked_with policy word told =
+          tick place >> at_depth (room held) place (bodies place (row ∷ plain.Enum word ∷ told ∷ []) (hook_in code policy) (after_hook code (room held) place true (Some pending)) (Some pending))
+
+      policy_runs : (policy : Option HookNo) → Runs (logs.by_policy program filter_record place policies stream one row policy >> logs.by_filters program filter_record place policies stream row others)
           (λ state. rest code (by (by_policy code (room held) place pending (by_filters code (room held) place stream row others) policy state) (onward back place held))) (λ done. written true)
       policy_runs None = runs_then (runs_from (λ state. ap (λ write. rest code (by ((write >> by_filters code (room held) place stream row others) state) (onward back place held))) (row_same pending))
           (runs_part code (write_row program stream one row) (λ done. by_filters code (room held) place stream row others) (onward back place held))) (λ done. rest_run)
       policy_runs (Some policy) = runs_then (runs_bind (runs_bind
-          (runs_part code (new_object (object.Record filter_record (Some (plain.String one.name) ∷ Some (plain.String (path_of stream one)) ∷ [])))
-          (λ described. tick place >> at_depth (room held) place (bodies place (row ∷ plain.Enum (log_word (types_in code) stream.id) ∷ described ∷ []) (hook_in code policy) (after_hook code (room held) place true (Some pending)) (Some pending)))
-          (onward back place held))
-          (λ described. runs_from
-          (λ state. ap (λ word. rest code (by ((tick place >> at_depth (room held) place (bodies place (row ∷ plain.Enum word ∷ described ∷ []) (hook_in code policy) (after_hook code (room held) place true (Some pending)) (Some pending))) state) (onward back place held))) (word_same stream.id))
-          (hooks.by place back held r (row ∷ plain.Enum (log_word program stream.id) ∷ described ∷ []) (Some pending) policy)))
+          (runs_from (λ state. ap (λ made. rest code (by ((made >>= asked_with policy (log_word (types_in code) stream.id)) state) (onward back place held))) (described_same place stream one))
+          (runs_part code (described program filter_record place stream one) (asked_with policy (log_word (types_in code) stream.id)) (onward back place held)))
+          (λ told. runs_from (λ state. ap (λ word. rest code (by (asked_with policy word told state) (onward back place held))) (word_same stream.id))
+          (hooks.by place back held r (row ∷ plain.Enum (log_word program stream.id) ∷ told ∷ []) (Some pending) policy)))
           vetoed_runs) (λ done. rest_run)
 
-      there_runs : (there : Bool) → Runs (logs.if_there there (logs.by_policy program filter_record policies stream one row (policy_of stream one)) >> logs.by_filters program filter_record policies stream row others)
+      there_runs : (there : Bool) → Runs (logs.if_there there (logs.by_policy program filter_record place policies stream one row (policy_of stream one)) >> logs.by_filters program filter_record place policies stream row others)
           (λ state. rest code (by (steps.if_there there (by_policy code (room held) place pending (by_filters code (room held) place stream row others) (policy_of stream one)) (by_filters code (room held) place stream row others) state) (onward back place held))) (λ done. written true)
       there_runs true = policy_runs (policy_of stream one)
       there_runs false = rest_run
 
-    filters_run : (stream : Stream) (row : Value) (filters : List Filter) → Runs (logs.by_filters program filter_record policies stream row filters) (filters_from stream row filters) (λ done. written true)
+    filters_run : (stream : Stream) (row : Value) (filters : List Filter) → Runs (logs.by_filters program filter_record place policies stream row filters) (filters_from stream row filters) (λ done. written true)
     filters_run stream row [] = record { by = λ state. refl }
     filters_run stream row (one ∷ others) = runs_bind {m = read (still_there stream.id one.name)} {mid = λ there state. rest code (by (steps.if_there there (by_policy code (room held) place (record { stream = stream; row = row; filter = one; others = others }) (by_filters code (room held) place stream row others) (policy_of stream one)) (by_filters code (room held) place stream row others) state) (onward back place held))}
         (record { by = λ state. refl }) (there_runs stream row one others (filters_run stream row others))
 
-    stream_runs : (row : Value) (stream : Option Stream) → Runs (logs.to_stream program filter_record policies row stream) (λ state. rest code (by (to_stream code (room held) place row stream state) (onward back place held))) (λ one. here code back (pushed one held))
+    stream_runs : (row : Value) (stream : Option Stream) → Runs (logs.to_stream program filter_record place policies row stream) (λ state. rest code (by (to_stream code (room held) place row stream state) (onward back place held))) (λ one. here code back (pushed one held))
     stream_runs row None = record { by = λ state. refl }
     stream_runs row (Some stream) = runs_then (runs_part code (queue_row stream.event row) (λ done. by_filters code (room held) place stream row stream.filters) (onward back place held)) (λ done.
         runs_then (filters_run stream row stream.filters) (λ done. record { by = λ state. refl }))
 
-    pub write_runs : (log : LogId) (row : Value) → Runs (tick place >> write_log program filter_record policies log row) (λ state. rest code (by ((tick place >> (read (λ world. stream_of log world.streams) >>= to_stream code (room held) place row)) state) (onward back place held))) (λ one. here code back (pushed one held))
+    pub write_runs : (log : LogId) (row : Value) → Runs (tick place >> write_log program filter_record place policies log row) (λ state. rest code (by ((tick place >> (read (λ world. stream_of log world.streams) >>= to_stream code (room held) place row)) state) (onward back place held))) (λ one. here code back (pushed one held))
     write_runs log row = runs_then (runs_part code (tick place) (λ done. read (λ world. stream_of log world.streams) >>= to_stream code (room held) place row) (onward back place held)) (λ done.
         runs_bind {m = read (λ world. stream_of log world.streams)} {mid = λ stream state. rest code (by (to_stream code (room held) place row stream state) (onward back place held))} (record { by = λ state. refl }) (stream_runs row))
 

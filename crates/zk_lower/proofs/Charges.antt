@@ -11,12 +11,13 @@ use Rattle.zk_typed.specs.Does.{Does, Ran, Gives, Faults, Spent, and_then, ◌>>
 use Rattle.zk_typed.specs.Log.{Stream, Filter}
 use Rattle.zk_typed.specs.Logs.{log_word, policy_of, still_there, unless_vetoed}
 use Rattle.zk_typed.specs.Meaning.{Flow, Normal, Broke, Nexted, Returned}
+use Rattle.zk_typed.specs.Predefined.{filter_record}
 use Rattle.zk_typed.specs.State.{State, World}
 use Rattle.zk_lower.specs.Code.{BodyCode, Code, types_in}
 use Rattle.zk_lower.specs.Frames.{Pending}
 use Rattle.zk_lower.specs.Steps.{Onward, Answer, Body, bodies, at_depth, asked, row_written, by_policy, by_filters, to_stream, after_hook, after_body, if_there, key_there, next_key, next_index, hook_in}
-use Rattle.zk_lower.proofs.Units.{AtMost, Keeps, keeps_tick, keeps_new_object, keeps_pure, keeps_table, keeps_bind, keeps_then, keeps_item}
-use Rattle.zk_lower.proofs.PrimitiveUnits.{keeps_write_row, keeps_queue_row, keeps_set_names}
+use Rattle.zk_lower.proofs.Units.{AtMost, Keeps, keeps_tick, keeps_pure, keeps_table, keeps_bind, keeps_then, keeps_item}
+use Rattle.zk_lower.proofs.PrimitiveUnits.{keeps_described, keeps_write_row, keeps_queue_row, keeps_set_names}
 
 -- fewer, or no more
 abbrev pub Within : Bool → ℕ → ℕ → Type 0
@@ -116,8 +117,8 @@ charges_at_depth (suc left) place one = one
 
 module _ (code : Code) (left : ℕ) (place : Place) where
   charges_asked : (pending : Pending) {written : Does Onward} → Charges enters written → (policy : HookNo) → Charges enters (asked code left place pending written policy)
-  charges_asked pending rest policy = charges_bind (keeps_new_object _) (λ described.
-      charges_then (keeps_tick place) (charges_at_depth left place (charges_bodies place (pending.row ∷ value.Enum (log_word (types_in code) pending.stream.id) ∷ described ∷ []) (hook_in code policy) rest (Some pending))))
+  charges_asked pending rest policy = charges_bind (keeps_described (types_in code) filter_record place pending.stream pending.filter) (λ told.
+      charges_then (keeps_tick place) (charges_at_depth left place (charges_bodies place (pending.row ∷ value.Enum (log_word (types_in code) pending.stream.id) ∷ told ∷ []) (hook_in code policy) rest (Some pending))))
 
   keeps_row_written : (pending : Pending) → Keeps (row_written code pending)
   keeps_row_written pending = keeps_write_row (types_in code) pending.stream pending.filter pending.row

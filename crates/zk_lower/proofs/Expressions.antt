@@ -105,7 +105,7 @@ pub record CallsRun (program : Program) (code : Code) (c : Calls) (left : ℕ) :
   pub hook : (number : HookNo) (args : List Value) (place : Place) (at : ℕ) (held : Held) → room held ≡ left
       → Runs (c.hook number args place) (λ state. rest code (hook code place number at args held state)) (λ ran. here code (at + 1) (pushed (plain.Bool ran) held))
   pub write : (log : LogId) (row : Value) (place : Place) (at : ℕ) (held : Held) → room held ≡ left
-      → Runs (tick place >> write_log program filter_record (λ hook args. c.hook hook args place) log row) (λ state. rest code (write code place log at state row held)) (λ one. here code (at + 1) (pushed one held))
+      → Runs (tick place >> write_log program filter_record place (λ hook args. c.hook hook args place) log row) (λ state. rest code (write code place log at state row held)) (λ one. here code (at + 1) (pushed one held))
 
 module _ (program : Program) (code : Code) (types : types_in code ≡ types_of program.files program.records program.logs) (c : Calls) (left : ℕ) (runs : CallsRun program code c left) where
   push_runs : (one : Value) (held : Held) (at to : ℕ) → OneAt code.ops (op.Push one) at to → Runs (pure one) (here code at held) (λ a. here code to (pushed a held))

@@ -20,8 +20,8 @@ use Rattle.zk_typed.specs.Meaning.{Calls, Flow, Normal, Broke, Nexted, Returned,
 use Rattle.zk_typed.specs.Objects.{keys_of}
 use Rattle.zk_typed.specs.Predefined.{filter_record}
 use Rattle.zk_typed.specs.Program.{Program, Function, HookBody}
-use Rattle.zk_lower.proofs.Units.{AtMost, Keeps, behind_then, keeps_bind, keeps_then, keeps_pure, keeps_fault, keeps_misfit, keeps_or_fault, keeps_tick, keeps_of, keeps_local, keeps_global, keeps_new_object, keeps_new_record, keeps_field, keeps_set_field, keeps_table, keeps_vector, keeps_item}
-use Rattle.zk_lower.proofs.PrimitiveUnits.{stream_untold, keeps_perform, keeps_act, keeps_set_names, keeps_write_row, keeps_queue_row}
+use Rattle.zk_lower.proofs.Units.{AtMost, Keeps, behind_then, keeps_bind, keeps_then, keeps_pure, keeps_fault, keeps_misfit, keeps_or_fault, keeps_tick, keeps_of, keeps_local, keeps_global, keeps_new_record, keeps_field, keeps_set_field, keeps_table, keeps_vector, keeps_item}
+use Rattle.zk_lower.proofs.PrimitiveUnits.{stream_untold, keeps_perform, keeps_act, keeps_set_names, keeps_described, keeps_write_row, keeps_queue_row}
 
 pub record CallsKeep (c : Calls) : Type 0 where
   pub call : (function : ℕ) (args : List Value) (place : Place) → Keeps (c.call function args place)
@@ -34,31 +34,31 @@ keeps_choose place one a b = keeps_misfit place
 
 -- Writes -----------------------------------------------------------------------------------------------------------
 
-module _ (program : Program) (of : RecordNo) (hook : CallsHook) (keeps : (number : HookNo) (args : List Value) → Keeps (hook number args)) where
+module _ (program : Program) (of : RecordNo) (place : Place) (hook : CallsHook) (keeps : (number : HookNo) (args : List Value) → Keeps (hook number args)) where
   keeps_vetoed : {written : Does (Unit {0})} → Keeps written → (ran : Bool) → Keeps (unless_vetoed written ran)
   keeps_vetoed one true = one
   keeps_vetoed one false = keeps_pure tt
 
-  keeps_by_policy : (stream : Stream) (one : Filter) (row : Value) (policy : Option HookNo) → Keeps (by_policy program of hook stream one row policy)
+  keeps_by_policy : (stream : Stream) (one : Filter) (row : Value) (policy : Option HookNo) → Keeps (by_policy program of place hook stream one row policy)
   keeps_by_policy stream one row None = keeps_write_row program stream one row
   keeps_by_policy stream one row (Some policy) = keeps_bind
-      (keeps_bind (keeps_new_object _) (λ described. keeps policy (row ∷ plain.Enum (log_word program stream.id) ∷ described ∷ [])))
+      (keeps_bind (keeps_described program of place stream one) (λ told. keeps policy (row ∷ plain.Enum (log_word program stream.id) ∷ told ∷ [])))
       (λ ran. keeps_vetoed (keeps_write_row program stream one row) ran)
 
   keeps_if_there : (there : Bool) {written : Does (Unit {0})} → Keeps written → Keeps (if_there there written)
   keeps_if_there true one = one
   keeps_if_there false one = keeps_pure tt
 
-  keeps_by_filters : (stream : Stream) (row : Value) (filters : List Filter) → Keeps (by_filters program of hook stream row filters)
+  keeps_by_filters : (stream : Stream) (row : Value) (filters : List Filter) → Keeps (by_filters program of place hook stream row filters)
   keeps_by_filters stream row [] = keeps_pure tt
   keeps_by_filters stream row (one ∷ others) = keeps_of (still_there stream.id one.name) (record { same = λ told world. refl }) (λ there.
       keeps_then (keeps_if_there there (keeps_by_policy stream one row (policy_of stream one))) (keeps_by_filters stream row others))
 
-  keeps_to_stream : (row : Value) (stream : Option Stream) → Keeps (to_stream program of hook row stream)
+  keeps_to_stream : (row : Value) (stream : Option Stream) → Keeps (to_stream program of place hook row stream)
   keeps_to_stream row None = keeps_pure (plain.Bool false)
   keeps_to_stream row (Some stream) = keeps_then (keeps_queue_row stream.event row) (keeps_then (keeps_by_filters stream row stream.filters) (keeps_pure (plain.Bool true)))
 
-  pub keeps_write_log : (log : LogId) (row : Value) → Keeps (write_log program of hook log row)
+  pub keeps_write_log : (log : LogId) (row : Value) → Keeps (write_log program of place hook log row)
   keeps_write_log log row = keeps_of (λ world. stream_of log world.streams) (stream_untold log) (λ stream. keeps_to_stream row stream)
 
 -- Forms ------------------------------------------------------------------------------------------------------------
@@ -77,7 +77,7 @@ module _ (program : Program) (c : Calls) (keep : CallsKeep c) where
     value_keeps place (form.Call function operands) = keeps_bind (values_keep place operands) (λ args. keeps_bind (keep.call function args place) (λ given. keeps_or_fault Unset place given))
     value_keeps place (form.Hook hook operands) = keeps_bind (values_keep place operands) (λ args. keeps_bind (keep.hook hook args place) (λ ran. keeps_pure (plain.Bool ran)))
     value_keeps place (form.Write log row) = keeps_bind (value_keeps place row) (λ one. keeps_then (keeps_tick place)
-        (keeps_write_log program filter_record (λ hook args. c.hook hook args place) (λ hook args. keep.hook hook args place) log one))
+        (keeps_write_log program filter_record place (λ hook args. c.hook hook args place) (λ hook args. keep.hook hook args place) log one))
 
     pub values_keep : (place : Place) (list : Exprs) → Keeps (values program c place list)
     values_keep place form.NoExpr = keeps_pure []

@@ -24,10 +24,10 @@ use Rattle.zk_typed.specs.declared.script.primitive.BuiltIn.TheVariants as built
 use Rattle.zk_typed.specs.declared.script.primitive.Primitive.{Primitive}
 use Rattle.zk_typed.specs.declared.script.primitive.Primitive.TheVariants as primitive
 use Rattle.zk_typed.specs.declared.script.stmt.Names.{Names}
-use Rattle.zk_typed.specs.Columns.{value_at, value_cell}
+use Rattle.zk_typed.specs.Columns.{record_fields, value_at, value_cell}
 use Rattle.zk_typed.specs.Does.{Does, Ran, Gives}
 use Rattle.zk_typed.specs.Log.{Stream, Filter, Row}
-use Rattle.zk_typed.specs.Logs.{stream_of, path_of, filter_leaves, create, add_filter, remove_filter, log_call, first_filter, write_row, queue_row}
+use Rattle.zk_typed.specs.Logs.{stream_of, path_of, filter_leaves, create, add_filter, remove_filter, log_call, first_filter, described, write_row, queue_row}
 use Rattle.zk_typed.specs.Meaning.{set_keys, set_names}
 use Rattle.zk_typed.specs.Program.{Program}
 use Rattle.zk_typed.specs.Objects as objects
@@ -37,7 +37,7 @@ use Rattle.zk_typed.specs.State.{State, World, scheduled_for}
 use Rattle.zk_typed.specs.Text.{line_of}
 use Rattle.zk_typed.specs.World.{queued}
 use Rattle.zk_lower.specs.Told.{Told, behind}
-use Rattle.zk_lower.proofs.Units.{Keeps, Untold, keeps_binary, keeps_bind, keeps_change_table, keeps_copied_to, keeps_element, keeps_field, keeps_global, keeps_has_field, keeps_has_key, keeps_item, keeps_local, keeps_misfit, keeps_new_object, keeps_new_set, keeps_new_table, keeps_now, keeps_object, keeps_of, keeps_pure, keeps_set_field, keeps_set_global, keeps_set_item, keeps_set_local, keeps_set_object, keeps_size, keeps_stepped, keeps_string, keeps_then, keeps_tick, keeps_unary, keeps_vector}
+use Rattle.zk_lower.proofs.Units.{Keeps, Untold, keeps_binary, keeps_bind, keeps_change_table, keeps_copied_to, keeps_element, keeps_field, keeps_global, keeps_has_field, keeps_has_key, keeps_item, keeps_local, keeps_misfit, keeps_new_object, keeps_new_record, keeps_new_set, keeps_new_table, keeps_now, keeps_object, keeps_of, keeps_pure, keeps_set_field, keeps_set_global, keeps_set_item, keeps_set_local, keeps_set_object, keeps_size, keeps_stepped, keeps_string, keeps_then, keeps_tick, keeps_unary, keeps_vector}
 
 pub stream_untold : (log : LogId) → Untold (λ world. stream_of log world.streams)
 stream_untold log = record { same = λ told world. refl }
@@ -85,6 +85,9 @@ keeps_write_row program stream one row = record {
   by = λ state. omega arith;
   moves = λ told state. ap (wrote told state) (append_assoc told.rows state.world.rows (row_now program stream one row state.world ∷ []));
 }
+
+pub keeps_described : (program : Program) (filter_type : RecordNo) (place : Place) (stream : Stream) (one : Filter) → Keeps (described program filter_type place stream one)
+keeps_described program filter_type place stream one = keeps_new_record place filter_type (record_fields program filter_type) _
 
 pub keeps_queue_row : (event : Option EventNo) (row : Value) → Keeps (queue_row event row)
 keeps_queue_row None row = record { by = λ state. omega arith; moves = λ told state. refl }

@@ -3,7 +3,6 @@ use Rattle.std.specs.Prelude.{ℕ, zero, suc, ◌+◌, ◌-◌, Bool, true, fals
 use Rattle.zk_base.specs.declared.numbers.HookNo.{HookNo}
 use Rattle.zk_base.specs.declared.numbers.LogId.{LogId}
 use Rattle.zk_tree.specs.declared.place.Place.{Place}
-use Rattle.zk_tree.specs.Store as object
 use Rattle.zk_tree.specs.Table.{Entry, entry_at}
 use Rattle.zk_tree.specs.Value as plain
 use Rattle.zk_tree.specs.Value.{Value}
@@ -11,9 +10,9 @@ use Rattle.zk_typed.specs.declared.ends.FaultKind.TheVariants.{Unset, Depth}
 use Rattle.zk_typed.specs.declared.script.primitive.Binary.TheVariants.{Plus}
 use Rattle.zk_typed.specs.declared.script.stmt.Names.{Names}
 use Rattle.zk_typed.specs.Columns.{record_fields}
-use Rattle.zk_typed.specs.Does.{Does, Ran, Gives, Faults, Spent, ◌>>=◌, ◌>>◌, pure, fault, tick, local, global, read, new_object}
+use Rattle.zk_typed.specs.Does.{Does, Ran, Gives, Faults, Spent, ◌>>=◌, ◌>>◌, pure, fault, tick, local, global, read}
 use Rattle.zk_typed.specs.Log.{Stream, Filter}
-use Rattle.zk_typed.specs.Logs.{stream_of, still_there, path_of, policy_of, write_row, queue_row, log_word, unless_vetoed}
+use Rattle.zk_typed.specs.Logs.{stream_of, still_there, policy_of, write_row, queue_row, log_word, described, unless_vetoed}
 use Rattle.zk_typed.specs.Meaning.{Flow, Normal, Broke, Returned, result_of, first_locals, set_names, depth_max}
 use Rattle.zk_typed.specs.Objects.{Given, table, keys_of, vector, item, new_record}
 use Rattle.zk_typed.specs.Predefined.{filter_record}
@@ -175,13 +174,13 @@ abbrev pub at_depth : {A : Type 0} → ℕ → Place → Does A → Does A
 at_depth zero place next = fault Depth place
 at_depth (suc left) place next = next
 
--- the policy of a filter is asked with the row, the log's word and a record of the filter's name and path
+-- the policy of a filter is asked with the row, the log's word and what it is told of the filter
 abbrev pub asked : Code → ℕ → Place → Pending → Does Onward → HookNo → Does Onward
 asked code left place pending written policy = do
-  described ← new_object (object.Record filter_record (Some (plain.String pending.filter.name) ∷ Some (plain.String (path_of pending.stream pending.filter)) ∷ []))
+  told ← described (types_in code) filter_record place pending.stream pending.filter
   tick place
   at_depth left place (bodies place
-      (pending.row ∷ plain.Enum (log_word (types_in code) pending.stream.id) ∷ described ∷ [])
+      (pending.row ∷ plain.Enum (log_word (types_in code) pending.stream.id) ∷ told ∷ [])
       (hook_in code policy) written (Some pending))
 
 abbrev pub row_written : Code → Pending → Does (Unit {0})

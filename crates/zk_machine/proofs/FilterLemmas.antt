@@ -2,15 +2,13 @@
 use Rattle.std.proofs.Common.{◌≡◌, ℕ, zero, suc, Bool, true, false, List, [], ◌∷◌, ◌+◌, drop, Option, Some, None, refl, sym, ◌∙◌}
 use Rattle.zk_base.specs.declared.numbers.HookNo.{HookNo}
 use Rattle.zk_tree.specs.declared.place.Place.{Place}
-use Rattle.zk_tree.specs.Store as object
-use Rattle.zk_tree.specs.Value as plain
 use Rattle.zk_tree.specs.Value.{Value}
-use Rattle.zk_typed.specs.Does.{Ran, Gives, and_then, tick, new_object}
+use Rattle.zk_typed.specs.Does.{Ran, Gives, and_then, tick}
 use Rattle.zk_typed.specs.Log.{Filter}
-use Rattle.zk_typed.specs.Logs.{path_of, policy_of, still_there}
+use Rattle.zk_typed.specs.Logs.{described, policy_of, still_there}
 use Rattle.zk_typed.specs.Predefined.{filter_record}
 use Rattle.zk_typed.specs.State.{State}
-use Rattle.zk_lower.specs.Code.{BodyCode, Code}
+use Rattle.zk_lower.specs.Code.{BodyCode, Code, types_in}
 use Rattle.zk_lower.specs.Steps as steps
 use Rattle.zk_value.specs.Plain.{value_of}
 use Rattle.zk_machine.specs.Onwards.{one_body, one_call, one_filter, one_policy, policy_values, waiting_for}
@@ -46,10 +44,10 @@ module _ (code : Code) (left : ℕ) (place : Place) (write : Write) (one : Filte
       → steps.by_policy code left place (waiting_for write one) rest policy state ≡ and_then (one_policy code left place write one policy state) onward
   policy_step None state = refl
   policy_step (Some policy) state =
-      let made = new_object (object.Record filter_record (Some (plain.String one.name) ∷ Some (plain.String (path_of (stream_in write) one)) ∷ [])) state in
-      then_alike made _ _ (λ described now.
-      then_alike (tick place now) _ _ (λ u now. depth_step left (policy_values code write described) (steps.hook_in code policy) now)
-      ∙ sym (then_assoc (tick place now) (λ u now. steps.at_depth left place (one_body code place write one (policy_values code write described) (steps.hook_in code policy)) now) onward))
+      let made = described (types_in code) filter_record place (stream_in write) one state in
+      then_alike made _ _ (λ told now.
+      then_alike (tick place now) _ _ (λ u now. depth_step left (policy_values code write told) (steps.hook_in code policy) now)
+      ∙ sym (then_assoc (tick place now) (λ u now. steps.at_depth left place (one_body code place write one (policy_values code write told) (steps.hook_in code policy)) now) onward))
       ∙ sym (then_assoc made (one_call code left place write one policy) onward)
 
   there_step : (there : Bool) (state : State)

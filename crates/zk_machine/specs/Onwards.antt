@@ -8,12 +8,11 @@ use Rattle.zk_lower.specs.Frames.{Pending}
 use Rattle.zk_lower.specs.Steps as steps
 use Rattle.zk_lower.specs.View.{body_of}
 use Rattle.zk_tree.specs.declared.place.Place.{Place}
-use Rattle.zk_tree.specs.Store as object
 use Rattle.zk_tree.specs.Value as plain
 use Rattle.zk_tree.specs.Value.{Value}
-use Rattle.zk_typed.specs.Does.{Does, ◌>>=◌, ◌>>◌, pure, new_object, read, tick}
+use Rattle.zk_typed.specs.Does.{Does, ◌>>=◌, ◌>>◌, pure, read, tick}
 use Rattle.zk_typed.specs.Log.{Filter}
-use Rattle.zk_typed.specs.Logs.{log_word, path_of, policy_of, still_there, stream_of, write_row}
+use Rattle.zk_typed.specs.Logs.{described, log_word, policy_of, still_there, stream_of, write_row}
 use Rattle.zk_typed.specs.Predefined.{filter_record}
 use Rattle.zk_typed.specs.State.{State}
 use Rattle.zk_value.specs.Plain.{value_of, key_of}
@@ -50,17 +49,16 @@ one_body code place write one args (body ∷ others) = tick place >> pure (Some 
 
 -- what a policy is given
 abbrev pub policy_values : Code → Write → Value → List Value
-policy_values code write described = value_of write.row ∷ plain.Enum (log_word (types_in code) write.log) ∷ described ∷ []
+policy_values code write told = value_of write.row ∷ plain.Enum (log_word (types_in code) write.log) ∷ told ∷ []
 
 abbrev pub one_call : Code → ℕ → Place → Write → Filter → HookNo → Value → Does (Option steps.Onward)
-one_call code left place write one policy described =
-    tick place >> steps.at_depth left place (one_body code place write one (policy_values code write described) (steps.hook_in code policy))
+one_call code left place write one policy told =
+    tick place >> steps.at_depth left place (one_body code place write one (policy_values code write told) (steps.hook_in code policy))
 
 abbrev pub one_policy : Code → ℕ → Place → Write → Filter → Option HookNo → Does (Option steps.Onward)
 one_policy code left place write one None = row_then code write one
 one_policy code left place write one (Some policy) =
-    new_object (object.Record filter_record (Some (plain.String one.name) ∷ Some (plain.String (path_of (stream_in write) one)) ∷ []))
-    >>= one_call code left place write one policy
+    described (types_in code) filter_record place (stream_in write) one >>= one_call code left place write one policy
 
 abbrev pub one_filter : Code → ℕ → Place → Write → Filter → Does (Option steps.Onward)
 one_filter code left place write one = do

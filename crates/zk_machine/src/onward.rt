@@ -5,8 +5,9 @@ ghost use Rattle.zk_lower.specs.View.{body_of, code_of};
 ghost use Rattle.zk_tree.specs.declared.place.Place.{Place as At};
 ghost use Rattle.zk_typed.specs.Does as does;
 ghost use Rattle.zk_typed.specs.Logs as logs;
+ghost use Rattle.zk_typed.specs.Predefined.{filter_record};
 ghost use Rattle.zk_tree.specs.Value as plain;
-ghost use Rattle.zk_value.specs.Plain.{value_of, key_of, field_of};
+ghost use Rattle.zk_value.specs.Plain.{value_of, key_of};
 ghost use Rattle.zk_machine.specs.Comes.{Comes};
 ghost use Rattle.zk_machine.specs.Onwards.{Begins, begins_of, filters_from, one_body, one_call, one_filter, one_policy, onward_of, policy_values, row_then};
 ghost use Rattle.zk_machine.specs.Running.{pending_of, stream_in, waits_of};
@@ -15,6 +16,7 @@ ghost use Rattle.zk_machine.specs.State.{state_of};
 use crate::frames::Write;
 use crate::halt::Halt;
 use crate::hooks::hook_bodies;
+use crate::make::fields_in;
 use crate::queued::Queued;
 use crate::state::State;
 use crate::streams::stream_copy;
@@ -25,8 +27,9 @@ use zk_streams::Filter;
 use zk_typed::FaultKind;
 use zk_value::{SharedBytes, Value};
 
-/// The record type of what a policy is told of its filter.
+/// `Log::Filter`, the record type of what a policy is told of its filter, and the numbers of its name and its path.
 const FILTER_RECORD: RecordNo = RecordNo(7);
+const NAME_AND_PATH: [u32; 2] = [0, 1];
 
 /// What is left of a hook or of a write: its value, or a body that runs first.
 #[derive(Debug, Drop)]
@@ -77,27 +80,27 @@ fn log_word(code: &Code, log: LogId) -> &[u8]
     }
 }
 
-/// The name and the path of a filter, as the fields of a record.
-fn filter_fields(alloc: Global, write: &Write, filter: &Filter) -> Result<Vec<Option<Value>>, Mem>
-    ensures { IfOk result (λ fields. map field_of fields.items ≡ Some (plain.String filter.now.name) ∷ Some (plain.String (logs.path_of (stream_in write.now) filter.now)) ∷ []) }
+/// The name and the path of a filter.
+fn name_and_path(alloc: Global, write: &Write, filter: &Filter) -> Result<Vec<Value>, Mem>
+    ensures { IfOk result (λ values. key_of values.items ≡ plain.String filter.now.name ∷ plain.String (logs.path_of (stream_in write.now) filter.now) ∷ []) }
 {
     let name = SharedBytes::copy_of(alloc, filter.name.as_slice())?;
     let path = SharedBytes::copy_of(alloc, path_of(write, filter))?;
-    Ok(vec![in alloc; Some(Value::String(name)), Some(Value::String(path))]?)
+    Ok(vec![in alloc; Value::String(name), Value::String(path)]?)
 }
 
-/// The arguments of a policy: the row, the word of the log, and what describes the filter.
+/// The arguments of a policy: the row, the word of the log, and what is told of the filter.
 fn policy_args(
     alloc: Global,
     code: &Code,
     write: &Write,
-    described: Value,
+    told: Value,
 ) -> Result<Vec<Value>, Mem>
-    ensures { IfOk result (λ args. key_of args.items ≡ policy_values (code_of code.now) write.now (value_of described)) }
+    ensures { IfOk result (λ args. key_of args.items ≡ policy_values (code_of code.now) write.now (value_of told)) }
 {
     let word = SharedBytes::copy_of(alloc, log_word(code, write.log))?;
     let row = write.row.clone()?;
-    Ok(vec![in alloc; row, Value::Enum(word), described]?)
+    Ok(vec![in alloc; row, Value::Enum(word), told]?)
 }
 
 impl State {
@@ -214,7 +217,22 @@ impl State {
         }
     }
 
-    /// Asks the policy of a filter, with a record of the filter's name and path.
+    /// What a policy is told of a filter: its name and its path in a new record, in which the fields that
+    /// scripts added begin as in a constructor.
+    fn described(
+        &mut self,
+        code: &Code,
+        write: &Write,
+        filter: &Filter,
+    ) -> Result<Value, Halt>
+        ensures { (place : At) → Comes value_of place result (logs.described (types_in (code_of code.now)) filter_record place (stream_in write.now) filter.now (state_of self.old)) (state_of self.new) }
+    {
+        let values = name_and_path(self.world.alloc, write, filter)?;
+        let fields = fields_in(code, FILTER_RECORD);
+        self.new_record(FILTER_RECORD, fields, &NAME_AND_PATH, values.as_slice())
+    }
+
+    /// Asks the policy of a filter, with what it is told of the filter.
     fn ask(
         &mut self,
         code: &Code,
@@ -225,9 +243,8 @@ impl State {
     ) -> Result<Option<Asked>, Halt>
         ensures { (place : At) → Comes (begins_of write.now filter.now) place result (one_policy (code_of code.now) left place write.now filter.now (Some policy) (state_of self.old)) (state_of self.new) }
     {
-        let fields = filter_fields(self.world.alloc, write, filter)?;
-        let number = self.world.heap.add_record(FILTER_RECORD, fields)?;
-        self.ask_with(code, left, write, filter, policy, Value::Object(number))
+        let told = self.described(code, write, filter)?;
+        self.ask_with(code, left, write, filter, policy, told)
     }
 
     /// Asks the policy of a filter, which costs a unit.
@@ -238,11 +255,11 @@ impl State {
         write: &Write,
         filter: &Filter,
         policy: HookNo,
-        described: Value,
+        told: Value,
     ) -> Result<Option<Asked>, Halt>
-        ensures { (place : At) → Comes (begins_of write.now filter.now) place result (one_call (code_of code.now) left place write.now filter.now policy (value_of described) (state_of self.old)) (state_of self.new) }
+        ensures { (place : At) → Comes (begins_of write.now filter.now) place result (one_call (code_of code.now) left place write.now filter.now policy (value_of told) (state_of self.old)) (state_of self.new) }
     {
-        let args = policy_args(self.world.alloc, code, write, described)?;
+        let args = policy_args(self.world.alloc, code, write, told)?;
         self.tick()?;
         if left == 0 {
             return Err(Halt::Fault(FaultKind::Depth));

@@ -59,8 +59,9 @@ module _ {setting : Setting} (copied : Value → Does Value) (copies : Copies se
   field_keeps {kinds = kinds} of (Some one) h = keeps_bind (copies kinds of one h) (λ later grows new is. keeps_pure (Some new) is)
 
   fields_keep : {kinds : Kinds} (types : List ValueType) (ones : List (Option Value)) → FieldsFit kinds types ones → Keeps setting (λ later news. FieldsFit later types news) kinds (objects.fields_copied copied ones)
-  fields_keep types [] fits = keeps_pure [] tt
+  fields_keep [] [] fits = keeps_pure [] tt
   fields_keep [] (one ∷ ones) fits = absurd fits
+  fields_keep (of ∷ types) [] fits = absurd fits
   fields_keep (of ∷ types) (one ∷ ones) (first, others) = keeps_bind (field_keeps of one first) (λ later grows new is.
       keeps_bind (fields_keep types ones (fields_later grows types ones others)) (λ last more news all. keeps_pure (new ∷ news) (may_later more of new is, all)))
 

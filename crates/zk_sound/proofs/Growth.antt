@@ -74,8 +74,9 @@ module _ {kinds later : Kinds} (grows : Grows kinds later) where
   have_later (of ∷ types) (one ∷ ones) (first, others) = (has_later of one first, have_later types ones others)
 
   pub fields_later : (types : List ValueType) (ones : List (Option Value)) → FieldsFit kinds types ones → FieldsFit later types ones
-  fields_later types [] h = tt
+  fields_later [] [] h = tt
   fields_later [] (one ∷ ones) h = absurd h
+  fields_later (of ∷ types) [] h = absurd h
   fields_later (of ∷ types) (one ∷ ones) (first, others) = (may_later of one first, fields_later types ones others)
 
   pub all_have_later : (of : ValueType) (ones : List Value) → AllByRecursion (HasType kinds of) ones → AllByRecursion (HasType later of) ones

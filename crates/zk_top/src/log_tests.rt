@@ -7,7 +7,7 @@ use zk_base::{Ending, MemShelf, SureShelf};
 const RUN: &[u8] = b"run -b -r c.pcap s.zeek";
 
 /// A script, the name of a file, and what the file holds in the end, if it is there.
-const LOGS: [(&[u8], &[u8], Option<&[u8]>); 4] = [
+const LOGS: [(&[u8], &[u8], Option<&[u8]>); 5] = [
     // A log is created at its first row and closed at the last network time (Zeek manual, Log Files).
     (
         b"module Top; export { redef enum Log::ID += { LOG }; type Info: record { ts: time &log; who: string &log; \
@@ -50,6 +50,21 @@ const LOGS: [(&[u8], &[u8], Option<&[u8]>); 4] = [
         Some(
             b"#separator \\x09\n#set_separator\t,\n#empty_field\t(empty)\n#unset_field\t-\n#path\tp\n\
                #open\t1970-01-01-00-00-00\n#fields\tn\n#types\tcount\n1\n#close\t1970-01-01-00-00-25\n",
+        ),
+    ),
+    // Each write tells its policy of the filter in a new record, in which a field that the script adds begins
+    // with its default; what one body gives to it the next body finds.
+    (
+        b"redef enum Log::ID += { L }; type R: record { n: count &log; m: count &log; }; \
+          redef record Log::Filter += { k: count &default=7; }; \
+          hook p(r: R, id: Log::ID, f: Log::Filter) { r$n = f$k; f$k = 8; } \
+          hook p(r: R, id: Log::ID, f: Log::Filter) { r$m = f$k; } \
+          event zeek_init() { Log::create_stream(L, [$columns=R, $path=\"p\", $policy=p]); \
+          Log::write(L, [$n=1, $m=1]); Log::write(L, [$n=1, $m=1]); }",
+        b"p.log",
+        Some(
+            b"#separator \\x09\n#set_separator\t,\n#empty_field\t(empty)\n#unset_field\t-\n#path\tp\n\
+               #open\t1970-01-01-00-00-00\n#fields\tn\tm\n#types\tcount\tcount\n7\t8\n7\t8\n#close\t1970-01-01-00-00-25\n",
         ),
     ),
 ];

@@ -662,3 +662,42 @@ a_count_is_added_to_no_value :
     (One (Plain (codes "0.000000")) ∷ One (Plain (codes "Reporter::ERROR")) ∷ One (Text (codes "Unset")) ∷ One (Text (codes "s.zeek, byte 0")) ∷ []) ∷ []
 unfolding count_added added_to_none file handler count_at attr name trees depth_max digits dispatches_max span_decimal
 a_count_is_added_to_no_value = refl
+
+-- What a policy is told of its filter --------------------------------------------------------------------------------
+
+-- redef enum Log::ID += { L }; type R: record { a: count &log; }; redef record Log::Filter += { n: count &default=7; };
+-- hook p(r: R, id: Log::ID, f: Log::Filter) { print f$name, f$n; f$n = 8; }
+-- hook p(r: R, id: Log::ID, f: Log::Filter) { print f$n; }
+-- event zeek_init() {
+--   Log::create_stream(L, [$columns=R, $path="x", $policy=p]); Log::write(L, R($a=1)); Log::write(L, R($a=1)); }
+policy : List Stmt → Decl
+policy list = decl.Body 0 body.Hook (name 0 (codes "p")) (param (codes "r") (codes "R") ∷ param (codes "id") (codes "Log::ID") ∷ param (codes "f") (codes "Log::Filter") ∷ []) []
+    (roll-Block (record { place = 0; stmts = list }))
+  where
+    param : List ℕ → List ℕ → Param
+    param text of = roll-Param (record { name = name 0 text; param_type = written.Named (name 0 of) })
+
+of_filter : List ℕ → Expr
+of_filter text = expr.Post (named (codes "f")) (part.Field (name 0 text) ∷ [])
+
+written_row : Stmt
+written_row = stmt.Expr (call (codes "Log::write") (item.Value (named (codes "L")) ∷ item.Value (call (codes "R") (given (codes "a") (expr.Number 0 1) ∷ [])) ∷ []))
+
+added_to_filters : List File
+added_to_filters = file (
+    decl.RedefEnum 0 (name 0 (codes "Log::ID")) (name 0 (codes "L") ∷ []) false ∷ one_field ∷
+    decl.RedefRecord 0 (name 0 (codes "Log::Filter")) (roll-Field (record { name = name 0 (codes "n"); field_type = count_at 0; attrs = attr 0 (codes "default") (Some (expr.Number 0 7)) ∷ [] }) ∷ []) ∷
+    policy (stmt.Print 0 (of_filter (codes "name") ∷ of_filter (codes "n") ∷ []) ∷ stmt.Expr (expr.Assign (of_filter (codes "n")) assigning.Set (expr.Number 0 8)) ∷ []) ∷
+    policy (stmt.Print 0 (of_filter (codes "n") ∷ []) ∷ []) ∷
+    handler (
+    stmt.Expr (call (codes "Log::create_stream") (item.Value (named (codes "L")) ∷ item.Value (expr.List 0 (given (codes "columns") (named (codes "R")) ∷ given (codes "path") (string 0 (codes "x")) ∷ given (codes "policy") (named (codes "p")) ∷ [])) ∷ [])) ∷
+    written_row ∷ written_row ∷ []) ∷ [])
+
+a_field_that_is_added_to_filters_breaks_no_rule : errors added_to_filters ≡ []
+unfolding added_to_filters written_row of_filter policy one_field logged attr call given named file handler count_at string name trees depth_max
+a_field_that_is_added_to_filters_breaks_no_rule = refl
+
+each_write_begins_it_anew_and_a_later_body_finds_what_was_given :
+    (world_in (run (typed_program added_to_filters) 1000 [] (record { 0 = pos 0 }))).lines ≡ codes "default, 7" ∷ codes "8" ∷ codes "default, 7" ∷ codes "8" ∷ []
+unfolding added_to_filters written_row of_filter policy one_field logged attr call given named file handler count_at string name trees depth_max digits dispatches_max
+each_write_begins_it_anew_and_a_later_body_finds_what_was_given = refl

@@ -7,15 +7,16 @@ use Rattle.zk_base.specs.declared.numbers.EventNo.{EventNo}
 use Rattle.zk_base.specs.declared.numbers.HookNo.{HookNo}
 use Rattle.zk_base.specs.declared.numbers.LogId.{LogId}
 use Rattle.zk_base.specs.declared.numbers.RecordNo.{RecordNo}
-use Rattle.zk_tree.specs.Store as object
+use Rattle.zk_tree.specs.declared.place.Place.{Place}
 use Rattle.zk_tree.specs.Value as plain
 use Rattle.zk_tree.specs.Value.{Value}
 use Rattle.zk_typed.specs.declared.script.log_call.LogCall.{LogCall}
 use Rattle.zk_typed.specs.declared.script.log_call.LogCall.TheVariants.{Create, AddFilter, RemoveFilter}
 use Rattle.zk_typed.specs.declared.script.program.Log.{Log}
-use Rattle.zk_typed.specs.Columns.{Leaf, leaves, value_at, value_cell}
-use Rattle.zk_typed.specs.Does.{Does, ◌>>=◌, ◌>>◌, pure, done, read, change, new_object}
+use Rattle.zk_typed.specs.Columns.{Leaf, leaves, record_fields, value_at, value_cell}
+use Rattle.zk_typed.specs.Does.{Does, ◌>>=◌, ◌>>◌, pure, done, read, change}
 use Rattle.zk_typed.specs.Log.{Stream, Filter}
+use Rattle.zk_typed.specs.Objects.{new_record}
 use Rattle.zk_typed.specs.Program.{Program}
 use Rattle.zk_typed.specs.State.{World, with_streams, with_row, queued_behind}
 use Rattle.zk_typed.specs.World.{queued}
@@ -136,16 +137,21 @@ abbrev pub unless_vetoed : Does (Unit {0}) → Bool → Does (Unit {0})
 unless_vetoed written true = written
 unless_vetoed written false = done
 
--- the policy is asked with the record, the word and a record of the filter's name and path
-abbrev pub ask : RecordNo → CallsHook → List ℕ → Stream → Filter → Value → HookNo → Does Bool
-ask filter_type hook word stream one row policy = do
-  described ← new_object (object.Record filter_type (Some (plain.String one.name) ∷ Some (plain.String (path_of stream one)) ∷ []))
-  hook policy (row ∷ plain.Enum word ∷ described ∷ [])
+-- what a policy is told of a filter: `Log::Filter($name=.., $path=..)`, with what scripts added to that type
+abbrev pub described : Program → RecordNo → Place → Stream → Filter → Does Value
+described program filter_type place stream one =
+    new_record place filter_type (record_fields program filter_type) ((0, plain.String one.name) ∷ (1, plain.String (path_of stream one)) ∷ [])
 
-abbrev pub by_policy : Program → RecordNo → CallsHook → Stream → Filter → Value → Option HookNo → Does (Unit {0})
-by_policy program filter_type hook stream one row None = write_row program stream one row
-by_policy program filter_type hook stream one row (Some policy) =
-    ask filter_type hook (log_word program stream.id) stream one row policy >>= unless_vetoed (write_row program stream one row)
+-- the policy is asked with the record, the word and what it is told of the filter
+abbrev pub ask : Program → RecordNo → Place → CallsHook → Stream → Filter → Value → HookNo → Does Bool
+ask program filter_type place hook stream one row policy = do
+  told ← described program filter_type place stream one
+  hook policy (row ∷ plain.Enum (log_word program stream.id) ∷ told ∷ [])
+
+abbrev pub by_policy : Program → RecordNo → Place → CallsHook → Stream → Filter → Value → Option HookNo → Does (Unit {0})
+by_policy program filter_type place hook stream one row None = write_row program stream one row
+by_policy program filter_type place hook stream one row (Some policy) =
+    ask program filter_type place hook stream one row policy >>= unless_vetoed (write_row program stream one row)
 
 abbrev pub still_there : LogId → List ℕ → World → Bool
 still_there log name world = in_stream (stream_of log world.streams)
@@ -159,25 +165,25 @@ if_there true written = written
 if_there false written = done
 
 -- Each filter as it was at the write, in the order of adding; one whose name the stream no longer has is passed over.
-abbrev pub by_filters : Program → RecordNo → CallsHook → Stream → Value → List Filter → Does (Unit {0})
-by_filters program filter_type hook stream row [] = done
-by_filters program filter_type hook stream row (one ∷ others) = do
+abbrev pub by_filters : Program → RecordNo → Place → CallsHook → Stream → Value → List Filter → Does (Unit {0})
+by_filters program filter_type place hook stream row [] = done
+by_filters program filter_type place hook stream row (one ∷ others) = do
   there ← read (still_there stream.id one.name)
-  if_there there (by_policy program filter_type hook stream one row (policy_of stream one))
-  by_filters program filter_type hook stream row others
+  if_there there (by_policy program filter_type place hook stream one row (policy_of stream one))
+  by_filters program filter_type place hook stream row others
 
 abbrev pub queue_row : Option EventNo → Value → Does (Unit {0})
 queue_row None row = done
 queue_row (Some event) row = change (queued_behind (queued event (row ∷ []) ∷ []))
 
 -- the stream's event is queued, and then the filters run
-abbrev pub to_stream : Program → RecordNo → CallsHook → Value → Option Stream → Does Value
-to_stream program filter_type hook row None = truth false
-to_stream program filter_type hook row (Some stream) = do
+abbrev pub to_stream : Program → RecordNo → Place → CallsHook → Value → Option Stream → Does Value
+to_stream program filter_type place hook row None = truth false
+to_stream program filter_type place hook row (Some stream) = do
   queue_row stream.event row
-  by_filters program filter_type hook stream row stream.filters
+  by_filters program filter_type place hook stream row stream.filters
   truth true
 
--- `Log::write(ID, r)`
-abbrev pub write_log : Program → RecordNo → CallsHook → LogId → Value → Does Value
-write_log program filter_type hook log row = read (λ world. stream_of log world.streams) >>= to_stream program filter_type hook row
+-- `Log::write(ID, r)` in the statement at a place
+abbrev pub write_log : Program → RecordNo → Place → CallsHook → LogId → Value → Does Value
+write_log program filter_type place hook log row = read (λ world. stream_of log world.streams) >>= to_stream program filter_type place hook row

@@ -61,7 +61,7 @@ abbrev mutual
   value program calls place (form.Write log row) = do
     one ← value program calls place row
     tick place
-    write_log program filter_record (λ hook args. calls.hook hook args place) log one
+    write_log program filter_record place (λ hook args. calls.hook hook args place) log one
 
   -- from left to right
   pub values : Program → Calls → Place → Exprs → Does (List Value)

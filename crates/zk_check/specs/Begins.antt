@@ -1,10 +1,11 @@
 -- What a `local` begins with.
-use Rattle.std.specs.Prelude.{◌≡◌, ℕ, not, is_some, Option, Some, None, Result, Ok, Err}
+use Rattle.std.specs.Prelude.{◌≡◌, ℕ, Bool, true, false, not, is_some, Option, Some, None, Result, Ok, Err}
 use Rattle.std.specs.Option.{option_map}
 use Rattle.zk_expression.specs.Envs.{known_or}
 use Rattle.zk_operator.specs.Gather.{Told}
 use Rattle.zk_tree.specs.declared.name.Name.{Name}
 use Rattle.zk_tree.specs.declared.place.Place.{Place}
+use Rattle.zk_tree.specs.declared.stmt.Init.{Init}
 use Rattle.zk_tree.specs.declared.types.Type.{«Type»}
 use Rattle.zk_typed.specs.declared.rule.Rule.TheVariants as rule
 use Rattle.zk_typed.specs.declared.refusal.Refusal.{Refusal}
@@ -35,9 +36,15 @@ declared_type context locals tree = each (seen context locals) (mentions tree) >
 abbrev pub once : Name → Locals → Place → Checked (Unit {0})
 once name locals place = require (not (is_some (local_named name.text 0 locals))) rule.Twice place
 
--- a declaration with what is said of its name
-abbrev pub named : Checked (Unit {0}) → Checked form.Stmt → Checked form.Stmt
-named name made = both name made >>= (λ parts. Ok parts.1)
+-- a declaration with what is said of its name: beside it where it is bare, and else once its parts are right
+abbrev pub named : Bool → Checked (Unit {0}) → Checked form.Stmt → Checked form.Stmt
+named true name made = both name made >>= (λ parts. Ok parts.1)
+named false name made = made >>= (λ one. name >> Ok one)
+
+-- a declaration with neither a type nor a value
+abbrev pub is_bare : Option «Type» → Option Init → Bool
+is_bare None None = true
+is_bare tree init = false
 
 abbrev pub stmt_behind : Checked (ValueType × form.Stmt) → Checked form.Stmt
 stmt_behind given = given >>= (λ one. Ok one.1)

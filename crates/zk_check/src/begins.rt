@@ -16,7 +16,7 @@ ghost use Rattle.zk_typed.specs.Typing as typing;
 ghost use Rattle.zk_typed.specs.declared.script.action.Action.TheVariants as action;
 ghost use Rattle.zk_typed.specs.declared.script.action.Left.TheVariants as left;
 ghost use Rattle.zk_typed.specs.View.{expr_of, stmt_of, type_of};
-ghost use Rattle.zk_check.specs.Begins.{Begins, IsKnown, declared_type, given_of, named, once, seen};
+ghost use Rattle.zk_check.specs.Begins.{Begins, IsKnown, declared_type, given_of, is_bare, named, once, seen};
 ghost use Rattle.zk_check.specs.Bodies.{Gives, context_of};
 ghost use Rattle.zk_check.specs.Turns.{names_lent};
 
@@ -322,19 +322,46 @@ fn once(
     }
 }
 
-/// A declaration with what is said of its name.
-fn named(once: Result<(), Refusal>, made: Result<Stmt, Refusal>) -> Result<Stmt, Refusal>
-    ensures made { (name : Checked (Unit {0})) (wanted : Checked form.Stmt) → Tells (λ done. done) once name → Tells stmt_of made wanted → Tells stmt_of result (named name wanted) }
-    ensures known { Told result → Told once × Told made }
+/// A declaration with what is said of its name: beside it where it is bare, and else once its parts are right.
+#[tactic(auto, using(zk_operator::proofs::BothLaws::passed))]
+fn named(
+    bare: bool,
+    once: Result<(), Refusal>,
+    made: Result<Stmt, Refusal>,
+) -> Result<Stmt, Refusal>
+    ensures made { (name : Checked (Unit {0})) (wanted : Checked form.Stmt) → Tells (λ done. done) once name → Tells stmt_of made wanted → Tells stmt_of result (named bare name wanted) }
+    ensures known { Told result → Told made }
 {
-    match both(once, made) {
-        Ok((_, made)) => Ok(made),
+    if bare {
+        return match both(once, made) {
+            Ok((_, made)) => Ok(made),
+            Err(refusal) => Err(refusal),
+        };
+    }
+    match made {
+        Ok(made) => match once {
+            Ok(()) => Ok(made),
+            Err(refusal) => Err(refusal),
+        },
         Err(refusal) => Err(refusal),
     }
 }
 
+/// Whether a declaration has neither a type nor a value.
+fn is_bare(tree: &Option<Type>, init: &Option<Init>) -> bool
+    ensures { result ≡ is_bare tree.now init.now }
+{
+    match tree {
+        Some(_) => false,
+        None => match init {
+            Some(_) => false,
+            None => true,
+        },
+    }
+}
+
 /// `local`, whose name is visible from its end on.
-#[tactic(auto, using(crate::proofs::BegunLaws::named_behind))]
+#[tactic(auto, using(crate::proofs::BegunLaws::named_whole))]
 pub fn local_stmt<'a>(
     context: &Context<'a, '_>,
     locals: &mut Vec<LocalName<'a>>,
@@ -348,7 +375,7 @@ pub fn local_stmt<'a>(
     let place = place_of(context, place);
     let Begun { value_type, made } = local_begun(context, locals.as_slice(), place, tree, init);
     let once = once(context.alloc, locals.as_slice(), place, name);
-    let made = named(once, made);
+    let made = named(is_bare(tree, init), once, made);
     let name = name.text.as_slice();
     match locals.push(LocalName { name, value_type }) {
         Ok(()) => made,

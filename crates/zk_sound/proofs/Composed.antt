@@ -26,7 +26,7 @@ use Rattle.zk_typed.specs.Operations.{same_type}
 use Rattle.zk_typed.specs.Predefined as type
 use Rattle.zk_typed.specs.Program.{Program}
 use Rattle.zk_typed.specs.Resolving.{hushed}
-use Rattle.zk_typed.specs.Statements.{Context, Locals, env_of, Stated, looping, check_in, place_of, init_typed, local_begin, local_value, local_type, type_for, local_stated, event_args, do_with, breaks, Judge, stmts_typed, block_typed, no_stmt, if_typed, while_typed, key_names, for_name, for_names, for_over, wanted_names, types_or_unknown, as_names, is_vector, for_typed, stmt_to, body_typed}
+use Rattle.zk_typed.specs.Statements.{Context, Locals, env_of, Stated, looping, check_in, place_of, init_typed, local_begin, local_value, local_type, type_for, local_whole, local_stated, event_args, do_with, breaks, Judge, stmts_typed, block_typed, no_stmt, if_typed, while_typed, key_names, for_name, for_names, for_over, wanted_names, types_or_unknown, as_names, is_vector, for_typed, stmt_to, body_typed}
 use Rattle.zk_typed.specs.Types.{ValueType, Simple, Record, Table, Set, Vector}
 use Rattle.zk_typed.specs.Typing.{Typed, typed, Env, LocalName, at, exprs, expr_place, Wanted, Nothing, Wants, wanted_of, local_named, found}
 use Rattle.zk_typed.specs.Within.{depth_max}
@@ -101,6 +101,13 @@ module _ (program : Program) (names : Names) (gives : Option ValueType) (context
   local_value_sound locals agree place None (Some one) known = made_none program names gives place (length locals) (init_typed (env_of context locals) Nothing one) (init_sound locals agree Nothing one) known
   local_value_sound locals agree place (Some t) (Some one) known = made_some program names gives place (length locals) t (init_typed (env_of context locals) (wanted_of t) one) (init_sound locals agree (wanted_of t) one) known
 
+  -- the rules of a `local` itself say nothing of its form
+  whole_sound : (tree : Option «Type») (one : Option Init) (twice : Checked (Unit {0})) (made : Checked (ValueType × form.Stmt)) → Sound (Second program names gives) made → Sound (StmtForm program names gives) (local_whole tree one twice made)
+  whole_sound None None twice made h = sound_bind (λ parts. Unit {0} × Second program names gives parts.1) (StmtForm program names gives) (both twice made) _
+      (sound_both (λ done. Unit {0}) (Second program names gives) twice made (sound_any twice) h) (λ parts k. k.1)
+  whole_sound None (Some init) twice made h = sound_bind (Second program names gives) (StmtForm program names gives) made _ h (λ pair k. sound_after (StmtForm program names gives) twice (Ok pair.1) k)
+  whole_sound (Some tree) one twice made h = sound_bind (Second program names gives) (StmtForm program names gives) made _ h (λ pair k. sound_after (StmtForm program names gives) twice (Ok pair.1) k)
+
   -- a statement, where what is visible behind it has these types
   abbrev Well : Locals → Stated → Type 0
   Well locals one = LocalsAgree names one.locals → LocalsAgree names locals × Sound (StmtForm program names gives) one.made
@@ -113,10 +120,8 @@ module _ (program : Program) (names : Names) (gives : Option ValueType) (context
       let new : LocalName = record { name = name.text; type = type_for written made } in
       let before = fewer program names gives locals (new ∷ []) agree in (
         before,
-        sound_bind (λ parts. Unit {0} × Second program names gives parts.1) (StmtForm program names gives) (both twice made) _
-            (sound_both (λ done. Unit {0}) (Second program names gives) twice made (sound_any twice)
-            (local_value_sound locals before (place_of context place) written one (λ of is. agree.of (length locals) new of (got_last locals new) is)))
-            (λ parts h. h.1),
+        whole_sound tree one twice made
+            (local_value_sound locals before (place_of context place) written one (λ of is. agree.of (length locals) new of (got_last locals new) is)),
       )
 
   -- The names of a `for` -----------------------------------------------------------------------------------------------

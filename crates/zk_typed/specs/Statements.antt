@@ -292,12 +292,17 @@ type_for (Some type) made = hushed type
 type_for None (Ok made) = Ok made.0
 type_for None (Err rules) = elsewhere
 
+-- The rules of the statement itself, once its parts are right. One without a type and a value has no part, and breaks a rule.
+abbrev pub local_whole : Option «Type» → Option Init → Checked (Unit {0}) → Checked (ValueType × form.Stmt) → Checked form.Stmt
+local_whole None None twice made = both twice made >>= (λ parts. Ok parts.1.1)
+local_whole tree init twice made = made >>= (λ one. twice >> Ok one.1)
+
 abbrev pub local_stated : Context → Locals → ℕ → Name → Option «Type» → Option Init → Stated
 local_stated context locals place name tree init =
     let type = local_type context locals tree in
     let made = local_value context locals (place_of context place) type init in
     let twice = require (not (is_some (local_named name.text 0 locals))) rule.Twice (place_of context place) in
-    stated (both twice made >>= (λ parts. Ok parts.1.1)) (locals ++ record { name = name.text; type = type_for type made } ∷ [])
+    stated (local_whole tree init twice made) (locals ++ record { name = name.text; type = type_for type made } ∷ [])
 
 abbrev pub return_typed : Context → Check → Place → Option Expr → Checked form.Stmt
 return_typed context check place value = of_both context.within value

@@ -440,6 +440,14 @@ a_local_twice_without_a_value :
 unfolding file handler told name trees depth_max
 a_local_twice_without_a_value = refl
 
+-- event zeek_init() { local x = 1; local x = y; }
+a_broken_value_hides_a_local_twice :
+    errors (file (handler (
+    stmt.Local 20 (name 26 (codes "x")) None (Some (init.Value (expr.Number 30 1))) ∷
+    stmt.Local 33 (name 39 (codes "x")) None (Some (init.Value (expr.Name (name 43 (codes "y"))))) ∷ []) ∷ [])) ≡ told rule.Unknown 43
+unfolding file handler told name trees depth_max
+a_broken_value_hides_a_local_twice = refl
+
 -- global t: table[count, count] of count; event zeek_init() { print t["a"]; }
 a_wrong_key_hides_how_many_there_are :
     errors (file (

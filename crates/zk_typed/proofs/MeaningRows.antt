@@ -258,7 +258,7 @@ scheduling = script [] [] []
     at_the_end (tell_time 60 ∷ []) ∷ [])
 
 a_scheduled_event_has_its_due_as_network_time : (world_in (run scheduling 1000 (item ∷ []) (moment 25000000))).lines ≡ codes "5.000000" ∷ codes "25.000000" ∷ []
-unfolding scheduling at_the_end tell_time item seconds script handler print apply block stmts exprs moment at digits dispatches_max span_decimal
+unfolding scheduling at_the_end tell_time item seconds script handler print apply block stmts exprs moment at digits dispatches_max span_decimal moment_after
 a_scheduled_event_has_its_due_as_network_time = refl
 
 -- event zeek_init() { print "a"; } event zeek_done() { print "b"; }

@@ -1,5 +1,5 @@
 -- What the rules of names and types give for small scripts, computed by the checker.
-use Rattle.std.proofs.Common.{◌≡◌, ℕ, zero, suc, ◌+◌, List, [], ◌∷◌, ◌++◌, codes, pos, refl, Option, Some, None, true, false, map}
+use Rattle.std.proofs.Common.{◌≡◌, ℕ, ◌+◌, List, [], ◌∷◌, ◌++◌, codes, pos, refl, Option, Some, None, Ok, true, false, map}
 use Rattle.zk_tree.specs.declared.decl.BodyKind.TheVariants as body
 use Rattle.zk_tree.specs.declared.decl.Decl.{Decl}
 use Rattle.zk_tree.specs.declared.decl.Decl.TheVariants as decl
@@ -23,16 +23,20 @@ use Rattle.zk_tree.specs.Table.{entry_at}
 use Rattle.zk_text.specs.Span.{span_decimal}
 use Rattle.zk_typed.specs.declared.rule.Rule.{Rule}
 use Rattle.zk_typed.specs.declared.rule.Rule.TheVariants as rule
+use Rattle.zk_typed.specs.declared.script.types.SimpleType.TheVariants as simple
 use Rattle.std.specs.Fmt.{digits}
 use Rattle.zk_typed.specs.Blind.{is_blind}
 use Rattle.zk_typed.specs.Checked.{Broken}
+use Rattle.zk_typed.specs.Declaring.{scripts_of}
 use Rattle.zk_typed.specs.Errors.{errors}
 use Rattle.zk_typed.specs.Within.{depth_max}
 use Rattle.zk_tree.specs.declared.name.Name.{Name}
 use Rattle.zk_tree.specs.declared.operator.Assigning.TheVariants as assigning
 use Rattle.zk_typed.specs.LoadOrder.{File, load_order}
 use Rattle.zk_typed.specs.Programs.{typed_program}
+use Rattle.zk_typed.specs.Resolving.{type_to}
 use Rattle.zk_typed.specs.Running.{run, world_in, dispatches_max}
+use Rattle.zk_typed.specs.Types.{Simple}
 use Rattle.zk_tree.specs.declared.expr.Item.{Item}
 use Rattle.zk_tree.specs.declared.expr.Item.TheVariants as item
 use Rattle.zk_tree.specs.declared.operator.Comparing.TheVariants as comparing
@@ -398,17 +402,17 @@ a_function_declares_its_name_before_a_handler :
 unfolding file told name trees depth_max
 a_function_declares_its_name_before_a_handler = refl
 
--- type N0: count; type N1: N0; and so on, so many of them; the text of each stands at byte 0
-names_of_names : ℕ → List Decl
-names_of_names zero = decl.Type 0 (name 0 (codes "N")) (count_at 0) ∷ []
-names_of_names (suc more) = decl.Type 0 (name 0 (digits more ++ codes "N")) (written.Named (name 0 (before more))) ∷ names_of_names more
-  where
-    before : ℕ → List ℕ
-    before zero = codes "N"
-    before (suc fewer) = digits fewer ++ codes "N"
+-- type N: count; type M: N; type L: M;
+names_of_names : List File
+names_of_names = file (
+    decl.Type 5 (name 5 (codes "N")) (count_at 8) ∷
+    decl.Type 20 (name 20 (codes "M")) (written.Named (name 23 (codes "N"))) ∷
+    decl.Type 31 (name 31 (codes "L")) (written.Named (name 34 (codes "M"))) ∷ [])
 
-a_name_is_no_level_of_a_type : errors (file (names_of_names 205)) ≡ []
-unfolding names_of_names file name count_at trees depth_max digits
+-- it has its type within one level
+a_name_is_no_level_of_a_type :
+    type_to 1 (scripts_of names_of_names) (record { file = 0; module_name = []; exported = false }) (written.Named (name 45 (codes "L"))) ≡ Ok (Simple simple.Count)
+unfolding names_of_names file name count_at trees depth_max
 a_name_is_no_level_of_a_type = refl
 
 -- Broken parts ------------------------------------------------------------------------------------------------------

@@ -126,11 +126,11 @@ next_text scripts home tree = of_form (out-Type tree)
 -- a text, with the names followed that stand for others, by way of so many at most
 abbrev pub followed_to : ℕ → Scripts → Home → «Type» → Option (Home × «Type»)
 followed_to zero scripts home tree = None
-followed_to (suc most) scripts home tree = of_next (next_text scripts home tree)
+followed_to (suc most) scripts home tree = of_next (followed_to most scripts) (next_text scripts home tree)
   where
-    of_next : Option (Home × «Type») → Option (Home × «Type»)
-    of_next None = Some (home, tree)
-    of_next (Some next) = followed_to most scripts next.0 next.1
+    of_next : (Home → «Type» → Option (Home × «Type»)) → Option (Home × «Type») → Option (Home × «Type»)
+    of_next follow None = Some (home, tree)
+    of_next follow (Some next) = follow next.0 next.1
 
 -- by way of as many as there are; there is none where names stand for each other
 abbrev pub followed : Scripts → Home → «Type» → Option (Home × «Type»)

@@ -1,5 +1,5 @@
 -- The names that scripts declare, and what a name means at a place (Zeek manual, Script Organization, modules).
-use Rattle.std.specs.Prelude.{ℕ, zero, suc, ◌+◌, ◌==◌, Bool, true, false, not, ◌&&◌, ◌||◌, List, [], ◌∷◌, ◌++◌, length, find, filter, map, flat_map, codes, nat_eq, Option, Some, None, is_some, if◌then◌else◌}
+use Rattle.std.specs.Prelude.{ℕ, suc, ◌+◌, ◌==◌, Bool, true, false, not, ◌&&◌, ◌||◌, List, [], ◌∷◌, ◌++◌, length, find, filter, map, flat_map, codes, nat_eq, Option, Some, None, is_some, if◌then◌else◌}
 use Rattle.std.specs.List.{starts_with}
 use Rattle.std.specs.Option.{option_map, unwrap_or}
 use Rattle.std.specs.Str.{bytes_eq}
@@ -8,7 +8,6 @@ use Rattle.zk_tree.specs.declared.decl.Decl.TheOpen.{Decl-F}
 use Rattle.zk_tree.specs.declared.decl.Decl.TheOpen as decl
 use Rattle.zk_tree.specs.declared.decl.Lasting.{Lasting}
 use Rattle.zk_tree.specs.declared.name.Name.{Name}
-use Rattle.zk_tree.specs.declared.stmt.Block.{Block}
 use Rattle.zk_tree.specs.declared.stmt.Init.{Init}
 use Rattle.zk_tree.specs.declared.types.Attr.{Attr}
 use Rattle.zk_tree.specs.declared.types.Field.{Field, out-Field}

@@ -1,5 +1,5 @@
 -- What the names in types stand for, and what each declaration declares.
-use Rattle.std.specs.Prelude.{ℕ, zero, suc, ◌-◌, ◌==◌, Bool, true, false, ◌||◌, List, [], ◌∷◌, ◌++◌, length, map, find, filter, flat_map, codes, Option, Some, None, Ok, Err, slice_get, if◌then◌else◌}
+use Rattle.std.specs.Prelude.{ℕ, zero, suc, ◌-◌, ◌==◌, Bool, true, false, ◌||◌, List, [], ◌++◌, length, map, find, filter, flat_map, codes, Option, Some, None, Ok, Err, slice_get, if◌then◌else◌}
 use Rattle.std.specs.List.{list_any}
 use Rattle.std.specs.Str.{bytes_eq}
 use Rattle.zk_tree.specs.declared.decl.Decl.{Decl, out-Decl}

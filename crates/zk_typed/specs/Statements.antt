@@ -32,7 +32,6 @@ use Rattle.zk_typed.specs.declared.script.primitive.FieldNo.{FieldNo}
 use Rattle.zk_typed.specs.declared.script.primitive.Primitive.TheVariants as primitive
 use Rattle.zk_typed.specs.declared.script.stmt.Names.{Names}
 use Rattle.zk_typed.specs.declared.script.types.SimpleType.{SimpleType}
-use Rattle.zk_typed.specs.declared.script.types.SimpleType.TheVariants as simple
 use Rattle.zk_typed.specs.Checked.{Checked, broken, elsewhere, ◌>>=◌, ◌>>◌, both, each, require}
 use Rattle.zk_typed.specs.Expressions.{Side, left_side, assignable, added_type, rest_of, expr_typed}
 use Rattle.zk_typed.specs.Forms as form

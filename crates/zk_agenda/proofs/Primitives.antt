@@ -25,7 +25,7 @@ use Rattle.zk_typed.specs.declared.script.stmt.Names.{Names}
 use Rattle.zk_typed.specs.Columns.{record_fields}
 use Rattle.zk_typed.specs.Does.{Does}
 use Rattle.zk_typed.specs.Log.{Stream, Filter}
-use Rattle.zk_typed.specs.Logs.{stream_of, create, add_filter, remove_filter, log_call, first_filter, described, write_row, queue_row}
+use Rattle.zk_typed.specs.Logs.{stream_of, create, add_filter, remove_filter, log_call, first_filter, path_of, described, write_row, queue_row}
 use Rattle.zk_typed.specs.Meaning.{set_keys, set_names}
 use Rattle.zk_typed.specs.Program.{Program}
 use Rattle.zk_typed.specs.Objects as objects
@@ -57,7 +57,8 @@ pub goes_write_row : (program : Program) (stream : Stream) (one : Filter) (row :
 goes_write_row program stream one row = record { by = λ state. alike _ _ refl refl refl refl }
 
 pub goes_described : (program : Program) (filter_type : RecordNo) (place : Place) (stream : Stream) (one : Filter) → Goes (described program filter_type place stream one)
-goes_described program filter_type place stream one = goes_new_record place filter_type (record_fields program filter_type) _
+goes_described program filter_type place stream one =
+    goes_new_record place filter_type (record_fields program filter_type) ((0, value.String one.name) ∷ (1, value.String (path_of stream one)) ∷ [])
 
 pub goes_queue_row : (event : Option EventNo) (row : Value) → Goes (queue_row event row)
 goes_queue_row None row = record { by = λ state. alike _ _ refl refl refl refl }

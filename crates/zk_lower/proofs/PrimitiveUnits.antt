@@ -87,7 +87,8 @@ keeps_write_row program stream one row = record {
 }
 
 pub keeps_described : (program : Program) (filter_type : RecordNo) (place : Place) (stream : Stream) (one : Filter) → Keeps (described program filter_type place stream one)
-keeps_described program filter_type place stream one = keeps_new_record place filter_type (record_fields program filter_type) _
+keeps_described program filter_type place stream one =
+    keeps_new_record place filter_type (record_fields program filter_type) ((0, value.String one.name) ∷ (1, value.String (path_of stream one)) ∷ [])
 
 pub keeps_queue_row : (event : Option EventNo) (row : Value) → Keeps (queue_row event row)
 keeps_queue_row None row = record { by = λ state. omega arith; moves = λ told state. refl }

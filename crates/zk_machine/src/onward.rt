@@ -27,8 +27,10 @@ use zk_streams::Filter;
 use zk_typed::FaultKind;
 use zk_value::{SharedBytes, Value};
 
-/// `Log::Filter`, the record type of what a policy is told of its filter, and the numbers of its name and its path.
+/// `Log::Filter`, the record type of what a policy is told of its filter.
 const FILTER_RECORD: RecordNo = RecordNo(7);
+
+/// The numbers of its fields for the name and the path.
 const NAME_AND_PATH: [u32; 2] = [0, 1];
 
 /// What is left of a hook or of a write: its value, or a body that runs first.
@@ -90,12 +92,7 @@ fn name_and_path(alloc: Global, write: &Write, filter: &Filter) -> Result<Vec<Va
 }
 
 /// The arguments of a policy: the row, the word of the log, and what is told of the filter.
-fn policy_args(
-    alloc: Global,
-    code: &Code,
-    write: &Write,
-    told: Value,
-) -> Result<Vec<Value>, Mem>
+fn policy_args(alloc: Global, code: &Code, write: &Write, told: Value) -> Result<Vec<Value>, Mem>
     ensures { IfOk result (λ args. key_of args.items ≡ policy_values (code_of code.now) write.now (value_of told)) }
 {
     let word = SharedBytes::copy_of(alloc, log_word(code, write.log))?;
@@ -219,12 +216,7 @@ impl State {
 
     /// What a policy is told of a filter: its name and its path in a new record, in which the fields that
     /// scripts added begin as in a constructor.
-    fn described(
-        &mut self,
-        code: &Code,
-        write: &Write,
-        filter: &Filter,
-    ) -> Result<Value, Halt>
+    fn described(&mut self, code: &Code, write: &Write, filter: &Filter) -> Result<Value, Halt>
         ensures { (place : At) → Comes value_of place result (logs.described (types_in (code_of code.now)) filter_record place (stream_in write.now) filter.now (state_of self.old)) (state_of self.new) }
     {
         let values = name_and_path(self.world.alloc, write, filter)?;

@@ -28,3 +28,5 @@ mod list_tests;
 mod log_tests;
 #[cfg(test)]
 mod tests;
+#[cfg(test)]
+mod timer_tests;

@@ -56,7 +56,7 @@ const CHUNKS: &[u8] = b"\
     \0\xf1SeP\xc3\0\0N\0\0\0N\0\0\0\0\0\0\0\0\0\0\0\0\0\0\0\x08\0E\0\0@\0\0\0\0\0\x06\xa6h\n\0\0P\n\0\0\x01\0P\x9cA\0\0\x02N\0\0\0\x89P\x11\0\0_\xed\0\0HTTP/1.0 200 OK\r\n\r\nhello";
 
 /// 6 bytes of a body that the client acknowledged were not captured.
-const GAP_IN_BODY: &[u8] = b"\
+pub const GAP_IN_BODY: &[u8] = b"\
     \xd4\xc3\xb2\xa1\x02\0\x04\0\0\0\0\0\0\0\0\0\0\0\x04\0\x01\0\0\0\
     \0\xf1Se\0\0\0\06\0\0\06\0\0\0\0\0\0\0\0\0\0\0\0\0\0\0\x08\0E\0\0(\0\0\0\0\0\x06\xa6\x80\n\0\0\x01\n\0\0P\x9cA\0P\0\0\0d\0\0\0\0P\x02\0\0\xfe\x9c\0\0\
     \0\xf1Se\x10'\0\06\0\0\06\0\0\0\0\0\0\0\0\0\0\0\0\0\0\0\x08\0E\0\0(\0\0\0\0\0\x06\xa6\x80\n\0\0P\n\0\0\x01\0P\x9cA\0\0\x01\xf4\0\0\0eP\x12\0\0\xfc\x97\0\0\

@@ -4,7 +4,7 @@ use std::test::Fail;
 use zk_base::{Bytes, Ending, Mem, MemShelf, SureShelf, Word};
 
 /// The header of a little-endian microsecond capture of Ethernet frames.
-const HEADER: [u8; 24] = [
+pub const HEADER: [u8; 24] = [
     0xd4, 0xc3, 0xb2, 0xa1, 2, 0, 4, 0, 0, 0, 0, 0, 0, 0, 0, 0, 0, 0, 4, 0, 1, 0, 0, 0,
 ];
 

@@ -1,6 +1,6 @@
 -- Each step that a script takes goes onward.
 use Rattle.std.proofs.Common.{ℕ, zero, suc, ◌+◌, ◌-◌, Bool, true, false, List, [], ◌∷◌, fold, length, take, drop, Option, Some, None, is_some, ◌≡◌, subst, sym, refl}
-use Rattle.std.specs.Prelude.{ℤ, pos, nat_lt, nat_le, ◌==◌, ◌^◌, if◌then◌else◌, slice_get}
+use Rattle.std.specs.Prelude.{pos, nat_lt, nat_le, ◌==◌, ◌^◌, if◌then◌else◌, slice_get}
 use Rattle.std.specs.Ordering.{int_eq}
 use Rattle.zk_base.specs.declared.numbers.RecordNo.{RecordNo}
 use Rattle.zk_base.specs.declared.time.Moment.{Moment}
@@ -138,15 +138,6 @@ goes_give_if false kind place one = goes_fault kind place
 
 pub goes_count : (place : Place) (n : ℕ) → Goes (operators.count place n)
 goes_count place n = goes_give_if (nat_lt n (2 ^ 64)) Overflow place (value.Count n)
-
-pub goes_int : (place : Place) (n : ℤ) → Goes (operators.int place n)
-goes_int place n = goes_give_if (operators.is_int n) Overflow place (value.Int n)
-
-pub goes_interval : (place : Place) (n : ℤ) → Goes (operators.interval place n)
-goes_interval place n = goes_give_if (operators.is_int n) Overflow place (value.Interval (record { 0 = n }))
-
-pub goes_time : (place : Place) (n : ℤ) → Goes (operators.time place n)
-goes_time place n = goes_give_if (operators.is_int n) Overflow place (value.Time (record { 0 = n }))
 
 pub goes_string : (place : Place) (bytes : List ℕ) → Goes (operators.string place bytes)
 goes_string place bytes = goes_give_if (nat_le (length bytes) operators.strings_max) TooLong place (value.String bytes)

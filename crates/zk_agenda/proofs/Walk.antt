@@ -11,10 +11,7 @@ use Rattle.zk_agenda.specs.Onward.{Raises}
 use Rattle.zk_agenda.specs.Trace.{Came, Dispatched, Waited, from_first, from_here, if_due, in_beginning, in_end, in_item, in_queue, in_turn, in_turns, in_turns_from, is_by}
 use Rattle.zk_agenda.proofs.Worlds.{Passes, pass-both, pass-dispatch, pass-queue, pass-raised, pass-still}
 
--- what holds from a world to another one, over these dispatches
-abbrev pub Stretch : Type 1
-Stretch = World → List Dispatched → World → Type 0
-
+-- what holds from a world to another one, over these dispatches, holds of each step and of one stretch behind another
 pub record Follows (program : Program) (S : World → List Dispatched → World → Type 0) : Type 0 where
   pub onward : (a b : World) → Passes program a b → S a [] b
   pub waited : (a b : World) (event : Queued) → Passes program a b → S a (record { time = a.time; what = Waited event } ∷ []) b

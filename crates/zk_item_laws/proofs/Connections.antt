@@ -1,6 +1,6 @@
 -- What a connection that begins in a capture is.
-use Rattle.std.proofs.Common.{◌≡◌, ◌≢◌, ◌⊎◌, ℕ, suc, ◌+◌, ◌<◌, true, false, cond, List, [], ◌∷◌, ◌++◌, length, Option, None, Some, refl, sym, ap, ◌∙◌, arith, inl, inr, length-append}
-use Rattle.std.specs.List.{flat_map, list_all}
+use Rattle.std.proofs.Common.{◌≡◌, ◌≢◌, ◌⊎◌, ℕ, suc, ◌+◌, ◌<◌, true, false, cond, List, [], ◌∷◌, ◌++◌, length, Option, None, Some, refl, sym, ap, ◌∙◌, arith, inl, inr, length-append, Bool}
+use Rattle.std.specs.List.{flat_map, list_all, list_any}
 use Rattle.std.specs.Prelude.{is_none}
 use Rattle.std.proofs.lemmas.List.Elements.{filter-append}
 use Rattle.zk_base.specs.declared.time.Moment.{Moment}
@@ -14,10 +14,11 @@ use Rattle.zk_traffic.specs.Instances.{begun}
 use Rattle.zk_traffic.specs.Items.{facts, item, items_of, numbered}
 use Rattle.zk_traffic.specs.Segments.{Segment, segments}
 use Rattle.zk_traffic.specs.Steps.{Step, steps}
-use Rattle.zk_item_laws.specs.Own.{EachIsConnection, IsConnection, NoOthers, conversation_of, end_of, going_on, is_removal, items_about, items_alone, items_behind, own_items_with, own_segments, removal_of, removals}
+use Rattle.zk_item_laws.specs.Own.{EachIsConnection, IsConnection, NoOthers, comes_after, conversation_of, end_of, going_on, is_removal, items_about, items_alone, items_behind, own_items_with, own_segments, removal_of, removals}
+use Rattle.zk_item_laws.proofs.Behind.{after-none}
 use Rattle.zk_item_laws.proofs.Each.{Each, IsOf, each-flat, each-less, items_with-each}
 use Rattle.zk_item_laws.proofs.Own.{items_are_own, stands-behind}
-use Rattle.zk_item_laws.proofs.Standing.{Stands, conversation-none}
+use Rattle.zk_item_laws.proofs.Standing.{Stands, Used, conversation-none}
 
 none-removed : (l : List Item) → Each (λ (i : Item). is_removal i.what ≡ false) l → removals l ≡ []
 none-removed [] each = refl
@@ -78,6 +79,10 @@ each_is_connection options link records before key rest keys = by_stands (stands
     begun-more : length (begun limit all) ≡ length before + suc (length rest)
     begun-more = ap length keys ∙ length-append before (key ∷ rest)
 
+    all_cut : (used : Used limit all (now records) number) (b : Bool) → list_any (λ k. same_key k used.key) used.rest ≡ b → list_all (comes_after limit number used.key used.c) (steps all) ≡ true
+    all_cut used true again = used.all_after again
+    all_cut used false last = after-none limit number used.key used.c (steps all) (used.none_behind last)
+
     by_stands : Stands limit all (now records) number → IsConnection options link records number key (own_segments limit number all)
     by_stands (inl unused) = absurd (by_beyond unused.beyond)
       where
@@ -93,6 +98,7 @@ each_is_connection options link records before key rest keys = by_stands (stands
           some = some-own limit (own_segments limit number all) used.c used.is;
           of_key = ap (λ k. list_all (λ (s : Segment). same_key (key_of s.view) k) (own_segments limit number all)) (sym key_is) ∙ used.of_key;
           in_time = used.in_time;
+          cut = ap (λ k. list_all (comes_after limit number k used.c) (steps all)) (sym key_is) ∙ all_cut used (list_any (λ k. same_key k used.key) used.rest) refl;
           removed = ap removals (items_are_own options link records number) ∙ alone-removed limit number (own_segments limit number all) (now records) used.c used.is;
         }
 

@@ -2,6 +2,7 @@ pub mod Each
 pub mod Moments
 pub mod Numbers
 pub mod Removals
+pub mod Behind
 pub mod Standing
 pub mod Taking
 pub mod Own

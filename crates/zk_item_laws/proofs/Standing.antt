@@ -1,5 +1,5 @@
 -- What the segments so far say of one connection.
-use Rattle.std.proofs.Common.{◌≡◌, ◌⊎◌, ℕ, ◌+◌, ◌<◌, ◌≤ℤ◌, ℤ, Bool, true, false, cond, List, [], ◌∷◌, ◌++◌, length, filter, map, Option, None, Some, refl, sym, ap, ◌∙◌, arith, inl, inr}
+use Rattle.std.proofs.Common.{◌≡◌, ◌⊎◌, ℕ, ◌+◌, ◌<◌, ◌≤ℤ◌, ℤ, Bool, true, false, cond, List, [], ◌∷◌, ◌++◌, length, filter, map, Option, None, Some, refl, sym, ap, ◌∙◌, arith, inl, inr, not}
 use Rattle.std.specs.List.{flat_map, list_all, list_any}
 use Rattle.std.specs.Prelude.{◌==◌, int_le}
 use Rattle.std.proofs.lemmas.Bool.{eqb-true}
@@ -20,7 +20,7 @@ use Rattle.zk_traffic.specs.Items.{facts, item, items_with, numbered, own_items,
 use Rattle.zk_traffic.specs.Segments.{Segment}
 use Rattle.zk_traffic.specs.Steps.{Step, steps}
 use Rattle.zk_traffic.proofs.SegmentLemmas.{steps-append}
-use Rattle.zk_item_laws.specs.Own.{comes_in_time, conversation_of, is_about, is_of, items_about, items_behind, own_items_with, own_segments, with_own}
+use Rattle.zk_item_laws.specs.Own.{comes_in_time, conversation_of, is_about, is_of, items_about, items_behind, own_items_with, own_segments, with_own, is_behind, comes_after}
 use Rattle.zk_item_laws.proofs.Each.{Each, IsOf, items_with-each}
 use Rattle.zk_item_laws.proofs.Numbers.{has_number, none-behind, none-beyond, one-there}
 
@@ -79,6 +79,8 @@ pub record Used (limit : ℕ) (segments : List Segment) (t : Moment) (number : �
   pub in_time : list_all (λ (step : Step Segment). comes_in_time (conversation_of limit step.before) step.last) (steps (own_segments limit number segments)) ≡ true
   pub current : list_any (λ k. same_key k key) rest ≡ false → latest limit key segments ≡ Some c
   pub past : list_any (λ k. same_key k key) rest ≡ true → is_over_by t c ≡ true
+  pub none_behind : list_any (λ k. same_key k key) rest ≡ false → list_all (λ (step : Step Segment). not (is_behind limit number key step)) (steps segments) ≡ true
+  pub all_after : list_any (λ k. same_key k key) rest ≡ true → list_all (comes_after limit number key c) (steps segments) ≡ true
 
 abbrev pub Stands : ℕ → List Segment → Moment → ℕ → Type 0
 Stands limit segments t number = Unused limit segments number ⊎ Used limit segments t number
@@ -100,6 +102,8 @@ stands-later limit segments t later number after (inr used) = inr (record {
   in_time = used.in_time;
   current = used.current;
   past = λ again. over-later (removal used.c).0 t.0 later.0 (used.past again) after;
+  none_behind = used.none_behind;
+  all_after = used.all_after;
 })
 
 pub stands-none : (limit : ℕ) (t : Moment) (number : ℕ) → Stands limit [] t number

@@ -5,7 +5,7 @@ use Rattle.std.specs.Prelude.{◌==◌}
 use Rattle.std.proofs.lemmas.Bool.{eqb-true, true≢false}
 use Rattle.std.proofs.lemmas.Bool.Decides.{nat_tests}
 use Rattle.std.proofs.lemmas.List.{append-nil}
-use Rattle.std.proofs.lemmas.List.Folds.{list_all-append, list_any-append}
+use Rattle.std.proofs.lemmas.List.Folds.{list_any-append}
 use Rattle.zk_base.specs.declared.time.Moment.{Moment}
 use Rattle.zk_conn.specs.declared.key.Key.{Key}
 use Rattle.zk_conn.specs.Histories.{last_place}
@@ -19,9 +19,10 @@ use Rattle.zk_traffic.specs.Segments.{Segment}
 use Rattle.zk_traffic.specs.Steps.{Step, steps}
 use Rattle.zk_traffic.proofs.EndLemmas.{not_over}
 use Rattle.zk_traffic.proofs.HoldsLemmas.{has_number}
-use Rattle.zk_traffic.proofs.SegmentLemmas.{begun-append, latest-append, steps-append}
+use Rattle.zk_traffic.proofs.SegmentLemmas.{begun-append, latest-append}
 use Rattle.zk_traffic.proofs.SumLemmas.{last_place-push, last_place-within}
-use Rattle.zk_item_laws.specs.Own.{comes_in_time, conversation_of, going_on, items_about, own_items_with, own_segments, with_own}
+use Rattle.zk_item_laws.specs.Own.{comes_after, comes_in_time, conversation_of, going_on, is_behind, items_about, own_items_with, own_segments, with_own}
+use Rattle.zk_item_laws.proofs.Behind.{after-none, both-hold, mine-not-behind, none-greater, other-not-behind, over-after, steps-hold}
 use Rattle.zk_item_laws.proofs.Numbers.{place-is}
 use Rattle.zk_item_laws.proofs.Standing.{Stands, Unused, Used, brought, conversation-none, conversation-push, gone, items-going_on, items-opening, joined-new, own-push, segment-about, told, told-push}
 
@@ -54,9 +55,6 @@ of key s = same_key (key_of s.view) key
 
 abbrev in-time : ℕ → Step Segment → Bool
 in-time limit step = comes_in_time (conversation_of limit step.before) step.last
-
-both-hold : {A : Type 0} (p : A → Bool) (l : List A) (a : A) → list_all p l ≡ true → p a ≡ true → list_all p (l ++ a ∷ []) ≡ true
-both-hold p l a first second = list_all-append p l (a ∷ []) ∙ ap (λ b. b && list_all p (a ∷ [])) first ∙ ap (λ b. b && true) second
 
 -- A segment of another ---------------------------------------------------------------------------------------------------
 
@@ -148,6 +146,9 @@ opens-unused limit segments s number new unused = by_number (number_of limit (ke
         in_time = ap (λ l. list_all (in-time limit) (steps l)) (first_own mine) ∙ ap (λ o. comes_in_time o s && true) (conversation-none limit);
         current = λ last. latest-mine limit segments s ∙ ap (λ (c : Conversation). Some (with_segment limit c s)) (joined-new (latest limit (key_of s.view) segments) s new);
         past = λ again. absurd (true≢false (sym again));
+        none_behind = λ last. none-greater limit number (key_of s.view) (segments ++ s ∷ []) (let place = number-opening limit segments s new in
+            let mine_is = eqb-true (number_of limit (key_of s.view) (segments ++ s ∷ [])) number mine in omega (arith, more, place, mine_is));
+        all_after = λ again. absurd (true≢false (sym again));
       });
       brings = mine-brings limit segments s number None mine none refl (items-opening limit number (latest limit (key_of s.view) segments) s new);
     }
@@ -170,7 +171,11 @@ opens-used limit segments s number new used = record {
     in_time = ap (λ l. list_all (in-time limit) (steps l)) (other-own limit segments s number other) ∙ used.in_time;
     current = λ last. let parts = neither (list_any (λ k. same_key k used.key) used.rest) (same_key (key_of s.view) used.key) (sym any ∙ last) in
         latest-append limit used.key segments s false parts.1 ∙ used.current parts.0;
-    past = λ again. by_rest (list_any (λ k. same_key k used.key) used.rest) (same_key (key_of s.view) used.key) refl refl (sym any ∙ again);
+    past = now_over;
+    none_behind = λ last. let parts = neither (list_any (λ k. same_key k used.key) used.rest) (same_key (key_of s.view) used.key) (sym any ∙ last) in
+        steps-hold (λ (step : Step Segment). not (is_behind limit number used.key step)) segments s (used.none_behind parts.0) (other-not-behind limit number used.key (record { before = segments; last = s }) parts.1);
+    all_after = λ again. steps-hold (comes_after limit number used.key used.c) segments s (so_far_after (list_any (λ k. same_key k used.key) used.rest) refl)
+        (over-after limit number used.key used.c (record { before = segments; last = s }) (now_over again));
   });
   brings = other-brings limit segments s number other;
 }
@@ -190,6 +195,13 @@ opens-used limit segments s number new used = record {
     by_rest false true last same some =
         sym (ap (λ o. begins o s) (ap (λ k. latest limit k segments) (same_key_is (key_of s.view) used.key same) ∙ used.current last)) ∙ new
     by_rest false false last same some = absurd (true≢false (sym some ∙ ap (λ b. b || (same_key (key_of s.view) used.key || false)) last ∙ ap (λ b. b || false) same))
+
+    now_over : list_any (λ k. same_key k used.key) (used.rest ++ key_of s.view ∷ []) ≡ true → is_over_by s.moment used.c ≡ true
+    now_over again = by_rest (list_any (λ k. same_key k used.key) used.rest) (same_key (key_of s.view) used.key) refl refl (sym any ∙ again)
+
+    so_far_after : (b : Bool) → list_any (λ k. same_key k used.key) used.rest ≡ b → list_all (comes_after limit number used.key used.c) (steps segments) ≡ true
+    so_far_after true again = used.all_after again
+    so_far_after false last = after-none limit number used.key used.c (steps segments) (used.none_behind last)
 
 -- A segment that goes on with one ----------------------------------------------------------------------------------------
 
@@ -235,13 +247,14 @@ goes_on-mine limit segments s number old used mine same last = record {
     of_key = ap (list_all (of used.key)) (mine-own limit segments s number mine)
         ∙ both-hold (of used.key) (own_segments limit number segments) s used.of_key (ap (λ k. same_key k used.key) (sym key_is) ∙ same_key-refl used.key);
     in_time = ap (λ l. list_all (in-time limit) (steps l)) (mine-own limit segments s number mine)
-        ∙ ap (list_all (in-time limit)) (steps-append (own_segments limit number segments) s)
-        ∙ both-hold (in-time limit) (steps (own_segments limit number segments)) (record { before = own_segments limit number segments; last = s }) used.in_time
-        (ap (λ o. comes_in_time o s) used.is ∙ ap not live);
+        ∙ steps-hold (in-time limit) (own_segments limit number segments) s used.in_time (ap (λ o. comes_in_time o s) used.is ∙ ap not live);
     current = λ last. ap (λ k. latest limit k (segments ++ s ∷ [])) key_is ∙ latest-mine limit segments s
         ∙ ap (λ o. goes_on limit o s) latest_is
         ∙ ap (λ b. Some (with_segment limit (cond b (unbegun s) used.c) s)) live;
     past = λ again. absurd (true≢false (sym again ∙ last));
+    none_behind = λ last. steps-hold (λ (step : Step Segment). not (is_behind limit number used.key step)) segments s (used.none_behind last)
+        (mine-not-behind limit number used.key (record { before = segments; last = s }) (let mine_is = eqb-true (number_of limit (key_of s.view) (segments ++ s ∷ [])) number mine in omega (arith, mine_is)));
+    all_after = λ again. absurd (true≢false (sym again ∙ last));
   });
   brings = mine-brings limit segments s number (Some used.c) mine used.is (gone-live number s.moment used.c live)
       (ap (λ o. own_items limit number o s) latest_is ∙ items-going_on limit number used.c s live);
@@ -271,6 +284,8 @@ goes_on-other limit segments s number old used other apart = record {
     in_time = ap (λ l. list_all (in-time limit) (steps l)) (other-own limit segments s number other) ∙ used.in_time;
     current = λ last. latest-append limit used.key segments s false (apart last) ∙ used.current last;
     past = used.past;
+    none_behind = λ last. steps-hold (λ (step : Step Segment). not (is_behind limit number used.key step)) segments s (used.none_behind last) (other-not-behind limit number used.key (record { before = segments; last = s }) (apart last));
+    all_after = λ again. steps-hold (comes_after limit number used.key used.c) segments s (used.all_after again) (over-after limit number used.key used.c (record { before = segments; last = s }) (used.past again));
   });
   brings = other-brings limit segments s number other;
 }

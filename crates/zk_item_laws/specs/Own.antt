@@ -1,5 +1,5 @@
 -- The items of one connection, by its own segments alone.
-use Rattle.std.specs.Prelude.{◌≡◌, ◌≢◌, ◌⊎◌, ℕ, ◌+◌, ◌<◌, Bool, true, false, not, ◌==◌, if◌then◌else◌, List, [], ◌∷◌, ◌++◌, filter, fold, length, map, Option, Some, None, is_none}
+use Rattle.std.specs.Prelude.{◌≡◌, ◌≢◌, ◌⊎◌, ℕ, ◌+◌, ◌<◌, Bool, true, false, not, ◌&&◌, ◌||◌, ◌==◌, nat_lt, if◌then◌else◌, List, [], ◌∷◌, ◌++◌, filter, fold, length, map, Option, Some, None, is_none}
 use Rattle.std.specs.List.{flat_map, list_all}
 use Rattle.zk_base.specs.declared.numbers.ConnNo.{ConnNo}
 use Rattle.zk_base.specs.declared.time.Moment.{Moment}
@@ -100,6 +100,14 @@ abbrev pub comes_in_time : Option Conversation → Segment → Bool
 comes_in_time None s = true
 comes_in_time (Some c) s = not (is_over_by s.moment c)
 
+-- a segment of a key is of a connection that began behind the one of this number
+abbrev pub is_behind : ℕ → ℕ → Key → Step Segment → Bool
+is_behind limit number key step = same_key (key_of step.last.view) key && nat_lt number (number_of limit (key_of step.last.view) (so_far step))
+
+-- so it comes at or after the moment at which that one is over
+abbrev pub comes_after : ℕ → ℕ → Key → Conversation → Step Segment → Bool
+comes_after limit number key c step = not (is_behind limit number key step) || is_over_by step.last.moment c
+
 -- Laws ------------------------------------------------------------------------------------------------------------------
 
 -- The items of each connection of a capture are those of its own segments alone, whatever stands between them.
@@ -118,13 +126,15 @@ ItemsAreTheSame = (options other_options : Options) (link other_link : ℕ) (rec
     → with_number any (items_about number (items_of options link records true)) ≡ with_number any (items_about other_number (items_of other_options other_link other_records true))
 
 -- A connection that begins in a capture has segments, all of its key; each behind the first comes before the moment at which
--- the connection is over by those before it; and it is removed once.
+-- the connection is over by those before it, and those of later connections of its key at or after the moment at which it is
+-- over; and it is removed once.
 pub record IsConnection (options : Options) (link : ℕ) (records : List Packet) (number : ℕ) (key : Key) (own : List Segment) : Type 0 where
   pub c : Conversation
   pub comes_to : conversation_of options.buffer own ≡ Some c
   pub some : own ≢ []
   pub of_key : list_all (λ (s : Segment). same_key (key_of s.view) key) own ≡ true
   pub in_time : list_all (λ (step : Step Segment). comes_in_time (conversation_of options.buffer step.before) step.last) (steps own) ≡ true
+  pub cut : list_all (comes_after options.buffer number key c) (steps (segments options link records)) ≡ true
   pub removed : removals (items_about number (items_of options link records true))
       ≡ item (end_of (now records) c) (Removed (numbered number) (facts c)) ∷ []
 

@@ -20,8 +20,9 @@ pub fn items_are_own()
 {}
 
 /// A connection that begins in a capture has segments, all of its key; each behind the first comes before the
-/// moment at which the connection is over by those before it; and it is removed once. Nothing happens to one of
-/// another number, and what is about no connection is that each packet is seen.
+/// moment at which the connection is over by those before it, and those of later connections of its key at or
+/// after the moment at which it is over; and it is removed once. Nothing happens to one of another number, and
+/// what is about no connection is that each packet is seen.
 pub fn each_is_a_connection()
     ensures begun { EachIsConnection }
     ensures others { NoOthers }

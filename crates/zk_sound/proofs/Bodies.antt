@@ -1,5 +1,5 @@
 -- Bodies of handlers, initial values and expiry functions keep the types of a world.
-use Rattle.std.proofs.Common.{◌≡◌, ℕ, ◌==◌, Bool, true, false, cond, List, [], ◌∷◌, ◌++◌, map, filter, fold, Option, Some, None, refl, sym, ap, subst, ◌∙◌}
+use Rattle.std.proofs.Common.{◌≡◌, ℕ, codes, ◌==◌, Bool, true, false, cond, List, [], ◌∷◌, ◌++◌, map, filter, fold, Option, Some, None, refl, sym, ap, subst, ◌∙◌}
 use Rattle.std.specs.Prelude.{slice_get, slice_set}
 use Rattle.std.specs.List.{AllByRecursion}
 use Rattle.std.proofs.lemmas.Bool.{eqb-true}
@@ -14,22 +14,24 @@ use Rattle.zk_typed.specs.declared.ends.FaultKind.TheVariants.{Unset}
 use Rattle.zk_typed.specs.declared.script.primitive.Binary.TheVariants.{Plus}
 use Rattle.zk_typed.specs.declared.script.types.SimpleType.{SimpleType}
 use Rattle.zk_typed.specs.declared.script.types.SimpleType.TheVariants as simple
-use Rattle.zk_typed.specs.Dispatch.{all_calls, handler_body, with_added, initial_value, initial_body, interval_of, wait_for, expiry_body, world_after, handlers_of, dispatch}
+use Rattle.zk_typed.specs.Dispatch.{all_calls, handler_body, with_added, initial_value, initial_body, interval_of, wait_for, expiry_body, world_after, reported, handlers_of, dispatch}
 use Rattle.zk_typed.specs.Does.{Ran, Gives, Faults, Spent, ◌>>=◌, or_fault, named}
 use Rattle.zk_typed.specs.Forms.{Expr}
 use Rattle.zk_typed.specs.Meaning.{depth_max, in_order, function_body}
 use Rattle.zk_typed.specs.Predefined as type
 use Rattle.zk_typed.specs.Program.{Program, Global, Handler}
 use Rattle.zk_typed.specs.Running.{table_of, table_behind, with_table, wait_of, expired, expire_in, expire_of}
-use Rattle.zk_typed.specs.State.{World, with_row, with_store}
+use Rattle.zk_typed.specs.State.{World, with_store}
 use Rattle.zk_typed.specs.Types.{ValueType, Simple, Record, Table as TableType, Set, Vector}
 use Rattle.zk_typed.specs.World.{Queued}
 use Rattle.zk_sound.specs.Holding.{Kinds, NamesObject, HasType, HaveTypes, ObjectFits, key_types}
 use Rattle.zk_sound.specs.Worlds.{Names, type_of, global_names, event_params, QueuedFits, WorldFits}
+use Rattle.zk_sound.specs.Rows.{RowFits}
 use Rattle.zk_sound.specs.Having.{HasKeys, IsTable, AddedFits, InitialFits, ExpiryTakes, GlobalFits, HandlerFits, FunctionFits, ProgramFits}
 use Rattle.zk_sound.specs.Keeping.{Stopped, Ends, Keeps, loose, Any, Of, FlowOf}
-use Rattle.zk_sound.proofs.Growth.{grows_no, grows_on, all_get, has_later, have_later, object_later}
+use Rattle.zk_sound.proofs.Growth.{grows_no, grows_on, all_append, all_get, has_later, have_later, object_later}
 use Rattle.zk_sound.proofs.Core.{keeps_bind, keeps_pure}
+use Rattle.zk_sound.proofs.Texts.{plain_span, plain_word}
 use Rattle.zk_sound.proofs.Places.{first_names, fits_some, name_read, keeps_set_global, zip_get, zip_set}
 use Rattle.zk_sound.proofs.Tables.{EntryOf, renew_fits, expire_fits, numbered_fits}
 use Rattle.zk_sound.proofs.Operators.{of_one, made}
@@ -40,13 +42,22 @@ use Rattle.zk_sound.proofs.Meaning.{CallsKeep, calls_keep, value_keeps, does_kee
 
 -- What a body leaves -----------------------------------------------------------------------------------------------
 
-row_told : {program : Program} {kinds : Kinds} {world : World} (row : _) → WorldFits program kinds world → WorldFits program kinds (with_row row world)
-row_told row fits = record { objects = fits.objects; defaults = fits.defaults; globals = fits.globals; streams = fits.streams; queue = fits.queue; scheduled = fits.scheduled }
+-- the row that tells a fault
+row_told : {program : Program} {kinds : Kinds} {world : World} (message : List ℕ) (place : Place) → WorldFits program kinds world → WorldFits program kinds (reported program message place world)
+row_told {world = world} message place fits = record {
+  objects = fits.objects;
+  defaults = fits.defaults;
+  globals = fits.globals;
+  streams = fits.streams;
+  queue = fits.queue;
+  scheduled = fits.scheduled;
+  rows = all_append RowFits world.rows _ fits.rows ((plain_span world.time.0, (plain_word (codes "Reporter::ERROR") refl, (tt, (tt, tt)))), tt);
+}
 
 pub left_stopped : {A : Type 0} (program : Program) (names : Names) (Q : Kinds → A → Type 0) (kinds : Kinds) (ran : Ran A) → Ends (loose program names) Q kinds ran → Stopped program kinds (world_after program ran)
 left_stopped program names Q kinds (Gives a state) h = record { later = h.later; grows = h.grows; fits = h.fits.world }
-left_stopped program names Q kinds (Faults why place world units) (may, h) = record { later = h.later; grows = h.grows; fits = row_told _ h.fits }
-left_stopped program names Q kinds (Spent place world) h = record { later = h.later; grows = h.grows; fits = row_told _ h.fits }
+left_stopped program names Q kinds (Faults why place world units) (may, h) = record { later = h.later; grows = h.grows; fits = row_told _ place h.fits }
+left_stopped program names Q kinds (Spent place world) h = record { later = h.later; grows = h.grows; fits = row_told _ place h.fits }
 
 all_keep : (program : Program) → ProgramFits program → CallsKeep program (all_calls program)
 all_keep program fits = calls_keep program fits depth_max
@@ -168,6 +179,7 @@ table_kept program kinds of (value.Object number) changed world is named keeps h
       streams = holds.streams;
       queue = holds.queue;
       scheduled = holds.scheduled;
+      rows = holds.rows;
     }
 
     at : (there : Object) → slice_get world.store number.0 ≡ Some there → ObjectFits program kinds of there → WorldFits program kinds (with_table changed (value.Object number) world)

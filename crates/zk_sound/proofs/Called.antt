@@ -43,7 +43,7 @@ abbrev pub CalledForm : Program → Names → Called → Type 0
 CalledForm program names (Gives one) = IsForm program names one
 CalledForm program names (Performs function args) = AllByRecursion (IsForm program names) args × FunctionAgrees program function (types_of args) None
 
-abbrev IsVariable : Meant → Type 0
+abbrev pub IsVariable : Meant → Type 0
 IsVariable (Variable home lasting tree init attrs) = Unit {0}
 IsVariable other = ⊥
 

@@ -223,6 +223,7 @@ keeps_default of (Some default) (value.Object number) named fits = keeps_bind
       streams = holds.streams;
       queue = holds.queue;
       scheduled = holds.scheduled;
+      rows = holds.rows;
       defaults = all_append (TableDefaultFits _) world.defaults _ holds.defaults (record { of = of; object = named; fits = fits default refl }, tt);
     }))
     (λ later grows done h. keeps_pure (value.Object number) (object_later grows of (value.Object number) named))

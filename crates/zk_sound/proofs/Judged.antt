@@ -39,6 +39,7 @@ use Rattle.zk_typed.specs.Program.{Program}
 use Rattle.zk_typed.specs.Types.{ValueType, Simple, Table, Set, Vector}
 use Rattle.zk_typed.specs.Typing.{Typed, typed, Env, LocalName, at, apply, expr_place, Wanted, Nothing, Wants, Unclear, Check, fit, constant, interval_of, literal_typed, declared_value, name_value, name_typed, local_named, found, number_among, is_variable, beside, left_of_in, related}
 use Rattle.zk_typed.specs.Within.{depth_max}
+use Rattle.zk_sound.specs.Holding.{is_word}
 use Rattle.zk_sound.specs.Worlds.{Names, type_of}
 use Rattle.zk_sound.specs.Having.{HasForm, HaveForms, SideTakes, IsStepped}
 use Rattle.zk_sound.specs.Agreeing.{EnvAgrees, LogsFit, AllLogsFit, IsClear}
@@ -46,7 +47,7 @@ use Rattle.zk_sound.proofs.Same.{same_type_is}
 use Rattle.zk_sound.proofs.Checks.{Sound, sound_bind, sound_after, never_ok, sound_require, sound_both, sound_any, sound_is, sound_more, sound_ok}
 use Rattle.zk_sound.proofs.Formed.{IsForm, Formed, ChecksWell, applied, at_type, fit_sound, literal_form, beside_forms, related_sound, membership_sound, chained_sound, left_sound}
 use Rattle.zk_sound.proofs.Constructed.{brackets_sound, members_well, container_sound}
-use Rattle.zk_sound.proofs.Called.{TextsWell, hook_sound, post_sound}
+use Rattle.zk_sound.proofs.Called.{TextsWell, IsVariable, found_is, hook_sound, post_sound}
 
 -- Names ------------------------------------------------------------------------------------------------------------
 
@@ -69,22 +70,30 @@ module _ (program : Program) (names : Names) (env : Env) (agree : EnvAgrees prog
       let number : given.0 ≡ m = far ∙ omega arith in
       agree.locals given.0 one of (rw (← number) at there) (same ∙ known)
 
-  declared_sound : (place : Place) (one : Option Declared) → Sound (IsForm program names) (declared_value env place one)
-  declared_sound place None = tt
-  declared_sound place (Some one) = of_meant one.meant one
+  declared_sound : (place : Place) (one : Option Declared) → ((word : Declared) (number : ℕ) → one ≡ Some word → word.meant ≡ Word number → is_word word.name ≡ true) → Sound (IsForm program names) (declared_value env place one)
+  declared_sound place None words = tt
+  declared_sound place (Some one) words = of_meant one.meant one (λ number is. words one number refl is)
     where
-      of_meant : (meant : Meant) (one : Declared) → Sound (IsForm program names) (declared_value env place (Some (record one { meant = meant })))
-      of_meant (Word enum) one = λ logs. refl
-      of_meant (Variable home lasting tree init attrs) one =
+      of_meant : (meant : Meant) (one : Declared) → ((number : ℕ) → meant ≡ Word number → is_word one.name ≡ true) → Sound (IsForm program names) (declared_value env place (Some (record one { meant = meant })))
+      of_meant (Word enum) one plain = λ logs. plain enum refl
+      of_meant (Variable home lasting tree init attrs) one plain =
           let number : ℕ = number_among is_variable env.scripts (record one { meant = Variable home lasting tree init attrs }) in
           sound_bind (λ of. env.global_type number ≡ Ok of) (IsForm program names) (env.global_type number) (λ of. Ok (typed of (form.Global number))) (sound_is (env.global_type number)) (λ of known logs. agree.globals number of known)
-      of_meant meant one = tt
+      of_meant meant one plain = tt
+
+  -- a word that a name means
+  word_named : (name : Name) (word : Declared) (number : ℕ) → found env name ≡ Some word → word.meant ≡ Word number → is_word word.name ≡ true
+  word_named name word number is meant = agree.scripts.words env.home.module_name name.text word number (found_is env name word is (λ variable. no_word word.meant meant variable)) meant
+    where
+      no_word : (other : Meant) → other ≡ Word number → IsVariable other → ⊥
+      no_word (Variable home lasting tree init attrs) is variable = cc
+      no_word other is variable = variable
 
   pub name_sound : (name : Name) → Sound (IsForm program names) (name_typed env name)
   name_sound name = by (local_named name.text 0 env.locals) refl
     where
       by : (local : Option (ℕ × Checked ValueType)) → local_named name.text 0 env.locals ≡ local → Sound (IsForm program names) (name_value env name local)
-      by None is = declared_sound (at env name.place) (found env name)
+      by None is = declared_sound (at env name.place) (found env name) (word_named name)
       by (Some local) is = sound_bind (λ of. local.1 ≡ Ok of) (IsForm program names) local.1 (λ of. Ok (typed of (form.Local local.0))) (sound_is local.1) (λ of known logs. local_is name.text local of is known)
 
   -- Left sides -------------------------------------------------------------------------------------------------------

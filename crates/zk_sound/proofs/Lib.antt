@@ -1,10 +1,12 @@
 pub mod Growth
+pub mod Texts
 pub mod Core
 pub mod Places
 pub mod Tables
 pub mod Same
 pub mod Operators
 pub mod Objects
+pub mod Written
 pub mod Containers
 pub mod Copies
 pub mod Logs
@@ -20,3 +22,4 @@ pub mod Judged
 pub mod Stated
 mod Rows
 pub mod Composed
+pub mod Shown

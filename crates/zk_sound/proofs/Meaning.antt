@@ -84,7 +84,7 @@ module _ (program : Program) (fits : ProgramFits program) (c : Calls) (keep : Ca
     value_keeps kinds place (form.Hook hook operands) of (types, same, known, have) = rw same (keeps_bind (values_keep kinds place operands types have) (λ later grows args fit.
         keeps_bind (keep.hook names later hook types args place known fit) (λ last on ran any. keeps_pure (value.Bool ran) refl)))
     value_keeps kinds place (form.Write log row) of (number, same, known, have) = rw same (keeps_bind (value_keeps kinds place row (Record number) have) (λ later grows one is.
-        keeps_then (keeps_tick place) (λ last on. keeps_write_log (loose program names) fits.filter (λ hook args. c.hook hook args place) (hooks_keep place) number log one known (has_later on (Record number) one is))))
+        keeps_then (keeps_tick place) (λ last on. keeps_write_log (loose program names) fits.filter fits.columns fits.logs (λ hook args. c.hook hook args place) (hooks_keep place) number log one known (has_later on (Record number) one is))))
 
     pub values_keep : (kinds : Kinds) (place : Place) (list : Exprs) (types : List ValueType) → HaveForms program names list types → Keeps (loose program names) (AllOf types) kinds (meaning.values program c place list)
     values_keep kinds place form.NoExpr [] h = keeps_pure [] tt

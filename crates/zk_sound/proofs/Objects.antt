@@ -62,7 +62,7 @@ option_mapped f (Some a) b e = (a, refl, cc)
 
 -- Fields -----------------------------------------------------------------------------------------------------------
 
-field_read : (kinds : Kinds) (types : List ValueType) (fields : List (Option Value)) (n : ℕ) (of : ValueType) (one : Value)
+pub field_read : (kinds : Kinds) (types : List ValueType) (fields : List (Option Value)) (n : ℕ) (of : ValueType) (one : Value)
     → slice_get types n ≡ Some of → FieldsFit kinds types fields → in_field n fields ≡ Some one → HasType kinds of one
 field_read kinds [] [] n of one is fits there = absurd cc
 field_read kinds (t ∷ types) [] n of one is fits there = absurd cc
@@ -79,7 +79,7 @@ field_write kinds [] (f ∷ fields) n of one is fits h = absurd fits
 field_write kinds (t ∷ types) (f ∷ fields) zero of one is (first, others) h = let same : of ≡ t = cc in (rw same at h, others)
 field_write kinds (t ∷ types) (f ∷ fields) (suc n) of one is (first, others) h = (first, field_write kinds types fields n of one is others h)
 
-types_at : (program : Program) (number : RecordNo) (n : ℕ) (of : ValueType) → field_type program number n ≡ Some of → slice_get (field_types program number) n ≡ Some of
+pub types_at : (program : Program) (number : RecordNo) (n : ℕ) (of : ValueType) → field_type program number n ≡ Some of → slice_get (field_types program number) n ≡ Some of
 types_at program number n of is = got_map (λ one. one.field_type) (record_fields program number) n ∙ is
 
 abbrev pub FieldsOf : Program → RecordNo → Kinds → List (Option Value) → Type 0

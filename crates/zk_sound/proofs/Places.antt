@@ -89,6 +89,7 @@ module _ {setting : Setting} {kinds : Kinds} where
     streams = fits.streams;
     queue = fits.queue;
     scheduled = fits.scheduled;
+    rows = fits.rows;
     globals = names_write kinds (global_names setting.program) world.globals number one fit fits.globals;
   })
 
@@ -147,6 +148,7 @@ module _ {setting : Setting} {kinds : Kinds} where
     streams = fits.streams;
     queue = fits.queue;
     scheduled = fits.scheduled;
+    rows = fits.rows;
   })
   keeps_set_object of one changed is fit = absurd is
 
@@ -159,6 +161,7 @@ grown {program = program} world store grows objects fits = record {
   streams = fits.streams;
   queue = all_map _ _ (queued_later grows program) world.queue fits.queue;
   scheduled = all_map _ _ (scheduled_later grows program) world.scheduled fits.scheduled;
+  rows = fits.rows;
 }
 
 pub keeps_new_object : {setting : Setting} {kinds : Kinds} (of : ValueType) (made : Object) → ObjectFits setting.program kinds of made → Keeps setting (IsObject of) kinds (new_object made)

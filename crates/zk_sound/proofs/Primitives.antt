@@ -410,6 +410,7 @@ module _ {setting : Setting} {kinds : Kinds} where
         streams = holds.streams;
         queue = holds.queue;
         scheduled = all_append (ScheduledFits setting.program kinds) world.scheduled _ holds.scheduled (fits, tt);
+        rows = holds.rows;
       }
 
   printed_keeps : (line : List ℕ) → Keeps setting Any kinds (change (with_line line))
@@ -420,6 +421,7 @@ module _ {setting : Setting} {kinds : Kinds} where
     streams = holds.streams;
     queue = holds.queue;
     scheduled = holds.scheduled;
+    rows = holds.rows;
   })
 
   timed_keeps : (place : Place) (event : EventNo) (types : List ValueType) (args : List Value) → ActionTakes setting.program setting.names (action.Schedule event) types → HaveTypes kinds types args → Keeps setting Any kinds (act place (action.Schedule event) args)

@@ -1,5 +1,5 @@
 -- A program that fits, by its text: a global that begins with 1, a function of it, and a handler that calls the function.
-use Rattle.std.proofs.Common.{◌≡◌, inr, true, List, [], ◌∷◌, Option, Some, None, refl}
+use Rattle.std.proofs.Common.{◌≡◌, inr, not, ◌||◌, Bool, true, false, List, [], ◌∷◌, Option, Some, None, refl}
 use Rattle.std.specs.Prelude.{pos, slice_get, is_none}
 use Rattle.std.specs.List.{AllByRecursion, list_all}
 use Rattle.std.proofs.lemmas.Bool.{and_parts}
@@ -14,11 +14,12 @@ use Rattle.zk_typed.specs.declared.script.primitive.BuiltIn.TheVariants as built
 use Rattle.zk_typed.specs.declared.script.primitive.Primitive.TheVariants as primitive
 use Rattle.zk_typed.specs.declared.script.types.SimpleType.TheVariants as simple
 use Rattle.zk_typed.specs.Columns.{record_fields}
+use Rattle.zk_typed.specs.Declarations.{is_column}
 use Rattle.zk_typed.specs.Forms as form
 use Rattle.zk_typed.specs.Predefined as type
 use Rattle.zk_typed.specs.Predefined.{record_types, events, zeek_init}
 use Rattle.zk_typed.specs.Program.{Program, Field, RecordType, Global, Function, Handler}
-use Rattle.zk_sound.specs.Having.{FieldBegins, ProgramFits}
+use Rattle.zk_sound.specs.Having.{FieldBegins, FieldLogs, ProgramFits}
 use Rattle.zk_sound.proofs.Growth.{all_get}
 
 -- Records without defaults -----------------------------------------------------------------------------------------
@@ -78,9 +79,35 @@ sample_fields one = by (slice_get record_types one.0) refl
     by None is = rw is tt
     by (Some found) is = rw is (all_get (λ one. AllByRecursion FieldBegins one.fields) record_types one.0 found is (plain_records record_types refl))
 
+-- a field that is marked `&log` has a type of columns
+logs_well : (log is_column : Bool) → (not log || is_column) ≡ true → log ≡ true → is_column ≡ true
+logs_well true of h logged = h
+logs_well false of h logged = absurd cc
+
+logged_fields : (fields : List Field) → list_all (λ field. not field.log || is_column field.field_type) fields ≡ true → AllByRecursion FieldLogs fields
+logged_fields [] h = tt
+logged_fields (field ∷ fields) h =
+    let parts = and_parts (not field.log || is_column field.field_type) (list_all (λ field. not field.log || is_column field.field_type) fields) h in
+    (logs_well field.log (is_column field.field_type) parts.0, logged_fields fields parts.1)
+
+logged_records : (all : List RecordType) → list_all (λ one. list_all (λ field. not field.log || is_column field.field_type) one.fields) all ≡ true → AllByRecursion (λ one. AllByRecursion FieldLogs one.fields) all
+logged_records [] h = tt
+logged_records (one ∷ all) h =
+    let parts = and_parts (list_all (λ field. not field.log || is_column field.field_type) one.fields) (list_all (λ one. list_all (λ field. not field.log || is_column field.field_type) one.fields) all) h in
+    (logged_fields one.fields parts.0, logged_records all parts.1)
+
+sample_columns : (one : RecordNo) → AllByRecursion FieldLogs (record_fields sample one)
+sample_columns one = by (slice_get record_types one.0) refl
+  where
+    by : (found : Option RecordType) → slice_get record_types one.0 ≡ found → AllByRecursion FieldLogs (record_fields sample one)
+    by None is = rw is tt
+    by (Some found) is = rw is (all_get (λ one. AllByRecursion FieldLogs one.fields) record_types one.0 found is (logged_records record_types refl))
+
 sample_fits : ProgramFits sample
 sample_fits = record {
   fields = sample_fields;
+  columns = sample_columns;
+  logs = tt;
   filter = ([], refl);
   begins = refl;
   ends = refl;

@@ -38,10 +38,10 @@ module _ (program : Program) (fits : ProgramFits program) (budget : ℕ) where
   -- Parts of a world -------------------------------------------------------------------------------------------------
 
   at_time : (kinds : Kinds) (moment : Moment) (world : World) → WorldFits program kinds world → WorldFits program kinds (with_time moment world)
-  at_time kinds moment world fits = record { objects = fits.objects; defaults = fits.defaults; globals = fits.globals; streams = fits.streams; queue = fits.queue; scheduled = fits.scheduled }
+  at_time kinds moment world fits = record { objects = fits.objects; defaults = fits.defaults; globals = fits.globals; streams = fits.streams; queue = fits.queue; scheduled = fits.scheduled; rows = fits.rows }
 
   ended : (last : Moment) (world : World) → Whole program world → Whole program (ending_at last world)
-  ended last world h = record { kinds = h.kinds; fits = record { objects = h.fits.objects; defaults = h.fits.defaults; globals = h.fits.globals; streams = h.fits.streams; queue = h.fits.queue; scheduled = h.fits.scheduled } }
+  ended last world h = record { kinds = h.kinds; fits = record { objects = h.fits.objects; defaults = h.fits.defaults; globals = h.fits.globals; streams = h.fits.streams; queue = h.fits.queue; scheduled = h.fits.scheduled; rows = h.fits.rows } }
 
   no_args : (kinds : Kinds) (event : EventNo) → event_params program event ≡ Some [] → QueuedFits program kinds (queued event [])
   no_args kinds event known = record { args = λ params is. by params is }
@@ -59,6 +59,7 @@ module _ (program : Program) (fits : ProgramFits program) (budget : ℕ) where
       globals = h.fits.globals;
       streams = h.fits.streams;
       scheduled = h.fits.scheduled;
+      rows = h.fits.rows;
       queue = all_append (QueuedFits program h.kinds) world.queue (queued event [] ∷ []) h.fits.queue (no_args h.kinds event known, tt);
     };
   }
@@ -83,6 +84,7 @@ module _ (program : Program) (fits : ProgramFits program) (budget : ℕ) where
         streams = h.fits.streams;
         queue = rest;
         scheduled = h.fits.scheduled;
+        rows = h.fits.rows;
       }) one))
 
   goes_fits : (next : World → ℕ → Progress) (progress : Progress) → ((world : World) (left : ℕ) → Whole program world → ProgressFits program (next world left)) → ProgressFits program progress → ProgressFits program (goes_on next progress)
@@ -157,6 +159,7 @@ module _ (program : Program) (fits : ProgramFits program) (budget : ℕ) where
         streams = holds.streams;
         queue = holds.queue;
         scheduled = all_filter (ScheduledFits program kinds) (λ other. not (other.order == one.order)) world.scheduled holds.scheduled;
+        rows = holds.rows;
       }) (rw is at h))
 
   turn_fits : (at : Moment → Moment) (world : World) (one : Turn) (more : ℕ) (h : Whole program world) → TurnFits h.kinds one → ProgressFits program (one_turn program budget at world one more)
@@ -198,7 +201,7 @@ module _ (program : Program) (fits : ProgramFits program) (budget : ℕ) where
       let world : World = initialised program budget 0 (first_world (no_values program)) program.globals in
       drained_fits dispatches_max (queued_behind (queued zeek_init [] ∷ []) world) (waiting zeek_init world fits.begins (initialised_fits 0 (first_world (no_values program)) program.globals first (record {
         kinds = [];
-        fits = record { objects = tt; defaults = tt; globals = fits_nothing [] (global_names program) (length program.globals); streams = tt; queue = tt; scheduled = tt };
+        fits = record { objects = tt; defaults = tt; globals = fits_nothing [] (global_names program) (length program.globals); streams = tt; queue = tt; scheduled = tt; rows = tt };
       })))
     where
       first : (m : ℕ) (one : Global) → slice_get program.globals m ≡ Some one → slice_get program.globals (0 + m) ≡ Some one

@@ -6,12 +6,13 @@ use Rattle.zk_typed.specs.declared.script.primitive.Primitive.TheVariants as pri
 use Rattle.zk_typed.specs.Forms as form
 use Rattle.zk_typed.specs.Forms.{Expr, Exprs, Givens, Stmt, Stmts}
 use Rattle.zk_typed.specs.LogCalls.{is_log_word, stream_type}
-use Rattle.zk_typed.specs.Names.{Declared, Event, Hook, Function, Signature, look_up}
+use Rattle.zk_typed.specs.Names.{Declared, Word, Event, Hook, Function, Signature, look_up}
 use Rattle.zk_typed.specs.Program.{Program, Function as Body}
 use Rattle.zk_typed.specs.Resolving.{Scripts, FieldInfo, fields_of, params_of, result_of}
 use Rattle.zk_typed.specs.Statements.{Context, Within, InFunction}
 use Rattle.zk_typed.specs.Types.{ValueType}
 use Rattle.zk_typed.specs.Typing.{Env, LocalName, Wanted, Nothing, Wants, Unclear, number_among, is_event, is_hook, is_function}
+use Rattle.zk_sound.specs.Holding.{is_word}
 use Rattle.zk_sound.specs.Worlds.{Names, type_of, global_names, field_type, hook_params, event_params, row_type}
 use Rattle.zk_sound.specs.Having.{CallTakes, MayGive, LogCallFits}
 
@@ -33,6 +34,7 @@ pub record Agrees (program : Program) (scripts : Scripts) : Type 0 where
       params_of scripts signature ≡ Ok params → event_params program (record { 0 = number_among is_event scripts one }) ≡ Some params
   pub logs : (module_name name : List ℕ) (one : Declared) → look_up scripts.names module_name name ≡ Some one → is_log_word one ≡ true →
       row_type program (record { 0 = number_among is_log_word scripts one }) ≡ stream_type scripts one.name
+  pub words : (module_name name : List ℕ) (one : Declared) (number : ℕ) → look_up scripts.names module_name name ≡ Some one → one.meant ≡ Word number → is_word one.name ≡ true
 
 -- an environment stands for names of these types
 pub record EnvAgrees (program : Program) (names : Names) (env : Env) : Type 0 where

@@ -1,6 +1,6 @@
 -- Which typed forms have a type: a rule for each form, and a row for each primitive and each action, with the types of the
 -- operands that it takes (Zeek manual, Expressions; Statements).
-use Rattle.std.specs.Prelude.{◌≡◌, ◌⊎◌, ℕ, zero, suc, List, [], ◌∷◌, ◌++◌, length, map, Option, Some, None, slice_get}
+use Rattle.std.specs.Prelude.{◌≡◌, ◌⊎◌, ℕ, zero, suc, true, List, [], ◌∷◌, ◌++◌, length, map, Option, Some, None, slice_get}
 use Rattle.std.specs.List.{AllByRecursion}
 use Rattle.zk_base.specs.declared.numbers.RecordNo.{RecordNo}
 use Rattle.zk_typed.specs.declared.script.action.Action.{Action}
@@ -20,7 +20,9 @@ use Rattle.zk_typed.specs.declared.script.primitive.Unary.TheVariants.{Not, Nega
 use Rattle.zk_typed.specs.declared.script.stmt.Names.{Names as LoopNames}
 use Rattle.zk_typed.specs.declared.script.types.SimpleType.{SimpleType}
 use Rattle.zk_typed.specs.declared.script.types.SimpleType.TheVariants as simple
+use Rattle.zk_typed.specs.declared.script.program.Log.{Log}
 use Rattle.zk_typed.specs.Columns.{record_fields}
+use Rattle.zk_typed.specs.Declarations.{is_column}
 use Rattle.zk_typed.specs.Forms as form
 use Rattle.zk_typed.specs.Forms.{Expr, Exprs, Givens, Stmt, Stmts}
 use Rattle.zk_typed.specs.Operations.{arithmetic_of, built_in_type}
@@ -29,8 +31,8 @@ use Rattle.zk_typed.specs.Predefined.{filter_record, zeek_init, zeek_done}
 use Rattle.zk_typed.specs.Program.{Program, Field, Function, Hook, HookBody, Global, Handler}
 use Rattle.zk_typed.specs.Programs.{no_function}
 use Rattle.zk_typed.specs.Types.{ValueType, Simple, Record, Table, Set, Vector}
-use Rattle.zk_sound.specs.Holding.{HasType, key_types, field_types, MayBegin}
-use Rattle.zk_sound.specs.Worlds.{Names, type_of, global_names, field_type, hook_params, event_params, row_type, PolicyFits, RowEventFits}
+use Rattle.zk_sound.specs.Holding.{is_word, HasType, key_types, field_types, MayBegin}
+use Rattle.zk_sound.specs.Worlds.{Names, type_of, global_names, field_type, hook_params, event_params, row_type, PolicyFits, RowEventFits, AreLogged}
 
 -- Types ------------------------------------------------------------------------------------------------------------
 
@@ -97,9 +99,10 @@ SideTakes program names left.Item types of = types ≡ Vector of ∷ type.count 
 
 -- Calls of the log framework ---------------------------------------------------------------------------------------
 
--- the event and the policy that a log is given take the record of its rows
+-- the event and the policy that a log is given take the record of its rows, and its columns are logged
 abbrev pub LogCallFits : Program → LogCall → Type 0
-LogCallFits program (log.Create log event path policy columns) = (row : RecordNo) → row_type program log ≡ Some row → RowEventFits program row event × PolicyFits program row policy
+LogCallFits program (log.Create log event path policy columns) =
+    AreLogged program log columns × ((row : RecordNo) → row_type program log ≡ Some row → RowEventFits program row event × PolicyFits program row policy)
 LogCallFits program (log.AddFilter log name path policy columns) = (row : RecordNo) → row_type program log ≡ Some row → PolicyFits program row policy
 LogCallFits program (log.RemoveFilter log name) = Unit {0}
 
@@ -268,6 +271,13 @@ pub record BodyFits (program : Program) (params : List ValueType) (gives : Optio
 abbrev pub FieldBegins : Field → Type 0
 FieldBegins field = MayBegin field.field_type field.begins
 
+-- a field that is marked `&log` is of a type that columns have, and the text of a log's word stands for itself in one
+abbrev pub FieldLogs : Field → Type 0
+FieldLogs field = field.log ≡ true → is_column field.field_type ≡ true
+
+abbrev pub WordFits : Log → Type 0
+WordFits log = is_word log.word ≡ true
+
 abbrev pub FunctionFits : Program → Function → Type 0
 FunctionFits program one = BodyFits program one.params one.«result» one.body
 
@@ -307,6 +317,8 @@ FilterTypes types = (added : List ValueType) × (types ≡ type.string ∷ type.
 -- arguments
 pub record ProgramFits (program : Program) : Type 0 where
   pub fields : (number : RecordNo) → AllByRecursion FieldBegins (record_fields program number)
+  pub columns : (number : RecordNo) → AllByRecursion FieldLogs (record_fields program number)
+  pub logs : AllByRecursion WordFits program.logs
   pub filter : FilterTypes (field_types program filter_record)
   pub begins : event_params program zeek_init ≡ Some []
   pub ends : event_params program zeek_done ≡ Some []

@@ -1,7 +1,8 @@
 -- Which values have a type: a simple type has the values of its kind, and any other type those objects that are of it. How
--- great a number is, and how long a text, is no matter of its type.
-use Rattle.std.specs.Prelude.{◌≡◌, Bool, true, false, List, [], ◌∷◌, map, Option, Some, None, slice_get}
-use Rattle.std.specs.List.{AllByRecursion}
+-- great a number is, and how long a text, is no matter of its type; an enum has words whose texts stand for themselves in a log.
+use Rattle.std.specs.Prelude.{◌≡◌, ℕ, ◌==◌, Bool, true, false, not, ◌&&◌, ◌||◌, List, [], ◌∷◌, map, codes, Option, Some, None, slice_get}
+use Rattle.std.specs.List.{AllByRecursion, list_all}
+use Rattle.std.specs.Str.{bytes_eq}
 use Rattle.zk_base.specs.declared.numbers.RecordNo.{RecordNo}
 use Rattle.zk_tree.specs.Store as object
 use Rattle.zk_tree.specs.Store.{Object}
@@ -22,6 +23,12 @@ use Rattle.zk_typed.specs.View.{literal_value}
 
 -- Values -----------------------------------------------------------------------------------------------------------
 
+-- the text of a word is neither empty nor a word of the log's own, and has no tab, comma or line end
+abbrev pub is_word : List ℕ → Bool
+is_word text =
+    not (bytes_eq text []) && not (bytes_eq text (codes "-")) && not (bytes_eq text (codes "(empty)")) &&
+    list_all (λ byte. not (byte == 9 || byte == 44 || byte == 10)) text
+
 -- a value is one of a simple type; the words of all enums are of one kind
 abbrev pub is_kind : SimpleType → Value → Bool
 is_kind simple.Bool (value.Bool truth) = true
@@ -33,7 +40,7 @@ is_kind simple.Interval (value.Interval span) = true
 is_kind simple.Addr (value.Addr address) = true
 is_kind simple.Port (value.Port port proto) = true
 is_kind simple.Subnet (value.Subnet prefix width) = true
-is_kind (simple.Enum number) (value.Enum word) = true
+is_kind (simple.Enum number) (value.Enum word) = is_word word
 is_kind of other = false
 
 -- the types of the objects of a store, by their numbers

@@ -1,5 +1,5 @@
 -- The laws: what typed programs promise of their values.
-use Rattle.std.specs.Prelude.{◌≡◌, ℕ, List, Option, Some, Ok, slice_get}
+use Rattle.std.specs.Prelude.{◌≡◌, ℕ, List, map, Option, Some, Ok, slice_get}
 use Rattle.std.specs.List.{AllByRecursion}
 use Rattle.zk_base.specs.declared.time.Moment.{Moment}
 use Rattle.zk_tree.specs.declared.expr.Expr.{Expr as Written}
@@ -11,6 +11,7 @@ use Rattle.zk_typed.specs.declared.script.primitive.Primitive.{Primitive}
 use Rattle.zk_typed.specs.Dispatch.{dispatch, initial_body, world_after}
 use Rattle.zk_typed.specs.Expressions.{expr_typed}
 use Rattle.zk_typed.specs.Forms.{Expr, Stmt}
+use Rattle.zk_typed.specs.Log.{Row}
 use Rattle.zk_typed.specs.Meaning.{calls, value, does}
 use Rattle.zk_typed.specs.Primitives.{perform, act}
 use Rattle.zk_typed.specs.Program.{Program, Global}
@@ -20,7 +21,10 @@ use Rattle.zk_typed.specs.Statements.{Context, Locals, body_typed}
 use Rattle.zk_typed.specs.Types.{ValueType}
 use Rattle.zk_typed.specs.Typing.{Env, Typed, Wanted}
 use Rattle.zk_typed.specs.World.{Queued}
+use Rattle.zk_ascii.specs.Fits.{Fit}
+use Rattle.zk_ascii.specs.Text.{row_text}
 use Rattle.zk_sound.specs.Holding.{Kinds, HaveTypes}
+use Rattle.zk_sound.specs.Rows.{RowFits, CellIsBytes, shown_cell, shown_column}
 use Rattle.zk_sound.specs.Worlds.{Names, QueuedFits, WorldFits}
 use Rattle.zk_sound.specs.Having.{Takes, ReadsNoName, ActionTakes, ActsOnNoName, HasForm, StmtFits, ProgramFits}
 use Rattle.zk_sound.specs.Agreeing.{EnvAgrees, IsClear, LogsFit, StmtLogsFit, LocalsAgree, StandsIn}
@@ -95,3 +99,19 @@ RaisesFit program item = (kinds : Kinds) (world : World) → WorldFits program k
 abbrev pub RunsKeepTypes : Type 0
 RunsKeepTypes = (program : Program) (budget : ℕ) (items : List Item) (last : Moment) → ProgramFits program →
     AllByRecursion (RaisesFit program) items → (kinds : Kinds) × WorldFits program kinds (world_in (run program budget items last))
+
+-- Rows -------------------------------------------------------------------------------------------------------------
+
+-- each row that a run has written has cells that fit their columns
+abbrev pub RunsWriteRowsThatFit : Type 0
+RunsWriteRowsThatFit = (program : Program) (budget : ℕ) (items : List Item) (last : Moment) → ProgramFits program →
+    AllByRecursion (RaisesFit program) items → AllByRecursion RowFits (world_in (run program budget items last)).rows
+
+-- as log files have such a row, each cell fits its column, where strings are of bytes
+abbrev pub ShownRowsFit : Type 0
+ShownRowsFit = (row : Row) → RowFits row → AllByRecursion CellIsBytes row.cells → Fit (map shown_column row.columns) (map shown_cell row.cells)
+
+-- so the text of such a row is that of no other row of the same columns
+abbrev pub TextsTellRows : Type 0
+TextsTellRows = (a b : Row) → RowFits a → RowFits b → AllByRecursion CellIsBytes a.cells → AllByRecursion CellIsBytes b.cells → a.columns ≡ b.columns →
+    row_text (map shown_cell a.cells) ≡ row_text (map shown_cell b.cells) → a.cells ≡ b.cells

@@ -1,4 +1,5 @@
 pub mod Holding
+pub mod Rows
 pub mod Worlds
 pub mod Having
 pub mod Keeping

@@ -1,5 +1,5 @@
 -- Which worlds hold nothing but values of their types.
-use Rattle.std.specs.Prelude.{◌≡◌, ℕ, List, [], ◌∷◌, map, Option, Some, None, slice_get}
+use Rattle.std.specs.Prelude.{◌≡◌, ℕ, true, List, [], ◌∷◌, map, Option, Some, None, slice_get}
 use Rattle.std.specs.List.{AllByRecursion, AllZip}
 use Rattle.std.specs.Option.{option_map}
 use Rattle.zk_base.specs.declared.numbers.EventNo.{EventNo}
@@ -10,6 +10,7 @@ use Rattle.zk_tree.specs.Value.{Value}
 use Rattle.zk_typed.specs.declared.script.program.Log.{Log}
 use Rattle.zk_typed.specs.Columns.{record_fields}
 use Rattle.zk_typed.specs.Log.{Stream, Filter}
+use Rattle.zk_typed.specs.Logs.{picked, log_leaves}
 use Rattle.zk_typed.specs.Predefined as predefined
 use Rattle.zk_typed.specs.Predefined.{filter_record}
 use Rattle.zk_typed.specs.Program.{Program}
@@ -18,6 +19,7 @@ use Rattle.zk_typed.specs.Types as type
 use Rattle.zk_typed.specs.Types.{ValueType}
 use Rattle.zk_typed.specs.World.{Queued, Scheduled}
 use Rattle.zk_sound.specs.Holding.{Kinds, MayHaveType, HaveTypes, ObjectFits, AbsentFits}
+use Rattle.zk_sound.specs.Rows.{RowFits}
 
 -- What a program declares ------------------------------------------------------------------------------------------
 
@@ -82,11 +84,16 @@ RowEventFits program row (Some event) = event_params program event ≡ Some (typ
 abbrev pub FilterFits : Program → RecordNo → Filter → Type 0
 FilterFits program row one = PolicyFits program row one.policy
 
--- the policies and the event of a stream take the record of its log
+-- fields of the rows of a log, by their numbers, are marked `&log`
+abbrev pub AreLogged : Program → LogId → List ℕ → Type 0
+AreLogged program log columns = AllByRecursion (λ leaf. leaf.log ≡ true) (picked (log_leaves program log) columns)
+
+-- the policies and the event of a stream take the record of its log, and its columns are logged
 pub record StreamFits (program : Program) (stream : Stream) : Type 0 where
   pub event : (row : RecordNo) → row_type program stream.id ≡ Some row → RowEventFits program row stream.event
   pub policy : (row : RecordNo) → row_type program stream.id ≡ Some row → PolicyFits program row stream.policy
   pub filters : (row : RecordNo) → row_type program stream.id ≡ Some row → AllByRecursion (FilterFits program row) stream.filters
+  pub columns : AreLogged program stream.id stream.columns
 
 -- Worlds -----------------------------------------------------------------------------------------------------------
 
@@ -103,7 +110,7 @@ pub record TableDefaultFits (kinds : Kinds) (one : TableDefault) : Type 0 where
   pub object : slice_get kinds one.object ≡ Some of
   pub fits : AbsentFits of one.default
 
--- each object, default, name, stream and event of a world is of its type
+-- each object, default, name, stream and event of a world is of its type, and the cells of its rows fit their columns
 pub record WorldFits (program : Program) (kinds : Kinds) (world : World) : Type 0 where
   pub objects : AllZip (ObjectFits program kinds) kinds world.store
   pub defaults : AllByRecursion (TableDefaultFits kinds) world.defaults
@@ -111,3 +118,4 @@ pub record WorldFits (program : Program) (kinds : Kinds) (world : World) : Type 
   pub streams : AllByRecursion (StreamFits program) world.streams
   pub queue : AllByRecursion (QueuedFits program kinds) world.queue
   pub scheduled : AllByRecursion (ScheduledFits program kinds) world.scheduled
+  pub rows : AllByRecursion RowFits world.rows

@@ -1,5 +1,7 @@
 // What typed programs promise of their values.
-ghost use Rattle.zk_sound.specs.Laws.{PrimitivesTakeTypes, ActionsTakeTypes, ExpressionsKeepTypes, StatementsKeepTypes, HandlersKeepTypes, InitialsKeepTypes, ExpiriesKeepTypes, RunsKeepTypes, RulesGiveForms, RulesGiveStatements, ValuesHaveTypes};
+ghost use Rattle.zk_sound.specs.Laws.{PrimitivesTakeTypes, ActionsTakeTypes, ExpressionsKeepTypes, StatementsKeepTypes, HandlersKeepTypes, InitialsKeepTypes, ExpiriesKeepTypes, RunsKeepTypes, RulesGiveForms, RulesGiveStatements, ValuesHaveTypes, RunsWriteRowsThatFit, ShownRowsFit, TextsTellRows};
+
+use zk_ascii::equal_texts;
 
 /// No operation meets a value of another type: with operands of the types that it takes, in a world that is of
 /// its types, a primitive gives a value of its own type, and a primitive or an action is at fault for nothing
@@ -33,3 +35,15 @@ pub fn values_have_types()
     ensures bodies { RulesGiveStatements }
     ensures values { ValuesHaveTypes }
 {}
+
+/// Each row that a run writes has cells that fit their columns: no value, or a set or a vector exactly where the
+/// column's type is one, of strings exactly where it says so, and of any other value a text that stands for
+/// nothing else in a log. So rows of the same columns have equal texts only where they are equal. There is
+/// nothing to run.
+pub fn rows_fit_their_columns()
+    ensures runs { RunsWriteRowsThatFit }
+    ensures shown { ShownRowsFit }
+    ensures texts { TextsTellRows }
+{
+    equal_texts();
+}

@@ -3,4 +3,7 @@
 
 mod laws;
 
-pub use laws::{bodies_keep_types, forms_keep_types, operations_take_types, values_have_types};
+pub use laws::{
+    bodies_keep_types, forms_keep_types, operations_take_types, rows_fit_their_columns,
+    values_have_types,
+};

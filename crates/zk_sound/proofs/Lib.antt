@@ -23,3 +23,4 @@ pub mod Stated
 mod Rows
 pub mod Composed
 pub mod Shown
+pub mod Told

@@ -1,5 +1,5 @@
 -- The laws: what typed programs promise of their values.
-use Rattle.std.specs.Prelude.{◌≡◌, ℕ, List, map, Option, Some, Ok, slice_get}
+use Rattle.std.specs.Prelude.{◌≡◌, ◌≢◌, ℕ, List, [], map, Err, Option, Some, Ok, slice_get}
 use Rattle.std.specs.List.{AllByRecursion}
 use Rattle.zk_base.specs.declared.time.Moment.{Moment}
 use Rattle.zk_tree.specs.declared.expr.Expr.{Expr as Written}
@@ -8,6 +8,11 @@ use Rattle.zk_tree.specs.Value.{Value}
 use Rattle.zk_tree.specs.declared.stmt.Block.{Block}
 use Rattle.zk_typed.specs.declared.script.action.Action.{Action}
 use Rattle.zk_typed.specs.declared.script.primitive.Primitive.{Primitive}
+use Rattle.zk_tree.specs.declared.types.Type.{«Type»}
+use Rattle.zk_typed.specs.Declaring.{scripts_of}
+use Rattle.zk_typed.specs.Errors.{errors}
+use Rattle.zk_typed.specs.LoadOrder.{File, Home}
+use Rattle.zk_typed.specs.Resolving.{type_of}
 use Rattle.zk_typed.specs.Dispatch.{dispatch, initial_body, world_after}
 use Rattle.zk_typed.specs.Expressions.{expr_typed}
 use Rattle.zk_typed.specs.Forms.{Expr, Stmt}
@@ -99,6 +104,12 @@ RaisesFit program item = (kinds : Kinds) (world : World) → WorldFits program k
 abbrev pub RunsKeepTypes : Type 0
 RunsKeepTypes = (program : Program) (budget : ℕ) (items : List Item) (last : Moment) → ProgramFits program →
     AllByRecursion (RaisesFit program) items → (kinds : Kinds) × WorldFits program kinds (world_in (run program budget items last))
+
+-- Scripts that break no rule ------------------------------------------------------------------------------------------
+
+-- Where no rule is told, no type is broken: what is not told of a type, for it rests on what is broken elsewhere, is told there.
+abbrev pub TypesAreTold : Type 0
+TypesAreTold = (files : List File) (home : Home) (tree : «Type») → errors files ≡ [] → type_of (scripts_of files) home tree ≢ Err []
 
 -- Rows -------------------------------------------------------------------------------------------------------------
 

@@ -1,5 +1,5 @@
 // What typed programs promise of their values.
-ghost use Rattle.zk_sound.specs.Laws.{PrimitivesTakeTypes, ActionsTakeTypes, ExpressionsKeepTypes, StatementsKeepTypes, HandlersKeepTypes, InitialsKeepTypes, ExpiriesKeepTypes, RunsKeepTypes, RulesGiveForms, RulesGiveStatements, ValuesHaveTypes, RunsWriteRowsThatFit, ShownRowsFit, TextsTellRows};
+ghost use Rattle.zk_sound.specs.Laws.{PrimitivesTakeTypes, ActionsTakeTypes, ExpressionsKeepTypes, StatementsKeepTypes, HandlersKeepTypes, InitialsKeepTypes, ExpiriesKeepTypes, RunsKeepTypes, RulesGiveForms, RulesGiveStatements, ValuesHaveTypes, RunsWriteRowsThatFit, ShownRowsFit, TextsTellRows, TypesAreTold};
 
 use zk_ascii::equal_texts;
 
@@ -47,3 +47,9 @@ pub fn rows_fit_their_columns()
 {
     equal_texts();
 }
+
+/// What is broken is told: where scripts break no rule that is told, no type in them is broken. There is nothing
+/// to run.
+pub fn broken_is_told()
+    ensures types { TypesAreTold }
+{}

@@ -23,4 +23,6 @@ pub mod Stated
 mod Rows
 pub mod Composed
 pub mod Shown
+pub mod Names
 pub mod Told
+pub mod Heads

@@ -32,7 +32,8 @@ use Rattle.zk_typed.specs.Names.{Declared, Meant, KnownType, WrittenType, Word, 
 use Rattle.zk_typed.specs.Resolving.{Scripts, place_in, is_deep, unless_deep, named_type, leads, as_key, type_to, type_of, type_named}
 use Rattle.zk_typed.specs.Types.{ValueType, Simple}
 use Rattle.zk_typed.specs.Within.{mentions}
-use Rattle.zk_sound.proofs.Growth.{all_append}
+use Rattle.zk_sound.proofs.Growth.{all_map}
+use Rattle.zk_sound.proofs.Names.{OutrightAre, BodiesAre, all_by_each, all_unless, names_all}
 use Rattle.zk_sound.proofs.Tables.{all_find}
 
 -- What is told ---------------------------------------------------------------------------------------------------------
@@ -62,19 +63,19 @@ tells_each check h [] = tt
 tells_each check h (one ∷ ones) = tells_bind (both (check one) (each check ones)) (λ parts. Ok (parts.0 ∷ parts.1)) (tells_both (check one) (each check ones) (h one) (tells_each check h ones)) (λ parts. tt)
 
 -- where none is told, what tells is right
-right_told : {A : Type 0} (m : Checked A) → Tells m → rules_of m ≡ [] → (a : A) × (m ≡ Ok a)
+pub right_told : {A : Type 0} (m : Checked A) → Tells m → rules_of m ≡ [] → (a : A) × (m ≡ Ok a)
 right_told (Ok a) h e = (a, refl)
 right_told (Err []) h e = absurd h
 right_told (Err (one ∷ rules)) h e = absurd cc
 
 -- what is broken in a part is broken in the whole
-untold_both : {A B : Type 0} (a : Checked A) (b : Checked B) → rules_of (both a b) ≡ [] → (rules_of a ≡ []) × (rules_of b ≡ [])
+pub untold_both : {A B : Type 0} (a : Checked A) (b : Checked B) → rules_of (both a b) ≡ [] → (rules_of a ≡ []) × (rules_of b ≡ [])
 untold_both (Ok a) (Ok b) e = (refl, refl)
 untold_both (Ok a) (Err rules) e = (refl, e)
 untold_both (Err []) b e = (refl, e)
 untold_both (Err (one ∷ rules)) b e = absurd cc
 
-untold_bind : {A B : Type 0} (m : Checked A) (next : A → Checked B) → rules_of (m >>= next) ≡ [] → rules_of m ≡ []
+pub untold_bind : {A B : Type 0} (m : Checked A) (next : A → Checked B) → rules_of (m >>= next) ≡ [] → rules_of m ≡ []
 untold_bind (Ok a) next e = refl
 untold_bind (Err rules) next e = e
 
@@ -264,25 +265,6 @@ module _ (scripts : Scripts) where
   all_well [] h = tt
   all_well (one ∷ ones) h = let parts = and_parts (not_written one.meant) (list_all (λ one. not_written one.meant) ones) h in (well_other one parts.0, all_well ones parts.1)
 
-  words_well : (home : Home) (number : ℕ) (words : List Name) → AllByRecursion WellWritten (map (λ word. declare home word (Word number)) words)
-  unfolding not_written
-  words_well home number [] = tt
-  words_well home number (word ∷ words) = (well_other (declare home word (Word number)) refl, words_well home number words)
-
-  nodes_well : (all nodes : List Node) → AllByRecursion WellWritten (flat_map (node_words all) nodes)
-  nodes_well all [] = tt
-  nodes_well all (RecordNode home place fields ∷ nodes) = nodes_well all nodes
-  nodes_well all (EnumNode home place words ∷ nodes) = all_append WellWritten (map (λ word. declare home word (Word (enum_number all home.file place))) words) (flat_map (node_words all) nodes)
-      (words_well home (enum_number all home.file place) words) (nodes_well all nodes)
-
-  added_well : (known : Scripts) (home : Home) (form : Decl-F Decl) → AllByRecursion WellWritten (added_words known home form)
-  added_well known home (decl.RedefEnum place name words comma) = by (type_named known home name)
-    where
-      by : (of : Checked ValueType) → AllByRecursion WellWritten (words_of of home words)
-      by (Ok (Simple (simple.Enum number))) = words_well home number words
-      by of = tt
-  added_well known home form = tt
-
   -- a declaration of a type is told where the type is broken or leads back to itself
   abbrev TypeTold : Stated → Type 0
   TypeTold one = (place : ℕ) (name : Name) (tree : «Type») → out-Decl one.decl ≡ decl.Type place name tree
@@ -315,40 +297,21 @@ module _ (scripts : Scripts) where
       by (decl.Type place name tree) is = rw is (typed name tree (told place name tree is), tt)
       by form is = rw is tt
 
-  with_words_well : (known : Scripts) (stated : List Stated) → AllByRecursion TypeTold stated → AllByRecursion WellWritten (flat_map (with_words known) stated)
-  with_words_well known [] told = tt
-  with_words_well known (one ∷ stated) told = all_append WellWritten (with_words known one) (flat_map (with_words known) stated)
-      (all_append WellWritten (outright_of one ++ flat_map (node_words known.nodes) (decl_nodes one.home (out-Decl one.decl))) (added_words known one.home (out-Decl one.decl))
-      (all_append WellWritten (outright_of one) (flat_map (node_words known.nodes) (decl_nodes one.home (out-Decl one.decl))) (outright_well one told.0) (nodes_well known.nodes (decl_nodes one.home (out-Decl one.decl))))
-      (added_well known one.home (out-Decl one.decl)))
-      (with_words_well known stated told.1)
-
-  unless_well : (there : Bool) (one : Declared) → WellWritten one → AllByRecursion WellWritten (unless there one)
-  unless_well true one h = tt
-  unless_well false one h = (h, tt)
-
   body_well : (names : List Declared) (home : Home) (form : Decl-F Decl) → AllByRecursion WellWritten (by_body names home form)
   unfolding not_written
-  body_well names home (decl.Body place body.Event name params attrs block) = unless_well (is_some (look_up names home.module_name name.text) || is_foreign home name) _ (well_other (declare home name (Event (Written home params None))) refl)
-  body_well names home (decl.Body place body.Hook name params attrs block) = unless_well (is_some (look_up names home.module_name name.text) || is_foreign home name) _ (well_other (declare home name (Hook (Written home params None))) refl)
-  body_well names home (decl.Function place name params «result» block) = unless_well (in_module names home name || is_foreign home name) _ (well_other (declare home name (Function (Written home params «result»))) refl)
+  body_well names home (decl.Body place body.Event name params attrs block) = all_unless WellWritten (is_some (look_up names home.module_name name.text) || is_foreign home name) _ (well_other (declare home name (Event (Written home params None))) refl)
+  body_well names home (decl.Body place body.Hook name params attrs block) = all_unless WellWritten (is_some (look_up names home.module_name name.text) || is_foreign home name) _ (well_other (declare home name (Hook (Written home params None))) refl)
+  body_well names home (decl.Function place name params «result» block) = all_unless WellWritten (in_module names home name || is_foreign home name) _ (well_other (declare home name (Function (Written home params «result»))) refl)
   body_well names home form = tt
-
-  bodies_well : (names : List Declared) (stated : List Stated) → AllByRecursion WellWritten names → AllByRecursion WellWritten (with_bodies names stated)
-  bodies_well names [] h = h
-  bodies_well names (one ∷ stated) h = bodies_well (names ++ by_body names one.home (out-Decl one.decl)) stated (all_append WellWritten names (by_body names one.home (out-Decl one.decl)) h (body_well names one.home (out-Decl one.decl)))
 
   predefined_well : AllByRecursion WellWritten predefined_names
   unfolding not_written
   predefined_well = all_well predefined_names refl
 
   names_well : (stated : List Stated) → AllByRecursion TypeTold stated → AllByRecursion WellWritten (scripts_of_stated stated).names
-  names_well stated told =
-      let nodes = all_nodes stated in
-      let known : Scripts = record { stated = stated; nodes = nodes; names = predefined_names ++ flat_map outright_of stated } in
-      let names = predefined_names ++ flat_map (with_words known) stated in
-      bodies_well (with_bodies names (filter in_no_module stated)) (filter (λ one. not (in_no_module one)) stated) (bodies_well names (filter in_no_module stated)
-      (all_append WellWritten predefined_names (flat_map (with_words known) stated) predefined_well (with_words_well known stated told)))
+  unfolding not_written
+  names_well stated told = names_all WellWritten (λ home name number. well_other (declare home name (Word number)) refl) stated predefined_well
+      (all_map TypeTold (OutrightAre WellWritten) outright_well stated told) (all_by_each (BodiesAre WellWritten) (λ one names. body_well names one.home (out-Decl one.decl)) stated)
 
 -- Errors -----------------------------------------------------------------------------------------------------------------
 
@@ -379,22 +342,39 @@ module _ (scripts : Scripts) where
       by true e rest = absurd cc
       by false e rest = rest
 
-  type_told : (one : Stated) (earlier : List Stated) → errors_of scripts earlier one ≡ [] → TypeTold scripts one
-  type_told one earlier e place name tree is =
-      let rules : rules_of (decl_rules scripts earlier one.home (out-Decl one.decl)) ≡ [] =
-          (none_in (rules_of (decl_rules scripts earlier one.home (out-Decl one.decl))) (rules_of (twice_rules one.home (declared_before earlier) (declares one.home (out-Decl one.decl))))
-          (none_in (rules_of (decl_rules scripts earlier one.home (out-Decl one.decl)) ++ rules_of (twice_rules one.home (declared_before earlier) (declares one.home (out-Decl one.decl)))) _ (none_by_place _ e)).0).0 in
+  -- no rule of a declaration is told
+  pub record Untold (one : Stated) : Type 0 where
+    pub earlier : List Stated
+    pub none : rules_of (decl_rules scripts earlier one.home (out-Decl one.decl)) ≡ []
+
+  untold : (one : Stated) (earlier : List Stated) → errors_of scripts earlier one ≡ [] → Untold one
+  untold one earlier e = record {
+    earlier = earlier;
+    none = (none_in (rules_of (decl_rules scripts earlier one.home (out-Decl one.decl))) (rules_of (twice_rules one.home (declared_before earlier) (declares one.home (out-Decl one.decl))))
+        (none_in (rules_of (decl_rules scripts earlier one.home (out-Decl one.decl)) ++ rules_of (twice_rules one.home (declared_before earlier) (declares one.home (out-Decl one.decl)))) _ (none_by_place _ e)).0).0;
+  }
+
+  all_untold : (earlier stated : List Stated) → errors_from scripts earlier stated ≡ [] → AllByRecursion Untold stated
+  all_untold earlier [] e = tt
+  all_untold earlier (one ∷ stated) e = let parts = none_in (errors_of scripts earlier one) (errors_from scripts (earlier ++ one ∷ []) stated) e in (untold one earlier parts.0, all_untold (earlier ++ one ∷ []) stated parts.1)
+
+  -- a type by its rules
+  pub type_untold : (home : Home) (tree : «Type») → rules_of (type_rules scripts home tree) ≡ [] → rules_of (type_of scripts home tree) ≡ []
+  type_untold home tree e = (untold_both (type_of scripts home tree) (parts_rules (is_too_deep scripts) scripts home tree) (untold_bind (both (type_of scripts home tree) (parts_rules (is_too_deep scripts) scripts home tree)) _ e)).0
+
+  type_told : (one : Stated) → Untold one → TypeTold scripts one
+  type_told one h place name tree is =
+      let rules = h.none in
       let whole = both (type_rules scripts one.home tree) (recursive_rules scripts one.home (whole_name one.home.module_name name.text) (mentions tree)) in
       let parts = untold_both (type_rules scripts one.home tree) (recursive_rules scripts one.home (whole_name one.home.module_name name.text) (mentions tree)) (untold_bind whole _ (rw is at rules)) in
-      let both_types = both (type_of scripts one.home tree) (parts_rules (is_too_deep scripts) scripts one.home tree) in
-      ((untold_both (type_of scripts one.home tree) (parts_rules (is_too_deep scripts) scripts one.home tree) (untold_bind both_types _ parts.0)).0, leads_not one.home (whole_name one.home.module_name name.text) (mentions tree) parts.1)
+      (type_untold one.home tree parts.0, leads_not one.home (whole_name one.home.module_name name.text) (mentions tree) parts.1)
 
-  all_told : (earlier stated : List Stated) → errors_from scripts earlier stated ≡ [] → AllByRecursion (TypeTold scripts) stated
-  all_told earlier [] e = tt
-  all_told earlier (one ∷ stated) e = let parts = none_in (errors_of scripts earlier one) (errors_from scripts (earlier ++ one ∷ []) stated) e in (type_told one earlier parts.0, all_told (earlier ++ one ∷ []) stated parts.1)
+-- no declaration of scripts that break no rule has one that is told
+pub none_told : (files : List File) → errors files ≡ [] → AllByRecursion (Untold (scripts_of files)) (load_order files)
+none_told files e = all_untold (scripts_of files) [] (load_order files) e
 
 -- a type that is broken in scripts that break no rule is no type
 pub all_types_tell : (files : List File) → errors files ≡ [] → (home : Home) (tree : «Type») → Tells (type_of (scripts_of files) home tree)
 all_types_tell files e home tree =
     let scripts : Scripts = scripts_of files in
-    types_tell scripts (names_well scripts (load_order files) (all_told scripts [] (load_order files) e)) 200 (omega arith) home tree
+    types_tell scripts (names_well scripts (load_order files) (all_map (Untold scripts) (TypeTold scripts) (type_told scripts) (load_order files) (none_told files e))) 200 (omega arith) home tree

@@ -11,7 +11,7 @@ use Rattle.zk_typed.specs.declared.script.primitive.Primitive.{Primitive}
 use Rattle.zk_tree.specs.declared.types.Type.{«Type»}
 use Rattle.zk_typed.specs.Declaring.{scripts_of}
 use Rattle.zk_typed.specs.Errors.{errors}
-use Rattle.zk_typed.specs.LoadOrder.{File, Home}
+use Rattle.zk_typed.specs.LoadOrder.{File, Home, load_order}
 use Rattle.zk_typed.specs.Resolving.{type_of}
 use Rattle.zk_typed.specs.Dispatch.{dispatch, initial_body, world_after}
 use Rattle.zk_typed.specs.Expressions.{expr_typed}
@@ -33,6 +33,7 @@ use Rattle.zk_sound.specs.Rows.{RowFits, CellIsBytes, shown_cell, shown_column}
 use Rattle.zk_sound.specs.Worlds.{Names, QueuedFits, WorldFits}
 use Rattle.zk_sound.specs.Having.{Takes, ReadsNoName, ActionTakes, ActsOnNoName, HasForm, StmtFits, ProgramFits}
 use Rattle.zk_sound.specs.Agreeing.{EnvAgrees, IsClear, LogsFit, StmtLogsFit, LocalsAgree, StandsIn}
+use Rattle.zk_sound.specs.Telling.{HeadIsKnown, BodyIsDeclared}
 use Rattle.zk_sound.specs.Keeping.{Keeps, Stopped, Any, Of, FlowOf, strictly, loose}
 
 -- Operations -------------------------------------------------------------------------------------------------------
@@ -110,6 +111,14 @@ RunsKeepTypes = (program : Program) (budget : ℕ) (items : List Item) (last : M
 -- Where no rule is told, no type is broken: what is not told of a type, for it rests on what is broken elsewhere, is told there.
 abbrev pub TypesAreTold : Type 0
 TypesAreTold = (files : List File) (home : Home) (tree : «Type») → errors files ≡ [] → type_of (scripts_of files) home tree ≢ Err []
+
+-- So each declared type and each type in the head of a body is known,
+abbrev pub HeadsAreKnown : Type 0
+HeadsAreKnown = (files : List File) → errors files ≡ [] → AllByRecursion (HeadIsKnown (scripts_of files)) (load_order files)
+
+-- and a body has the types of the declaration that is found by its name.
+abbrev pub BodiesAreDeclared : Type 0
+BodiesAreDeclared = (files : List File) → errors files ≡ [] → AllByRecursion (BodyIsDeclared (scripts_of files)) (load_order files)
 
 -- Rows -------------------------------------------------------------------------------------------------------------
 

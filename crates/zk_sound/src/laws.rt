@@ -1,5 +1,5 @@
 // What typed programs promise of their values.
-ghost use Rattle.zk_sound.specs.Laws.{PrimitivesTakeTypes, ActionsTakeTypes, ExpressionsKeepTypes, StatementsKeepTypes, HandlersKeepTypes, InitialsKeepTypes, ExpiriesKeepTypes, RunsKeepTypes, RulesGiveForms, RulesGiveStatements, ValuesHaveTypes, RunsWriteRowsThatFit, ShownRowsFit, TextsTellRows, TypesAreTold};
+ghost use Rattle.zk_sound.specs.Laws.{PrimitivesTakeTypes, ActionsTakeTypes, ExpressionsKeepTypes, StatementsKeepTypes, HandlersKeepTypes, InitialsKeepTypes, ExpiriesKeepTypes, RunsKeepTypes, RulesGiveForms, RulesGiveStatements, ValuesHaveTypes, RunsWriteRowsThatFit, ShownRowsFit, TextsTellRows, TypesAreTold, HeadsAreKnown, BodiesAreDeclared};
 
 use zk_ascii::equal_texts;
 
@@ -48,8 +48,10 @@ pub fn rows_fit_their_columns()
     equal_texts();
 }
 
-/// What is broken is told: where scripts break no rule that is told, no type in them is broken. There is nothing
-/// to run.
+/// What is broken is told: where scripts break no rule that is told, no type in them is broken, and each body has
+/// the parameters and the result of its declaration. There is nothing to run.
 pub fn broken_is_told()
     ensures types { TypesAreTold }
+    ensures heads { HeadsAreKnown }
+    ensures bodies { BodiesAreDeclared }
 {}

@@ -1,5 +1,5 @@
 -- Where no rule is told, the types in heads are known, and each body has the types of its declaration.
-use Rattle.std.proofs.Common.{◌≡◌, ℕ, not, Bool, true, false, List, [], ◌∷◌, ◌++◌, map, Option, Some, None, Ok, Err, refl, sym, ap, ◌∙◌}
+use Rattle.std.proofs.Common.{◌≡◌, ℕ, not, Bool, true, false, List, [], ◌∷◌, Option, Some, None, Ok, Err, refl, ap, ◌∙◌}
 use Rattle.std.specs.Prelude.{◌&&◌, ◌||◌, is_some}
 use Rattle.std.specs.List.{AllByRecursion, list_any, list_all}
 use Rattle.std.proofs.lemmas.Bool.{and_parts}
@@ -17,18 +17,18 @@ use Rattle.zk_tree.specs.declared.types.Type.{«Type»}
 use Rattle.zk_typed.specs.declared.rule.Rule.{Rule}
 use Rattle.zk_typed.specs.declared.rule.Rule.TheVariants as rule
 use Rattle.zk_typed.specs.Checked.{Checked, broken, ◌>>=◌, ◌>>◌, both, each, require, rules_of}
-use Rattle.zk_typed.specs.Declarations.{attr_rules, is_one_of, with_value, const_attribute, type_rules, maybe_rules, param_rules, local_rules, recursive_rules, nothing}
-use Rattle.zk_typed.specs.Declaring.{predefined_names, body_meaning, in_module, is_foreign, by_body, outright_of, scripts_of}
+use Rattle.zk_typed.specs.Declarations.{attr_rules, is_one_of, with_value, const_attribute, type_rules, maybe_rules, param_rules, local_rules, recursive_rules}
+use Rattle.zk_typed.specs.Declaring.{predefined_names, in_module, is_foreign, by_body, outright_of, scripts_of}
 use Rattle.zk_typed.specs.Errors as errors
 use Rattle.zk_typed.specs.Errors.{signature_rules, no_value, bodiless_rules, variable_rules, same_types, same_result, matches, head_rules, kind_of, function_kind, priority_rules, within_of, result_wanted, event_rules, function_head, function_rules, body_made, is_body_of, is_built_in, decl_rules}
 use Rattle.zk_typed.specs.LoadOrder.{File, Home, Stated, load_order}
-use Rattle.zk_typed.specs.Names.{Declared, Meant, Variable, Event, Hook, Function, Word, Signature, Known, Written, declare, whole_name, look_up, find_whole, param_types}
+use Rattle.zk_typed.specs.Names.{Declared, Meant, Event, Hook, Function, Word, Signature, Known, Written, declare, whole_name, look_up, find_whole, param_types}
 use Rattle.zk_typed.specs.Operations.{same_type}
 use Rattle.zk_typed.specs.Resolving.{Scripts, place_in, type_of, maybe_type, params_of, result_of, hushed}
 use Rattle.zk_typed.specs.Statements.{InFunction}
 use Rattle.zk_typed.specs.Types.{ValueType}
 use Rattle.zk_typed.specs.Within.{mentions, maybe_one}
-use Rattle.zk_sound.specs.Telling.{IsKnown, HeadIsKnown, head_types, IsDeclared, BodyIsDeclared}
+use Rattle.zk_sound.specs.Telling.{IsKnown, HeadIsKnown, IsDeclared, BodyIsDeclared}
 use Rattle.zk_sound.proofs.Growth.{all_append, all_map}
 use Rattle.zk_sound.proofs.Names.{OutrightAre, BodiesAre, all_unless, found_among, names_all}
 use Rattle.zk_sound.proofs.Same.{same_type_is}

@@ -1,5 +1,5 @@
 -- A type that is broken has a rule that is told: where none is told, each type is one.
-use Rattle.std.proofs.Common.{◌≡◌, ◌≢◌, ◌≤◌, ℕ, zero, suc, not, Bool, true, false, List, [], ◌∷◌, ◌++◌, map, filter, flat_map, Option, Some, None, Ok, Err, refl, sym, ap, ◌∙◌, arith}
+use Rattle.std.proofs.Common.{◌≡◌, ◌≢◌, ◌≤◌, ℕ, zero, suc, not, Bool, true, false, List, [], ◌∷◌, ◌++◌, Option, Some, None, Ok, Err, refl, sym, ap, ◌∙◌, arith}
 use Rattle.std.specs.Prelude.{◌||◌, if◌then◌else◌, is_some}
 use Rattle.std.specs.List.{AllByRecursion, list_any, list_all}
 use Rattle.std.proofs.lemmas.Bool.{and_parts}
@@ -21,15 +21,14 @@ use Rattle.zk_tree.specs.declared.types.Type.TheOpen as written
 use Rattle.zk_tree.specs.Places.{type_place}
 use Rattle.zk_typed.specs.declared.rule.Rule.TheVariants as rule
 use Rattle.zk_typed.specs.declared.script.types.SimpleType.{SimpleType}
-use Rattle.zk_typed.specs.declared.script.types.SimpleType.TheVariants as simple
 use Rattle.zk_typed.specs.declared.refusal.Broken.{Broken}
 use Rattle.zk_typed.specs.Checked.{Checked, broken, elsewhere, ◌>>=◌, both, each, require, rules_of}
 use Rattle.zk_typed.specs.Declarations.{is_too_deep, parts_rules, type_rules, recursive_rules}
-use Rattle.zk_typed.specs.Declaring.{predefined_names, variable_meaning, outright_of, node_words, words_of, added_words, with_words, unless, in_module, is_foreign, by_body, in_no_module, with_bodies, scripts_of_stated, scripts_of}
+use Rattle.zk_typed.specs.Declaring.{predefined_names, variable_meaning, outright_of, in_module, is_foreign, by_body, scripts_of_stated, scripts_of}
 use Rattle.zk_typed.specs.Errors.{is_told_before, placed, by_place, decl_rules, declares, declared_before, twice_rules, errors_of, errors_from, errors}
 use Rattle.zk_typed.specs.LoadOrder.{File, Home, Stated, load_order}
-use Rattle.zk_typed.specs.Names.{Declared, Meant, KnownType, WrittenType, Word, Event, Hook, Function, Written, Node, RecordNode, EnumNode, declare, whole_name, look_up, find_whole, first_of, enum_number, all_nodes, decl_nodes}
-use Rattle.zk_typed.specs.Resolving.{Scripts, place_in, is_deep, unless_deep, named_type, leads, as_key, type_to, type_of, type_named}
+use Rattle.zk_typed.specs.Names.{Declared, Meant, KnownType, WrittenType, Word, Event, Hook, Function, Written, declare, whole_name, look_up, find_whole, first_of}
+use Rattle.zk_typed.specs.Resolving.{Scripts, place_in, is_deep, unless_deep, named_type, leads, as_key, type_to, type_of}
 use Rattle.zk_typed.specs.Types.{ValueType, Simple}
 use Rattle.zk_typed.specs.Within.{mentions}
 use Rattle.zk_sound.proofs.Growth.{all_map}

@@ -359,7 +359,7 @@ module _ (program : Program) (names : Names) (gives : Option ValueType) where
   form_well depth well context stands locals one (stmt.Break place) is = rw is (λ agree. (agree, sound_require (StmtForm program names gives) (breaks context) rule.Break (place_of context place) (Ok (form.Break (place_of context place))) (λ e logs. tt)))
   form_well depth well context stands locals one (stmt.Expr value) is = rw is (λ agree. (agree, expr_stmt_sound program names gives (env_of context locals) (env_agrees program names gives context stands locals agree) value))
 
-  stmt_to_well : (depth : ℕ) → JudgesWell (stmt_to depth)
+  pub stmt_to_well : (depth : ℕ) → JudgesWell (stmt_to depth)
   stmt_to_well zero context stands locals one = λ agree. (agree, tt)
   stmt_to_well (suc depth) context stands locals one = form_well depth (stmt_to_well depth) context stands locals one (out-Stmt one) refl
 

@@ -26,3 +26,4 @@ pub mod Shown
 pub mod Names
 pub mod Told
 pub mod Heads
+pub mod Programs

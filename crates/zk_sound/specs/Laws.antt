@@ -20,6 +20,7 @@ use Rattle.zk_typed.specs.Log.{Row}
 use Rattle.zk_typed.specs.Meaning.{calls, value, does}
 use Rattle.zk_typed.specs.Primitives.{perform, act}
 use Rattle.zk_typed.specs.Program.{Program, Global}
+use Rattle.zk_typed.specs.Programs.{Typed as TypedProgram}
 use Rattle.zk_typed.specs.Running.{Item, expire_of, world_in, run}
 use Rattle.zk_typed.specs.State.{World}
 use Rattle.zk_typed.specs.Statements.{Context, Locals, body_typed}
@@ -31,8 +32,8 @@ use Rattle.zk_ascii.specs.Text.{row_text}
 use Rattle.zk_sound.specs.Holding.{Kinds, HaveTypes}
 use Rattle.zk_sound.specs.Rows.{RowFits, CellIsBytes, shown_cell, shown_column}
 use Rattle.zk_sound.specs.Worlds.{Names, QueuedFits, WorldFits}
-use Rattle.zk_sound.specs.Having.{Takes, ReadsNoName, ActionTakes, ActsOnNoName, HasForm, StmtFits, ProgramFits}
-use Rattle.zk_sound.specs.Agreeing.{EnvAgrees, IsClear, LogsFit, StmtLogsFit, LocalsAgree, StandsIn}
+use Rattle.zk_sound.specs.Having.{Takes, ReadsNoName, ActionTakes, ActsOnNoName, HasForm, StmtFits, FunctionFits, HandlerFits, ProgramFits}
+use Rattle.zk_sound.specs.Agreeing.{Agrees, EnvAgrees, IsClear, LogsFit, StmtLogsFit, LocalsAgree, StandsIn}
 use Rattle.zk_sound.specs.Telling.{HeadIsKnown, BodyIsDeclared}
 use Rattle.zk_sound.specs.Keeping.{Keeps, Stopped, Any, Of, FlowOf, strictly, loose}
 
@@ -119,6 +120,17 @@ HeadsAreKnown = (files : List File) → errors files ≡ [] → AllByRecursion (
 -- and a body has the types of the declaration that is found by its name.
 abbrev pub BodiesAreDeclared : Type 0
 BodiesAreDeclared = (files : List File) → errors files ≡ [] → AllByRecursion (BodyIsDeclared (scripts_of files)) (load_order files)
+
+-- The functions of a typed program that says what its scripts say have the types of their declarations, where what they say
+-- of logs fits,
+abbrev pub TypedFunctionsFit : Type 0
+TypedFunctionsFit = (files : List File) (program : Program) → TypedProgram files program → Agrees program (scripts_of files) →
+    AllByRecursion (λ one. StmtLogsFit program one.body) program.functions → AllByRecursion (FunctionFits program) program.functions
+
+-- and so have its handlers.
+abbrev pub TypedHandlersFit : Type 0
+TypedHandlersFit = (files : List File) (program : Program) → TypedProgram files program → Agrees program (scripts_of files) →
+    AllByRecursion (λ one. StmtLogsFit program one.body) program.handlers → AllByRecursion (HandlerFits program) program.handlers
 
 -- Rows -------------------------------------------------------------------------------------------------------------
 

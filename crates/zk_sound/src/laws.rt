@@ -1,5 +1,5 @@
 // What typed programs promise of their values.
-ghost use Rattle.zk_sound.specs.Laws.{PrimitivesTakeTypes, ActionsTakeTypes, ExpressionsKeepTypes, StatementsKeepTypes, HandlersKeepTypes, InitialsKeepTypes, ExpiriesKeepTypes, RunsKeepTypes, RulesGiveForms, RulesGiveStatements, ValuesHaveTypes, RunsWriteRowsThatFit, ShownRowsFit, TextsTellRows, TypesAreTold, HeadsAreKnown, BodiesAreDeclared};
+ghost use Rattle.zk_sound.specs.Laws.{PrimitivesTakeTypes, ActionsTakeTypes, ExpressionsKeepTypes, StatementsKeepTypes, HandlersKeepTypes, InitialsKeepTypes, ExpiriesKeepTypes, RunsKeepTypes, RulesGiveForms, RulesGiveStatements, ValuesHaveTypes, RunsWriteRowsThatFit, ShownRowsFit, TextsTellRows, TypesAreTold, HeadsAreKnown, BodiesAreDeclared, TypedFunctionsFit, TypedHandlersFit};
 
 use zk_ascii::equal_texts;
 
@@ -54,4 +54,11 @@ pub fn broken_is_told()
     ensures types { TypesAreTold }
     ensures heads { HeadsAreKnown }
     ensures bodies { BodiesAreDeclared }
+{}
+
+/// The bodies of the program of scripts that break no rule have the types of their declarations, where the program
+/// says what its scripts say and what the bodies say of logs fits. There is nothing to run.
+pub fn typed_bodies_fit()
+    ensures functions { TypedFunctionsFit }
+    ensures handlers { TypedHandlersFit }
 {}

@@ -2,31 +2,28 @@
 use Rattle.std.proofs.Common.{◌≡◌, ℕ, zero, suc, ◌+◌, Bool, true, false, cond, List, [], ◌∷◌, ◌++◌, length, map, filter, flat_map, Option, Some, None, Ok, Err, refl, sym, ap, subst, ◌∙◌, arith, bytes_eq}
 use Rattle.std.specs.Prelude.{if◌then◌else◌, slice_get}
 use Rattle.std.specs.List.{AllByRecursion}
-use Rattle.zk_base.specs.declared.numbers.EventNo.{EventNo}
-use Rattle.zk_tree.specs.declared.decl.BodyKind.{BodyKind}
 use Rattle.zk_tree.specs.declared.decl.BodyKind.TheVariants as body
 use Rattle.zk_tree.specs.declared.decl.Decl.{Decl, out-Decl}
 use Rattle.zk_tree.specs.declared.decl.Decl.TheOpen.{Decl-F}
 use Rattle.zk_tree.specs.declared.decl.Decl.TheOpen as decl
 use Rattle.zk_tree.specs.declared.stmt.Block.{Block}
-use Rattle.zk_tree.specs.declared.types.Attr.{Attr}
 use Rattle.zk_tree.specs.declared.types.Param.{Param, out-Param}
 use Rattle.zk_tree.specs.declared.types.Type.{«Type»}
-use Rattle.zk_typed.specs.Checked.{Checked, ◌>>=◌, both, each, elsewhere}
-use Rattle.zk_typed.specs.Declarations.{variable_type, variables, global_type_to, told_type, global_type}
+use Rattle.zk_typed.specs.Checked.{Checked, ◌>>=◌, both, each}
+use Rattle.zk_typed.specs.Declarations.{variable_type, variables, global_type_to, global_type}
 use Rattle.zk_typed.specs.Declaring.{scripts_of}
 use Rattle.zk_typed.specs.Errors.{errors, param_locals, body_context, body_made, within_of, result_wanted, kind_of, function_kind}
 use Rattle.zk_typed.specs.Forms as form
 use Rattle.zk_typed.specs.LoadOrder.{File, Home, Stated, load_order}
 use Rattle.zk_typed.specs.Names.{Declared, Meant, Variable, Event, Signature, Written, whole_name, look_up, find_whole}
 use Rattle.zk_typed.specs.Predefined as type
-use Rattle.zk_typed.specs.Program.{Program, Function, Handler, Global}
-use Rattle.zk_typed.specs.Programs.{checked_or, global_made, globals_from, no_stmt, stmt_in, priority_of, function_in, no_function, first_or, function_of, handler_in, typed_program, Typed}
+use Rattle.zk_typed.specs.Program.{Program, Function, Handler}
+use Rattle.zk_typed.specs.Programs.{checked_or, globals_from, no_stmt, stmt_in, function_in, no_function, first_or, function_of, handler_in, typed_program, Typed}
 use Rattle.zk_typed.specs.Resolving.{Scripts, type_of, maybe_type, params_of, result_of, hushed}
 use Rattle.zk_typed.specs.Statements as statement
 use Rattle.zk_typed.specs.Statements.{Within, InFunction, InHook, InHandler, Locals, stmt_to, body_typed}
 use Rattle.zk_typed.specs.Types.{ValueType}
-use Rattle.zk_typed.specs.Typing.{LocalName, Wanted, Wants, wanted_of, is_variable, is_event, is_function, number_among}
+use Rattle.zk_typed.specs.Typing.{LocalName, wanted_of, is_variable, is_function}
 use Rattle.zk_typed.specs.Within.{depth_max}
 use Rattle.zk_sound.specs.Agreeing.{Agrees, LocalsAgree, StandsIn, WithinGives, StmtLogsFit}
 use Rattle.zk_sound.specs.Having.{BodyFits, FunctionFits, HandlerFits}
@@ -34,9 +31,9 @@ use Rattle.zk_sound.specs.Telling.{IsDeclared, BodyIsDeclared}
 use Rattle.zk_sound.specs.Worlds.{Names, global_names, event_params}
 use Rattle.zk_sound.specs.Worlds as worlds
 use Rattle.zk_sound.proofs.Composed.{block_well, stmt_to_well, body_form}
-use Rattle.zk_sound.proofs.Growth.{all_map, all_append}
+use Rattle.zk_sound.proofs.Growth.{all_append}
 use Rattle.zk_sound.proofs.Heads.{bodies_declared}
-use Rattle.zk_sound.proofs.Written.{all_met, all_through}
+use Rattle.zk_sound.proofs.Written.{all_met}
 
 -- Names of bodies ----------------------------------------------------------------------------------------------------
 

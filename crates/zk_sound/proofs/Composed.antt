@@ -89,7 +89,7 @@ module _ (program : Program) (names : Names) (gives : Option ValueType) (context
   loops : StandsIn program gives (looping context)
   loops = record { scripts = stands.scripts; globals = stands.globals; within = stands.within }
 
-  init_sound : (locals : Locals) → LocalsAgree names locals → (wanted : Wanted) (one : Init) → Sound (Formed program names wanted) (init_typed (env_of context locals) wanted one)
+  pub init_sound : (locals : Locals) → LocalsAgree names locals → (wanted : Wanted) (one : Init) → Sound (Formed program names wanted) (init_typed (env_of context locals) wanted one)
   init_sound locals agree wanted (init.Value one) = expr_sound program names (env_of context locals) (env_agrees locals agree) wanted one
   init_sound locals agree wanted (init.Braces place values comma) = braces_sound program names (expr_typed (env_of context locals)) (expr_sound program names (env_of context locals) (env_agrees locals agree)) (env_of context locals) (at (env_of context locals) place) values wanted
 

@@ -27,3 +27,4 @@ pub mod Names
 pub mod Told
 pub mod Heads
 pub mod Programs
+pub mod Initials

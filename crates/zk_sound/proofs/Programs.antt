@@ -192,11 +192,10 @@ module _ (program : Program) (scripts : Scripts) (agrees : Agrees program script
 
 -- a global or a constant by its number
 module _ (scripts : Scripts) where
-  IsGlobal : Declared → Type 0
+  abbrev pub IsGlobal : Declared → Type 0
   IsGlobal one = is_variable one ≡ true
 
-  all_globals : (names : List Declared) → AllByRecursion IsGlobal (filter is_variable names)
-  unfolding IsGlobal
+  pub all_globals : (names : List Declared) → AllByRecursion IsGlobal (filter is_variable names)
   all_globals [] = tt
   all_globals (one ∷ names) = by (is_variable one) refl (all_globals names)
     where
@@ -204,9 +203,8 @@ module _ (scripts : Scripts) where
       by true e rest = (e, rest)
       by false e rest = rest
 
-  type_at : (first : ℕ) (ones : List Declared) (number : ℕ) (one : Declared) → AllByRecursion IsGlobal ones → slice_get ones number ≡ Some one
+  pub type_at : (first : ℕ) (ones : List Declared) (number : ℕ) (one : Declared) → AllByRecursion IsGlobal ones → slice_get ones number ≡ Some one
       → worlds.type_of (map (λ one. Some one.global_type) (globals_from scripts first ones)) number ≡ Some (checked_or type.bool (global_type scripts (first + number)))
-  unfolding IsGlobal
   type_at first [] number one all there = absurd cc
   type_at first (other ∷ ones) number one all there = by other.meant other number (type_at (first + 1) ones) all there
     where
@@ -219,7 +217,7 @@ module _ (scripts : Scripts) where
       by (Variable home lasting tree init attrs) other (suc number) later all there = let same : first + suc number ≡ first + 1 + number = omega arith in rw same (later number one all.1 there)
       by meant other number later all there = absurd cc
 
-  globals_are : (number : ℕ) (of : ValueType) → global_type scripts number ≡ Ok of → worlds.type_of (map (λ one. Some one.global_type) (globals_from scripts 0 (variables scripts))) number ≡ Some of
+  pub globals_are : (number : ℕ) (of : ValueType) → global_type scripts number ≡ Ok of → worlds.type_of (map (λ one. Some one.global_type) (globals_from scripts 0 (variables scripts))) number ≡ Some of
   globals_are number of is = by (slice_get (variables scripts) number) refl
     where
       never : (found : Option Declared) → found ≡ None → hushed (variable_type scripts (global_type_to (length (variables scripts)) scripts) found) ≡ Ok of → ⊥

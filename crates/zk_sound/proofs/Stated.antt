@@ -50,7 +50,7 @@ StmtForm program names gives one = StmtLogsFit program one → StmtFits program 
 -- Assignments ------------------------------------------------------------------------------------------------------
 
 -- what may be added to a value of a type is taken by the operator that adds it
-update_takes : (by : Assigning) (of wanted : ValueType) → added_type by of ≡ Some wanted → UpdateTakes (binary_of by) of wanted
+pub update_takes : (by : Assigning) (of wanted : ValueType) → added_type by of ≡ Some wanted → UpdateTakes (binary_of by) of wanted
 update_takes assigning.Add (Simple simple.Count) wanted is = (simple.Count, sym (one_of is), refl)
   where
     one_of : Some type.count ≡ Some wanted → type.count ≡ wanted

@@ -1,5 +1,6 @@
 -- Programs that say what their scripts say: the types of fields, of functions, hooks and events, of globals and of logs.
 use Rattle.std.specs.Prelude.{◌≡◌, ℕ, true, List, Option, Some, None, Ok, slice_get}
+use Rattle.std.specs.List.{AllByRecursion}
 use Rattle.zk_base.specs.declared.numbers.RecordNo.{RecordNo}
 use Rattle.zk_typed.specs.declared.script.primitive.Primitive.{Primitive}
 use Rattle.zk_typed.specs.declared.script.primitive.Primitive.TheVariants as primitive
@@ -7,7 +8,7 @@ use Rattle.zk_typed.specs.Forms as form
 use Rattle.zk_typed.specs.Forms.{Expr, Exprs, Givens, Stmt, Stmts}
 use Rattle.zk_typed.specs.LogCalls.{is_log_word, stream_type}
 use Rattle.zk_typed.specs.Names.{Declared, Word, Event, Hook, Function, Signature, look_up}
-use Rattle.zk_typed.specs.Program.{Program, Function as Body}
+use Rattle.zk_typed.specs.Program.{Program, Global, Function as Body}
 use Rattle.zk_typed.specs.Resolving.{Scripts, FieldInfo, fields_of, params_of, result_of}
 use Rattle.zk_typed.specs.Statements.{Context, Within, InFunction}
 use Rattle.zk_typed.specs.Types.{ValueType}
@@ -101,6 +102,14 @@ abbrev mutual
   pub StmtsLogsFit : Program → Stmts → Type 0
   StmtsLogsFit program form.NoStmt = Unit {0}
   StmtsLogsFit program (form.AndStmt first others) = StmtLogsFit program first × StmtsLogsFit program others
+
+-- what an initial value says of logs fits, where there is one
+abbrev pub InitialLogsFit : Program → Option Expr → Type 0
+InitialLogsFit program None = Unit {0}
+InitialLogsFit program (Some one) = LogsFit program one
+
+abbrev pub ValuesLogFit : Program → Global → Type 0
+ValuesLogFit program one = InitialLogsFit program one.initial × AllByRecursion (LogsFit program) one.added
 
 -- Bodies -----------------------------------------------------------------------------------------------------------
 

@@ -13,6 +13,8 @@ use Rattle.zk_typed.specs.Declaring.{scripts_of}
 use Rattle.zk_typed.specs.Errors.{errors}
 use Rattle.zk_typed.specs.LoadOrder.{File, Home, load_order}
 use Rattle.zk_typed.specs.Resolving.{type_of}
+use Rattle.zk_base.specs.declared.numbers.RecordNo.{RecordNo}
+use Rattle.zk_typed.specs.Columns.{record_fields}
 use Rattle.zk_typed.specs.Dispatch.{dispatch, initial_body, world_after}
 use Rattle.zk_typed.specs.Expressions.{expr_typed}
 use Rattle.zk_typed.specs.Forms.{Expr, Stmt}
@@ -32,8 +34,8 @@ use Rattle.zk_ascii.specs.Text.{row_text}
 use Rattle.zk_sound.specs.Holding.{Kinds, HaveTypes}
 use Rattle.zk_sound.specs.Rows.{RowFits, CellIsBytes, shown_cell, shown_column}
 use Rattle.zk_sound.specs.Worlds.{Names, QueuedFits, WorldFits}
-use Rattle.zk_sound.specs.Having.{Takes, ReadsNoName, ActionTakes, ActsOnNoName, HasForm, StmtFits, FunctionFits, HandlerFits, ProgramFits}
-use Rattle.zk_sound.specs.Agreeing.{Agrees, EnvAgrees, IsClear, LogsFit, StmtLogsFit, LocalsAgree, StandsIn}
+use Rattle.zk_sound.specs.Having.{Takes, ReadsNoName, ActionTakes, ActsOnNoName, HasForm, StmtFits, FieldBegins, FunctionFits, HandlerFits, ValuesFit, ProgramFits}
+use Rattle.zk_sound.specs.Agreeing.{Agrees, EnvAgrees, IsClear, LogsFit, ValuesLogFit, StmtLogsFit, LocalsAgree, StandsIn}
 use Rattle.zk_sound.specs.Telling.{HeadIsKnown, BodyIsDeclared}
 use Rattle.zk_sound.specs.Keeping.{Keeps, Stopped, Any, Of, FlowOf, strictly, loose}
 
@@ -131,6 +133,15 @@ TypedFunctionsFit = (files : List File) (program : Program) → TypedProgram fil
 abbrev pub TypedHandlersFit : Type 0
 TypedHandlersFit = (files : List File) (program : Program) → TypedProgram files program → Agrees program (scripts_of files) →
     AllByRecursion (λ one. StmtLogsFit program one.body) program.handlers → AllByRecursion (HandlerFits program) program.handlers
+
+-- So have the values that its globals begin with,
+abbrev pub TypedValuesFit : Type 0
+TypedValuesFit = (files : List File) (program : Program) → TypedProgram files program → Agrees program (scripts_of files) →
+    AllByRecursion (ValuesLogFit program) program.globals → AllByRecursion (ValuesFit program) program.globals
+
+-- and its fields begin with values of their types, whatever else.
+abbrev pub TypedFieldsBegin : Type 0
+TypedFieldsBegin = (files : List File) (program : Program) → TypedProgram files program → (number : RecordNo) → AllByRecursion FieldBegins (record_fields program number)
 
 -- Rows -------------------------------------------------------------------------------------------------------------
 

@@ -1,5 +1,5 @@
 // What typed programs promise of their values.
-ghost use Rattle.zk_sound.specs.Laws.{PrimitivesTakeTypes, ActionsTakeTypes, ExpressionsKeepTypes, StatementsKeepTypes, HandlersKeepTypes, InitialsKeepTypes, ExpiriesKeepTypes, RunsKeepTypes, RulesGiveForms, RulesGiveStatements, ValuesHaveTypes, RunsWriteRowsThatFit, ShownRowsFit, TextsTellRows, TypesAreTold, HeadsAreKnown, BodiesAreDeclared, TypedFunctionsFit, TypedHandlersFit};
+ghost use Rattle.zk_sound.specs.Laws.{PrimitivesTakeTypes, ActionsTakeTypes, ExpressionsKeepTypes, StatementsKeepTypes, HandlersKeepTypes, InitialsKeepTypes, ExpiriesKeepTypes, RunsKeepTypes, RulesGiveForms, RulesGiveStatements, ValuesHaveTypes, RunsWriteRowsThatFit, ShownRowsFit, TextsTellRows, TypesAreTold, HeadsAreKnown, BodiesAreDeclared, TypedFunctionsFit, TypedHandlersFit, TypedValuesFit, TypedFieldsBegin};
 
 use zk_ascii::equal_texts;
 
@@ -56,9 +56,12 @@ pub fn broken_is_told()
     ensures bodies { BodiesAreDeclared }
 {}
 
-/// The bodies of the program of scripts that break no rule have the types of their declarations, where the program
-/// says what its scripts say and what the bodies say of logs fits. There is nothing to run.
+/// The bodies, initial values and fields of the program of scripts that break no rule have the types of their
+/// declarations, where the program says what its scripts say and what they say of logs fits. There is nothing to
+/// run.
 pub fn typed_bodies_fit()
     ensures functions { TypedFunctionsFit }
     ensures handlers { TypedHandlersFit }
+    ensures values { TypedValuesFit }
+    ensures fields { TypedFieldsBegin }
 {}

@@ -1,5 +1,6 @@
+use Rattle.zk_sound.proofs.Initials.{fields_begin, values_fit}
 use Rattle.zk_sound.proofs.Programs.{functions_fit, handlers_fit}
 use Rattle.zk_sound.proofs.laws.typed_bodies_fit.Goals as goal
 
 pub returns : goal.returns
-returns c = record { functions = functions_fit; handlers = handlers_fit }
+returns c = record { functions = functions_fit; handlers = handlers_fit; values = values_fit; fields = fields_begin }

@@ -1,8 +1,8 @@
 -- The initial values of a typed program, and what its fields begin with, have the types of their places.
-use Rattle.std.proofs.Common.{◌≡◌, ℕ, zero, suc, ◌+◌, Bool, true, false, List, [], ◌∷◌, ◌++◌, length, map, filter, codes, Option, Some, None, Ok, Err, refl, sym, ap, subst, ◌∙◌, arith}
+use Rattle.std.proofs.Common.{◌≡◌, ℕ, suc, ◌+◌, Bool, true, false, List, [], ◌∷◌, ◌++◌, map, codes, Option, Some, None, Ok, Err, refl, sym, subst, arith}
 use Rattle.std.specs.Prelude.{◌&&◌, ◌||◌, if◌then◌else◌, slice_get}
 use Rattle.std.specs.List.{AllByRecursion}
-use Rattle.std.specs.Option.{option_map, option_and_then}
+use Rattle.std.specs.Option.{option_map}
 use Rattle.std.proofs.lemmas.Bool.{and_parts}
 use Rattle.zk_base.specs.declared.numbers.RecordNo.{RecordNo}
 use Rattle.zk_tree.specs.declared.decl.Redefining.{Redefining}
@@ -13,7 +13,6 @@ use Rattle.zk_tree.specs.declared.expr.Expr.TheOpen.{Expr-F}
 use Rattle.zk_tree.specs.declared.expr.Expr.TheOpen as written
 use Rattle.zk_tree.specs.declared.expr.Item.{Item}
 use Rattle.zk_tree.specs.declared.expr.Link.{Link}
-use Rattle.zk_tree.specs.declared.expr.Literal.{Literal as Token}
 use Rattle.zk_tree.specs.declared.expr.Literal.TheVariants as token
 use Rattle.zk_tree.specs.declared.expr.Part.{Part}
 use Rattle.zk_tree.specs.declared.operator.Assigning.TheVariants as assigning
@@ -23,11 +22,10 @@ use Rattle.zk_tree.specs.declared.place.Place.{Place}
 use Rattle.zk_tree.specs.declared.stmt.Init.{Init}
 use Rattle.zk_tree.specs.declared.types.Attr.{Attr}
 use Rattle.zk_typed.specs.declared.script.literal.DefaultValue.{DefaultValue}
-use Rattle.zk_typed.specs.declared.script.literal.DefaultValue.TheVariants.{Literal, EmptyTable, EmptyVector}
+use Rattle.zk_typed.specs.declared.script.literal.DefaultValue.TheVariants.{Literal}
 use Rattle.zk_typed.specs.declared.script.literal.Literal as value
 use Rattle.zk_typed.specs.declared.script.literal.Literal.TheVariants as literal
 use Rattle.zk_typed.specs.declared.script.literal.Sign.TheVariants.{Plain, Converted, Negated}
-use Rattle.zk_typed.specs.declared.script.primitive.Primitive.{Primitive}
 use Rattle.zk_typed.specs.declared.script.primitive.Primitive.TheVariants as primitive
 use Rattle.zk_typed.specs.declared.script.types.SimpleType.{SimpleType}
 use Rattle.zk_typed.specs.declared.script.types.SimpleType.TheVariants as simple
@@ -41,20 +39,20 @@ use Rattle.zk_typed.specs.LoadOrder.{File, Home}
 use Rattle.zk_typed.specs.Names.{Declared, Meant, Variable}
 use Rattle.zk_typed.specs.Operations.{same_type, same_simple}
 use Rattle.zk_typed.specs.Predefined as type
-use Rattle.zk_typed.specs.Program.{Program, Field, RecordType, Global}
-use Rattle.zk_typed.specs.Programs.{checked_or, if_checked, numbers_from, empty_default, field_begins, field_of, record_of, records_of, since_set, default_type, default_of, shaped, with_shape, given_value, added_to, first_given, later_given, all_given, expiry_of, global_made, globals_from, typed_program, Typed}
+use Rattle.zk_typed.specs.Program.{Program, RecordType}
+use Rattle.zk_typed.specs.Programs.{checked_or, if_checked, empty_default, field_of, record_of, since_set, default_of, shaped, given_value, added_to, first_given, later_given, all_given, expiry_of, global_made, globals_from, typed_program, Typed}
 use Rattle.zk_typed.specs.Resolving.{Scripts, FieldInfo, fields_of, attr_value}
 use Rattle.zk_typed.specs.Statements.{InHandler, init_typed, empty_of}
 use Rattle.zk_typed.specs.Types.{ValueType, Simple, Record, Table, Set, Vector}
 use Rattle.zk_typed.specs.Typing.{Env, Wants, expr_place, is_variable} 
 use Rattle.zk_typed.specs.Typing as typing
 use Rattle.zk_typed.specs.View.{literal_value}
-use Rattle.zk_sound.specs.Agreeing.{Agrees, LogsFit, LocalsAgree, StandsIn, InitialLogsFit, ValuesLogFit}
+use Rattle.zk_sound.specs.Agreeing.{Agrees, LogsFit, InitialLogsFit, ValuesLogFit}
 use Rattle.zk_sound.specs.Having.{FieldBegins, HasForm, UpdateTakes, InitialFits, AddedFits, ValuesFit}
 use Rattle.zk_sound.specs.Holding.{is_kind, DefaultFits, MayBegin}
 use Rattle.zk_sound.specs.Worlds.{global_names}
 use Rattle.zk_sound.specs.Worlds as worlds
-use Rattle.zk_sound.proofs.Checks.{Sound, sound_ok}
+use Rattle.zk_sound.proofs.Checks.{Sound}
 use Rattle.zk_sound.proofs.Composed.{init_sound}
 use Rattle.zk_sound.proofs.Formed.{Formed, at_type}
 use Rattle.zk_sound.proofs.Growth.{all_append, all_get}

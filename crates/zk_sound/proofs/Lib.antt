@@ -28,3 +28,4 @@ pub mod Told
 pub mod Heads
 pub mod Programs
 pub mod Initials
+pub mod Whole

@@ -102,7 +102,7 @@ module _ (program : Program) (scripts : Scripts) (agrees : Agrees program script
       let (rest, begin) = begins_with types names (λ number of there. let (one, at, typed) = params_at scripts home params types own number of there in first.of number one of at typed) in
       record { locals = rest; fits = subst (λ (names : Names). Rattle.zk_sound.specs.Having.StmtFits program names gives made) begin (body_form program names gives context (param_locals scripts home params) block made stands agree is logs) }
 
-  stated_fits : (home : Home) (within : Within) (params : List Param) (block : Block) (types : List ValueType) (gives : Option ValueType) → each (λ param. type_of scripts home (out-Param param).param_type) params ≡ Ok types
+  pub stated_fits : (home : Home) (within : Within) (params : List Param) (block : Block) (types : List ValueType) (gives : Option ValueType) → each (λ param. type_of scripts home (out-Param param).param_type) params ≡ Ok types
       → WithinGives within gives → StmtLogsFit program (stmt_in (body_made scripts home within params block)) → BodyFits program types gives (stmt_in (body_made scripts home within params block))
   stated_fits home within params block types gives own ends logs = by (body_made scripts home within params block).made refl
     where

@@ -1,9 +1,10 @@
 -- Programs that say what their scripts say: the types of fields, of functions, hooks and events, of globals and of logs.
-use Rattle.std.specs.Prelude.{◌≡◌, ℕ, true, List, Option, Some, None, Ok, slice_get}
+use Rattle.std.specs.Prelude.{◌≡◌, ℕ, true, filter, List, Option, Some, None, Ok, slice_get}
 use Rattle.std.specs.List.{AllByRecursion}
 use Rattle.zk_base.specs.declared.numbers.RecordNo.{RecordNo}
 use Rattle.zk_typed.specs.declared.script.primitive.Primitive.{Primitive}
 use Rattle.zk_typed.specs.declared.script.primitive.Primitive.TheVariants as primitive
+use Rattle.zk_typed.specs.Columns.{record_fields}
 use Rattle.zk_typed.specs.Forms as form
 use Rattle.zk_typed.specs.Forms.{Expr, Exprs, Givens, Stmt, Stmts}
 use Rattle.zk_typed.specs.LogCalls.{is_log_word, stream_type}
@@ -15,7 +16,7 @@ use Rattle.zk_typed.specs.Types.{ValueType}
 use Rattle.zk_typed.specs.Typing.{Env, LocalName, Wanted, Nothing, Wants, Unclear, number_among, is_event, is_hook, is_function}
 use Rattle.zk_sound.specs.Holding.{is_word}
 use Rattle.zk_sound.specs.Worlds.{Names, type_of, global_names, field_type, hook_params, event_params, row_type}
-use Rattle.zk_sound.specs.Having.{CallTakes, MayGive, LogCallFits}
+use Rattle.zk_sound.specs.Having.{CallTakes, MayGive, LogCallFits, ExpiryTakes, FieldLogs, WordFits}
 
 -- a function of a program is called with arguments of these types, and gives a value of a type, or none
 pub record FunctionAgrees (program : Program) (number : ℕ) (params : List ValueType) (gives : Option ValueType) : Type 0 where
@@ -129,3 +130,18 @@ pub record StandsIn (program : Program) (gives : Option ValueType) (context : Co
   pub scripts : Agrees program context.scripts
   pub globals : (number : ℕ) (of : ValueType) → context.global_type number ≡ Ok of → type_of (global_names program) number ≡ Some of
   pub within : WithinGives context.within gives
+
+-- Whole programs ---------------------------------------------------------------------------------------------------
+
+-- A program says what its scripts say: each hook has one name, what its bodies and values say of logs fits, an expiry function
+-- takes its table, a logged field is of a type that columns have, and the texts of its words stand for themselves.
+pub record SaysItsScripts (program : Program) (scripts : Scripts) : Type 0 where
+  pub agrees : Agrees program scripts
+  pub hooks_once : (number : ℕ) (one : Declared) → slice_get (filter is_hook scripts.names) number ≡ Some one → number_among is_hook scripts one ≡ number
+  pub functions : AllByRecursion (λ one. StmtLogsFit program one.body) program.functions
+  pub hooks : AllByRecursion (λ hook. AllByRecursion (λ one. StmtLogsFit program one.body) hook.bodies) program.hooks
+  pub handlers : AllByRecursion (λ one. StmtLogsFit program one.body) program.handlers
+  pub values : AllByRecursion (ValuesLogFit program) program.globals
+  pub expiry : AllByRecursion (λ one. ExpiryTakes program one.global_type one.expire_func) program.globals
+  pub columns : (number : RecordNo) → AllByRecursion FieldLogs (record_fields program number)
+  pub logs : AllByRecursion WordFits program.logs

@@ -35,7 +35,7 @@ use Rattle.zk_sound.specs.Holding.{Kinds, HaveTypes}
 use Rattle.zk_sound.specs.Rows.{RowFits, CellIsBytes, shown_cell, shown_column}
 use Rattle.zk_sound.specs.Worlds.{Names, QueuedFits, WorldFits}
 use Rattle.zk_sound.specs.Having.{Takes, ReadsNoName, ActionTakes, ActsOnNoName, HasForm, StmtFits, FieldBegins, FunctionFits, HandlerFits, ValuesFit, ProgramFits}
-use Rattle.zk_sound.specs.Agreeing.{Agrees, EnvAgrees, IsClear, LogsFit, ValuesLogFit, StmtLogsFit, LocalsAgree, StandsIn}
+use Rattle.zk_sound.specs.Agreeing.{Agrees, SaysItsScripts, EnvAgrees, IsClear, LogsFit, ValuesLogFit, StmtLogsFit, LocalsAgree, StandsIn}
 use Rattle.zk_sound.specs.Telling.{HeadIsKnown, BodyIsDeclared}
 use Rattle.zk_sound.specs.Keeping.{Keeps, Stopped, Any, Of, FlowOf, strictly, loose}
 
@@ -142,6 +142,10 @@ TypedValuesFit = (files : List File) (program : Program) → TypedProgram files 
 -- and its fields begin with values of their types, whatever else.
 abbrev pub TypedFieldsBegin : Type 0
 TypedFieldsBegin = (files : List File) (program : Program) → TypedProgram files program → (number : RecordNo) → AllByRecursion FieldBegins (record_fields program number)
+
+-- Where a typed program says what its scripts say, no body of it stops for a type: it is one that fits.
+abbrev pub TypedProgramsFit : Type 0
+TypedProgramsFit = (files : List File) (program : Program) → TypedProgram files program → SaysItsScripts program (scripts_of files) → ProgramFits program
 
 -- Rows -------------------------------------------------------------------------------------------------------------
 

@@ -166,9 +166,11 @@ module _ (scripts : Scripts) (tells : (home : Home) (tree : «Type») → Tells 
       let rest = both (local_rules scripts home block) (body_made scripts home (InFunction (result_wanted scripts home «result»)) params block).made in
       let parts = untold_both first (both head rest) (untold_bind (both first (both head rest)) _ e) in
       let types = untold_both (param_rules scripts home [] params) (maybe_rules scripts home «result») parts.0 in
-      let declared = find_whole scripts.names home.module_name whole in
-      (params_known home [] params types.0, result_known home «result» types.1,
-      untold_require (not (list_any (is_body_of whole) earlier || is_built_in declared)) rule.Twice place (head_rules scripts home place name function_kind params «result» declared) (untold_both head rest parts.1).0)
+      let declared = find_whole scripts.names home.module_name whole in (
+        params_known home [] params types.0,
+        result_known home «result» types.1,
+        untold_require (not (list_any (is_body_of whole) earlier || is_built_in declared)) rule.Twice place (head_rules scripts home place name function_kind params «result» declared) (untold_both head rest parts.1).0,
+      )
 
   bodies_known : (one : Stated) → Untold scripts one → BodiesAre DeclaredIsKnown one
   unfolding DeclaredIsKnown MeantIsKnown SignatureIsKnown
@@ -254,7 +256,7 @@ module _ (scripts : Scripts) (tells : (home : Home) (tree : «Type») → Tells 
           let (own_types, plain, quiet) = each_known home params own in
           let (own_gives, given_is) = given in
           let same = matched place (each (λ param. hushed (type_of scripts home (out-Param param).param_type)) params) (hushed (maybe_type scripts home «result»)) (params_of scripts signature) (result_of scripts signature) own_types own_gives types gives
-              quiet (ap hushed given_is) takes results untold in
+          quiet (ap hushed given_is) takes results untold in
           record {
             declared = one;
             there = refl;

@@ -44,7 +44,7 @@ use Rattle.zk_typed.specs.Programs.{checked_or, if_checked, empty_default, field
 use Rattle.zk_typed.specs.Resolving.{Scripts, FieldInfo, fields_of, attr_value}
 use Rattle.zk_typed.specs.Statements.{InHandler, init_typed, empty_of}
 use Rattle.zk_typed.specs.Types.{ValueType, Simple, Record, Table, Set, Vector}
-use Rattle.zk_typed.specs.Typing.{Env, Wants, expr_place, is_variable} 
+use Rattle.zk_typed.specs.Typing.{Env, Wants, expr_place, is_variable}
 use Rattle.zk_typed.specs.Typing as typing
 use Rattle.zk_typed.specs.View.{literal_value}
 use Rattle.zk_sound.specs.Agreeing.{Agrees, LogsFit, InitialLogsFit, ValuesLogFit}
@@ -311,9 +311,10 @@ module _ (program : Program) (scripts : Scripts) (agrees : Agrees program script
   global_fits : (number : ℕ) (one : Declared) (home : Home) (attrs : List Attr) → worlds.type_of (global_names program) number ≡ Some (checked_or type.bool (global_type scripts number)) → ValuesLogFit program (global_made scripts number one home attrs) → ValuesFit program (global_made scripts number one home attrs)
   global_fits number one home attrs typed logs =
       let of = checked_or type.bool (global_type scripts number) in
-      let given = since_set [] (values_of scripts one.name) in
-      (initial_fits (expiry_of scripts home attrs) (default_of scripts home of attrs) of (first_given scripts number of given) (default_well home of attrs) (first_fits number of given typed) logs.0,
-      added_fits of (later_given given) (later_adds given (since_adds [] (values_of scripts one.name) tt)) logs.1)
+      let given = since_set [] (values_of scripts one.name) in (
+        initial_fits (expiry_of scripts home attrs) (default_of scripts home of attrs) of (first_given scripts number of given) (default_well home of attrs) (first_fits number of given typed) logs.0,
+        added_fits of (later_given given) (later_adds given (since_adds [] (values_of scripts one.name) tt)) logs.1,
+      )
 
   globals_fit_from : (first : ℕ) (ones : List Declared) → AllByRecursion (IsGlobal scripts) ones → ((number : ℕ) (one : Declared) → slice_get ones number ≡ Some one → worlds.type_of (global_names program) (first + number) ≡ Some (checked_or type.bool (global_type scripts (first + number))))
       → AllByRecursion (ValuesLogFit program) (globals_from scripts first ones) → AllByRecursion (ValuesFit program) (globals_from scripts first ones)

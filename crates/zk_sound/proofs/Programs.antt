@@ -123,9 +123,14 @@ module _ (program : Program) (scripts : Scripts) (agrees : Agrees program script
       by (decl.Body place body.Event name params attrs block) is = found (rw is at h)
         where
           found : IsDeclared scripts one.home (kind_of body.Event) params None (look_up scripts.names one.home.module_name name.text) → AllByRecursion HandlerMayFit (handler_in scripts one.home (decl.Body place body.Event name params attrs block))
-          found d = rw d.there ((λ logs. (d.types,
+          found d = rw d.there (
+            (λ logs. (
+              d.types,
               agrees.events one.home.module_name name.text d.declared d.signature d.types d.there (event_of d.declared.meant d.signature d.of_kind) d.takes,
-              stated_fits one.home (within_of body.Event) params block d.types None d.own refl logs)), tt)
+              stated_fits one.home (within_of body.Event) params block d.types None d.own refl logs,
+            )),
+            tt,
+          )
             where
               event_of : (meant : Meant) (signature : Signature) → kind_of body.Event meant ≡ Some signature → meant ≡ Event signature
               event_of (Event other) signature e = let same : other ≡ signature = cc in ap Event same

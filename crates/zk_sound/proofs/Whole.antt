@@ -118,9 +118,10 @@ module _ (program : Program) (scripts : Scripts) (says : SaysItsScripts program 
       → AllByRecursion BodiesLogFit (map (hook_of scripts) ones) → AllByRecursion (HookFits program) (map (hook_of scripts) ones)
   hooks_from all [] there logs = tt
   hooks_from all (one ∷ ones) there logs =
-      let (at, number, known) = there zero one refl in
-      (all_met (λ one. StmtLogsFit program one.body) (HookBodyFits program (hook_of scripts one).params) (hook_of scripts one).bodies (each_body at one (hook_of scripts one).params number known scripts.stated all) logs.0,
-      hooks_from all ones (λ number other is. there (suc number) other is) logs.1)
+      let (at, number, known) = there zero one refl in (
+        all_met (λ one. StmtLogsFit program one.body) (HookBodyFits program (hook_of scripts one).params) (hook_of scripts one).bodies (each_body at one (hook_of scripts one).params number known scripts.stated all) logs.0,
+        hooks_from all ones (λ number other is. there (suc number) other is) logs.1,
+      )
 
 hooks_of_files : (files : List File) → errors files ≡ [] → SaysItsScripts (typed_program files) (scripts_of files) → AllByRecursion (HookFits (typed_program files)) (typed_program files).hooks
 hooks_of_files files right says = hooks_from (typed_program files) (scripts_of files) says (globals_are (scripts_of files)) (bodies_declared files right) (filter is_hook (scripts_of files).names)

@@ -28,4 +28,5 @@ pub mod Told
 pub mod Heads
 pub mod Programs
 pub mod Initials
+pub mod Numbers
 pub mod Whole

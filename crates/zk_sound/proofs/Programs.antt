@@ -126,7 +126,7 @@ module _ (program : Program) (scripts : Scripts) (agrees : Agrees program script
           found d = rw d.there (
             (λ logs. (
               d.types,
-              agrees.events one.home.module_name name.text d.declared d.signature d.types d.there (event_of d.declared.meant d.signature d.of_kind) d.takes,
+              agrees.names.events one.home.module_name name.text d.declared d.signature d.types d.there (event_of d.declared.meant d.signature d.of_kind) d.takes,
               stated_fits one.home (within_of body.Event) params block d.types None d.own refl logs,
             )),
             tt,

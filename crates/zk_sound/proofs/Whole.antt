@@ -19,7 +19,7 @@ use Rattle.zk_typed.specs.Programs.{numbers_from, record_of, event_of, hook_body
 use Rattle.zk_typed.specs.Resolving.{Scripts}
 use Rattle.zk_typed.specs.Types.{ValueType}
 use Rattle.zk_typed.specs.Typing.{is_event, is_hook, number_among}
-use Rattle.zk_sound.specs.Agreeing.{StmtLogsFit, SaysItsScripts}
+use Rattle.zk_sound.specs.Agreeing.{Agrees, StmtLogsFit, SaysItsScripts}
 use Rattle.zk_sound.specs.Having.{FilterTypes, ExpiryTakes, ValuesFit, GlobalFits, HookBodyFits, HookFits, ProgramFits}
 use Rattle.zk_sound.specs.Holding.{field_types}
 use Rattle.zk_sound.specs.Telling.{IsDeclared, BodyIsDeclared}
@@ -28,6 +28,7 @@ use Rattle.zk_sound.specs.Worlds as worlds
 use Rattle.zk_sound.proofs.Growth.{all_append}
 use Rattle.zk_sound.proofs.Heads.{bodies_declared}
 use Rattle.zk_sound.proofs.Initials.{fields_begin, values_fit}
+use Rattle.zk_sound.proofs.Numbers.{fields_of_files}
 use Rattle.zk_sound.proofs.Objects.{got_map}
 use Rattle.zk_sound.proofs.Programs.{globals_are, stated_fits, functions_fit, handlers_fit}
 use Rattle.zk_sound.proofs.Written.{all_met}
@@ -68,7 +69,7 @@ events_of_files files = let (more, is) = names_behind (load_order files) in firs
 
 -- Hooks --------------------------------------------------------------------------------------------------------------
 
-module _ (program : Program) (scripts : Scripts) (says : SaysItsScripts program scripts) (globals : (number : ℕ) (of : ValueType) → Rattle.zk_typed.specs.Declarations.global_type scripts number ≡ Ok of → worlds.type_of (global_names program) number ≡ Some of) where
+module _ (program : Program) (scripts : Scripts) (agrees : Agrees program scripts) (says : SaysItsScripts program scripts) (globals : (number : ℕ) (of : ValueType) → Rattle.zk_typed.specs.Declarations.global_type scripts number ≡ Ok of → worlds.type_of (global_names program) number ≡ Some of) where
   -- a body of the hook of a number, where what it says of logs fits
   abbrev BodyMayFit : List ValueType → HookBody → Type 0
   BodyMayFit params one = StmtLogsFit program one.body → HookBodyFits program params one
@@ -91,11 +92,11 @@ module _ (program : Program) (scripts : Scripts) (says : SaysItsScripts program 
           fits d same logs =
               let named : d.declared.name ≡ one.name = (bytes_eq-Decides d.declared.name one.name).0 same in
               let number_is : number_among is_hook scripts d.declared ≡ number = ap (λ (text : List ℕ). count_before (λ other. bytes_eq other.name text) (filter is_hook scripts.names)) named ∙ at in
-              let there : hook_params program (record { 0 = number_among is_hook scripts d.declared }) ≡ Some d.types = says.agrees.hooks stated.home.module_name name.text d.declared d.signature d.types d.there (hook_is d.declared.meant d.signature d.of_kind) d.takes in
+              let there : hook_params program (record { 0 = number_among is_hook scripts d.declared }) ≡ Some d.types = agrees.names.hooks stated.home.module_name name.text d.declared d.signature d.types d.there (hook_is d.declared.meant d.signature d.of_kind) d.takes in
               let types : Some d.types ≡ Some params = sym there ∙ ap (λ (n : ℕ). let hook : HookNo = record { 0 = n } in hook_params program hook) number_is ∙ known in
               let are : d.types ≡ params = cc in
               subst (λ (types : List ValueType). Rattle.zk_sound.specs.Having.BodyFits program types None made.body) are
-              (stated_fits program scripts says.agrees globals stated.home (within_of body.Hook) hook_own block d.types None d.own refl logs)
+              (stated_fits program scripts agrees globals stated.home (within_of body.Hook) hook_own block d.types None d.own refl logs)
 
           found : IsDeclared scripts stated.home (kind_of body.Hook) hook_own None (look_up scripts.names stated.home.module_name name.text) → AllByRecursion (BodyMayFit params) (hook_body_in scripts one stated.home (decl.Body place body.Hook name hook_own attrs block))
           found d = rw d.there (named (bytes_eq d.declared.name one.name) refl)
@@ -123,8 +124,11 @@ module _ (program : Program) (scripts : Scripts) (says : SaysItsScripts program 
         hooks_from all ones (λ number other is. there (suc number) other is) logs.1,
       )
 
+agrees_whole : (files : List File) → SaysItsScripts (typed_program files) (scripts_of files) → Agrees (typed_program files) (scripts_of files)
+agrees_whole files says = record { fields = fields_of_files files; names = says.names }
+
 hooks_of_files : (files : List File) → errors files ≡ [] → SaysItsScripts (typed_program files) (scripts_of files) → AllByRecursion (HookFits (typed_program files)) (typed_program files).hooks
-hooks_of_files files right says = hooks_from (typed_program files) (scripts_of files) says (globals_are (scripts_of files)) (bodies_declared files right) (filter is_hook (scripts_of files).names)
+hooks_of_files files right says = hooks_from (typed_program files) (scripts_of files) (agrees_whole files says) says (globals_are (scripts_of files)) (bodies_declared files right) (filter is_hook (scripts_of files).names)
     (λ number one is. (number, says.hooks_once number one is, ap (option_map (λ hook. hook.params)) (got_map (hook_of (scripts_of files)) (filter is_hook (scripts_of files).names) number ∙ ap (option_map (hook_of (scripts_of files))) is))) says.hooks
 
 -- The whole program --------------------------------------------------------------------------------------------------
@@ -143,10 +147,10 @@ whole_of_files files right says =
       filter = filter_types files;
       begins = (events_of_files files).0;
       ends = (events_of_files files).1;
-      globals = globals_whole (typed_program files) (typed_program files).globals (values_fit files (typed_program files) typed says.agrees says.values) says.expiry;
-      functions = functions_fit files (typed_program files) typed says.agrees says.functions;
+      globals = globals_whole (typed_program files) (typed_program files).globals (values_fit files (typed_program files) typed (agrees_whole files says) says.values) says.expiry;
+      functions = functions_fit files (typed_program files) typed (agrees_whole files says) says.functions;
       hooks = hooks_of_files files right says;
-      handlers = handlers_fit files (typed_program files) typed says.agrees says.handlers;
+      handlers = handlers_fit files (typed_program files) typed (agrees_whole files says) says.handlers;
     }
 
 pub whole_fits : (files : List File) (program : Program) → Typed files program → SaysItsScripts program (scripts_of files) → ProgramFits program

@@ -25,9 +25,8 @@ pub record FunctionAgrees (program : Program) (number : ℕ) (params : List Valu
   pub takes : CallTakes function params
   pub may_give : (of : ValueType) → gives ≡ Some of → MayGive function.«result» of
 
--- a program says what its scripts say
-pub record Agrees (program : Program) (scripts : Scripts) : Type 0 where
-  pub fields : (number : RecordNo) (n : ℕ) (field : FieldInfo) (of : ValueType) → slice_get (fields_of scripts number.0) n ≡ Some field → field.field_type ≡ Ok of → field_type program number n ≡ Some of
+-- the numbers of names in a program are those of what they mean in its scripts
+pub record NamesAgree (program : Program) (scripts : Scripts) : Type 0 where
   pub functions : (module_name name : List ℕ) (one : Declared) (signature : Signature) (params : List ValueType) (gives : Option ValueType) → look_up scripts.names module_name name ≡ Some one → one.meant ≡ Function signature →
       params_of scripts signature ≡ Ok params → result_of scripts signature ≡ Ok gives → FunctionAgrees program (number_among is_function scripts one) params gives
   pub hooks : (module_name name : List ℕ) (one : Declared) (signature : Signature) (params : List ValueType) → look_up scripts.names module_name name ≡ Some one → one.meant ≡ Hook signature →
@@ -37,6 +36,11 @@ pub record Agrees (program : Program) (scripts : Scripts) : Type 0 where
   pub logs : (module_name name : List ℕ) (one : Declared) → look_up scripts.names module_name name ≡ Some one → is_log_word one ≡ true →
       row_type program (record { 0 = number_among is_log_word scripts one }) ≡ stream_type scripts one.name
   pub words : (module_name name : List ℕ) (one : Declared) (number : ℕ) → look_up scripts.names module_name name ≡ Some one → one.meant ≡ Word number → is_word one.name ≡ true
+
+-- a program says what its scripts say
+pub record Agrees (program : Program) (scripts : Scripts) : Type 0 where
+  pub fields : (number : RecordNo) (n : ℕ) (field : FieldInfo) (of : ValueType) → slice_get (fields_of scripts number.0) n ≡ Some field → field.field_type ≡ Ok of → field_type program number n ≡ Some of
+  pub names : NamesAgree program scripts
 
 -- an environment stands for names of these types
 pub record EnvAgrees (program : Program) (names : Names) (env : Env) : Type 0 where
@@ -136,7 +140,7 @@ pub record StandsIn (program : Program) (gives : Option ValueType) (context : Co
 -- A program says what its scripts say: each hook has one name, what its bodies and values say of logs fits, an expiry function
 -- takes its table, a logged field is of a type that columns have, and the texts of its words stand for themselves.
 pub record SaysItsScripts (program : Program) (scripts : Scripts) : Type 0 where
-  pub agrees : Agrees program scripts
+  pub names : NamesAgree program scripts
   pub hooks_once : (number : ℕ) (one : Declared) → slice_get (filter is_hook scripts.names) number ≡ Some one → number_among is_hook scripts one ≡ number
   pub functions : AllByRecursion (λ one. StmtLogsFit program one.body) program.functions
   pub hooks : AllByRecursion (λ hook. AllByRecursion (λ one. StmtLogsFit program one.body) hook.bodies) program.hooks

@@ -12,7 +12,7 @@ use Rattle.zk_tree.specs.declared.types.Type.{«Type»}
 use Rattle.zk_typed.specs.Declaring.{scripts_of}
 use Rattle.zk_typed.specs.Errors.{errors}
 use Rattle.zk_typed.specs.LoadOrder.{File, Home, load_order}
-use Rattle.zk_typed.specs.Resolving.{type_of}
+use Rattle.zk_typed.specs.Resolving.{FieldInfo, type_of, fields_of}
 use Rattle.zk_base.specs.declared.numbers.RecordNo.{RecordNo}
 use Rattle.zk_typed.specs.Columns.{record_fields}
 use Rattle.zk_typed.specs.Dispatch.{dispatch, initial_body, world_after}
@@ -33,7 +33,7 @@ use Rattle.zk_ascii.specs.Fits.{Fit}
 use Rattle.zk_ascii.specs.Text.{row_text}
 use Rattle.zk_sound.specs.Holding.{Kinds, HaveTypes}
 use Rattle.zk_sound.specs.Rows.{RowFits, CellIsBytes, shown_cell, shown_column}
-use Rattle.zk_sound.specs.Worlds.{Names, QueuedFits, WorldFits}
+use Rattle.zk_sound.specs.Worlds.{Names, field_type, QueuedFits, WorldFits}
 use Rattle.zk_sound.specs.Having.{Takes, ReadsNoName, ActionTakes, ActsOnNoName, HasForm, StmtFits, FieldBegins, FunctionFits, HandlerFits, ValuesFit, ProgramFits}
 use Rattle.zk_sound.specs.Agreeing.{Agrees, SaysItsScripts, EnvAgrees, IsClear, LogsFit, ValuesLogFit, StmtLogsFit, LocalsAgree, StandsIn}
 use Rattle.zk_sound.specs.Telling.{HeadIsKnown, BodyIsDeclared}
@@ -139,7 +139,12 @@ abbrev pub TypedValuesFit : Type 0
 TypedValuesFit = (files : List File) (program : Program) → TypedProgram files program → Agrees program (scripts_of files) →
     AllByRecursion (ValuesLogFit program) program.globals → AllByRecursion (ValuesFit program) program.globals
 
--- and its fields begin with values of their types, whatever else.
+-- and its fields have the types that its scripts give them
+abbrev pub TypedFieldsAgree : Type 0
+TypedFieldsAgree = (files : List File) (program : Program) → TypedProgram files program → (number : RecordNo) (n : ℕ) (field : FieldInfo) (of : ValueType) →
+    slice_get (fields_of (scripts_of files) number.0) n ≡ Some field → field.field_type ≡ Ok of → field_type program number n ≡ Some of
+
+-- and begin with values of these, whatever else.
 abbrev pub TypedFieldsBegin : Type 0
 TypedFieldsBegin = (files : List File) (program : Program) → TypedProgram files program → (number : RecordNo) → AllByRecursion FieldBegins (record_fields program number)
 

@@ -1,5 +1,5 @@
 // What typed programs promise of their values.
-ghost use Rattle.zk_sound.specs.Laws.{PrimitivesTakeTypes, ActionsTakeTypes, ExpressionsKeepTypes, StatementsKeepTypes, HandlersKeepTypes, InitialsKeepTypes, ExpiriesKeepTypes, RunsKeepTypes, RulesGiveForms, RulesGiveStatements, ValuesHaveTypes, RunsWriteRowsThatFit, ShownRowsFit, TextsTellRows, TypesAreTold, HeadsAreKnown, BodiesAreDeclared, TypedFunctionsFit, TypedHandlersFit, TypedValuesFit, TypedFieldsBegin, TypedProgramsFit};
+ghost use Rattle.zk_sound.specs.Laws.{PrimitivesTakeTypes, ActionsTakeTypes, ExpressionsKeepTypes, StatementsKeepTypes, HandlersKeepTypes, InitialsKeepTypes, ExpiriesKeepTypes, RunsKeepTypes, RulesGiveForms, RulesGiveStatements, ValuesHaveTypes, RunsWriteRowsThatFit, ShownRowsFit, TextsTellRows, TypesAreTold, HeadsAreKnown, BodiesAreDeclared, TypedFunctionsFit, TypedHandlersFit, TypedValuesFit, TypedFieldsAgree, TypedFieldsBegin, TypedProgramsFit};
 
 use zk_ascii::equal_texts;
 
@@ -63,6 +63,7 @@ pub fn typed_bodies_fit()
     ensures functions { TypedFunctionsFit }
     ensures handlers { TypedHandlersFit }
     ensures values { TypedValuesFit }
-    ensures fields { TypedFieldsBegin }
+    ensures fields { TypedFieldsAgree }
+    ensures begins { TypedFieldsBegin }
     ensures programs { TypedProgramsFit }
 {}

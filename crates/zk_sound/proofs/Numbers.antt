@@ -100,8 +100,8 @@ nodes_stand : (nodes : List Node) (stated : List Stated) → ((home : Home) (tre
 unfolding NodeStands
 nodes_stand nodes [] more = tt
 nodes_stand nodes (one ∷ stated) more = (
-    λ place name tree is. more one.home tree (node_left (decl_nodes one.home (out-Decl one.decl)) (all_nodes stated) one.home tree (rw is (node_left (type_nodes one.home tree) [] one.home tree (own_node one.home tree)))),
-    nodes_stand nodes stated (λ home tree h. more home tree (node_right (decl_nodes one.home (out-Decl one.decl)) (all_nodes stated) home tree h)),
+  λ place name tree is. more one.home tree (node_left (decl_nodes one.home (out-Decl one.decl)) (all_nodes stated) one.home tree (rw is (node_left (type_nodes one.home tree) [] one.home tree (own_node one.home tree)))),
+  nodes_stand nodes stated (λ home tree h. more home tree (node_right (decl_nodes one.home (out-Decl one.decl)) (all_nodes stated) home tree h)),
 )
 
 -- what `redef record` adds in one declaration

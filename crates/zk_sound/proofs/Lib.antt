@@ -29,4 +29,5 @@ pub mod Heads
 pub mod Programs
 pub mod Initials
 pub mod Numbers
+pub mod Once
 pub mod Whole

@@ -30,6 +30,7 @@ use Rattle.zk_sound.proofs.Heads.{bodies_declared}
 use Rattle.zk_sound.proofs.Initials.{fields_begin, values_fit}
 use Rattle.zk_sound.proofs.Numbers.{fields_of_files}
 use Rattle.zk_sound.proofs.Objects.{got_map}
+use Rattle.zk_sound.proofs.Once.{names_agree_by, hooks_once_by}
 use Rattle.zk_sound.proofs.Programs.{globals_are, stated_fits, functions_fit, handlers_fit}
 use Rattle.zk_sound.proofs.Written.{all_met}
 
@@ -124,12 +125,12 @@ module _ (program : Program) (scripts : Scripts) (agrees : Agrees program script
         hooks_from all ones (λ number other is. there (suc number) other is) logs.1,
       )
 
-agrees_whole : (files : List File) → SaysItsScripts (typed_program files) (scripts_of files) → Agrees (typed_program files) (scripts_of files)
-agrees_whole files says = record { fields = fields_of_files files; names = says.names }
+agrees_whole : (files : List File) → errors files ≡ [] → SaysItsScripts (typed_program files) (scripts_of files) → Agrees (typed_program files) (scripts_of files)
+agrees_whole files right says = record { fields = fields_of_files files; names = names_agree_by files right says.once says.words }
 
 hooks_of_files : (files : List File) → errors files ≡ [] → SaysItsScripts (typed_program files) (scripts_of files) → AllByRecursion (HookFits (typed_program files)) (typed_program files).hooks
-hooks_of_files files right says = hooks_from (typed_program files) (scripts_of files) (agrees_whole files says) says (globals_are (scripts_of files)) (bodies_declared files right) (filter is_hook (scripts_of files).names)
-    (λ number one is. (number, says.hooks_once number one is, ap (option_map (λ hook. hook.params)) (got_map (hook_of (scripts_of files)) (filter is_hook (scripts_of files).names) number ∙ ap (option_map (hook_of (scripts_of files))) is))) says.hooks
+hooks_of_files files right says = hooks_from (typed_program files) (scripts_of files) (agrees_whole files right says) says (globals_are (scripts_of files)) (bodies_declared files right) (filter is_hook (scripts_of files).names)
+    (λ number one is. (number, hooks_once_by files right says.once number one is, ap (option_map (λ hook. hook.params)) (got_map (hook_of (scripts_of files)) (filter is_hook (scripts_of files).names) number ∙ ap (option_map (hook_of (scripts_of files))) is))) says.hooks
 
 -- The whole program --------------------------------------------------------------------------------------------------
 
@@ -147,10 +148,10 @@ whole_of_files files right says =
       filter = filter_types files;
       begins = (events_of_files files).0;
       ends = (events_of_files files).1;
-      globals = globals_whole (typed_program files) (typed_program files).globals (values_fit files (typed_program files) typed (agrees_whole files says) says.values) says.expiry;
-      functions = functions_fit files (typed_program files) typed (agrees_whole files says) says.functions;
+      globals = globals_whole (typed_program files) (typed_program files).globals (values_fit files (typed_program files) typed (agrees_whole files right says) says.values) says.expiry;
+      functions = functions_fit files (typed_program files) typed (agrees_whole files right says) says.functions;
       hooks = hooks_of_files files right says;
-      handlers = handlers_fit files (typed_program files) typed (agrees_whole files says) says.handlers;
+      handlers = handlers_fit files (typed_program files) typed (agrees_whole files right says) says.handlers;
     }
 
 pub whole_fits : (files : List File) (program : Program) → Typed files program → SaysItsScripts program (scripts_of files) → ProgramFits program

@@ -1,5 +1,5 @@
 -- Programs that say what their scripts say: the types of fields, of functions, hooks and events, of globals and of logs.
-use Rattle.std.specs.Prelude.{◌≡◌, ℕ, true, filter, List, Option, Some, None, Ok, slice_get}
+use Rattle.std.specs.Prelude.{◌≡◌, ◌≢◌, ℕ, true, List, [], ◌∷◌, Option, Some, None, Ok, slice_get}
 use Rattle.std.specs.List.{AllByRecursion}
 use Rattle.zk_base.specs.declared.numbers.RecordNo.{RecordNo}
 use Rattle.zk_typed.specs.declared.script.primitive.Primitive.{Primitive}
@@ -137,11 +137,16 @@ pub record StandsIn (program : Program) (gives : Option ValueType) (context : Co
 
 -- Whole programs ---------------------------------------------------------------------------------------------------
 
--- A program says what its scripts say: each hook has one name, what its bodies and values say of logs fits, an expiry function
--- takes its table, a logged field is of a type that columns have, and the texts of its words stand for themselves.
+-- names differ from one another
+abbrev pub AreApart : List Declared → Type 0
+AreApart [] = Unit {0}
+AreApart (one ∷ others) = AllByRecursion (λ other. one.name ≢ other.name) others × AreApart others
+
+-- A program says what its scripts say: each name is declared once, what its bodies and values say of logs fits, an expiry
+-- function takes its table, a logged field is of a type that columns have, and the texts of its words stand for themselves.
 pub record SaysItsScripts (program : Program) (scripts : Scripts) : Type 0 where
-  pub names : NamesAgree program scripts
-  pub hooks_once : (number : ℕ) (one : Declared) → slice_get (filter is_hook scripts.names) number ≡ Some one → number_among is_hook scripts one ≡ number
+  pub once : AreApart scripts.names
+  pub words : (module_name name : List ℕ) (one : Declared) (number : ℕ) → look_up scripts.names module_name name ≡ Some one → one.meant ≡ Word number → is_word one.name ≡ true
   pub functions : AllByRecursion (λ one. StmtLogsFit program one.body) program.functions
   pub hooks : AllByRecursion (λ hook. AllByRecursion (λ one. StmtLogsFit program one.body) hook.bodies) program.hooks
   pub handlers : AllByRecursion (λ one. StmtLogsFit program one.body) program.handlers

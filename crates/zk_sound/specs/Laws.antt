@@ -152,6 +152,15 @@ TypedFieldsBegin = (files : List File) (program : Program) → TypedProgram file
 abbrev pub TypedProgramsFit : Type 0
 TypedProgramsFit = (files : List File) (program : Program) → TypedProgram files program → SaysItsScripts program (scripts_of files) → ProgramFits program
 
+-- So each of its bodies keeps the types of the world, as does its whole run: no operation meets a value of another type.
+abbrev pub TypedHandlersKeepTypes : Type 0
+TypedHandlersKeepTypes = (files : List File) (program : Program) (kinds : Kinds) (budget : ℕ) (world : World) (what : Queued) → TypedProgram files program →
+    SaysItsScripts program (scripts_of files) → WorldFits program kinds world → QueuedFits program kinds what → Stopped program kinds (dispatch program budget world what)
+
+abbrev pub TypedRunsKeepTypes : Type 0
+TypedRunsKeepTypes = (files : List File) (program : Program) (budget : ℕ) (items : List Item) (last : Moment) → TypedProgram files program → SaysItsScripts program (scripts_of files) →
+    AllByRecursion (RaisesFit program) items → (kinds : Kinds) × WorldFits program kinds (world_in (run program budget items last))
+
 -- Rows -------------------------------------------------------------------------------------------------------------
 
 -- each row that a run has written has cells that fit their columns

@@ -1,5 +1,5 @@
 // What typed programs promise of their values.
-ghost use Rattle.zk_sound.specs.Laws.{PrimitivesTakeTypes, ActionsTakeTypes, ExpressionsKeepTypes, StatementsKeepTypes, HandlersKeepTypes, InitialsKeepTypes, ExpiriesKeepTypes, RunsKeepTypes, RulesGiveForms, RulesGiveStatements, ValuesHaveTypes, RunsWriteRowsThatFit, ShownRowsFit, TextsTellRows, TypesAreTold, HeadsAreKnown, BodiesAreDeclared, TypedFunctionsFit, TypedHandlersFit, TypedValuesFit, TypedFieldsAgree, TypedFieldsBegin, TypedProgramsFit};
+ghost use Rattle.zk_sound.specs.Laws.{PrimitivesTakeTypes, ActionsTakeTypes, ExpressionsKeepTypes, StatementsKeepTypes, HandlersKeepTypes, InitialsKeepTypes, ExpiriesKeepTypes, RunsKeepTypes, RulesGiveForms, RulesGiveStatements, ValuesHaveTypes, RunsWriteRowsThatFit, ShownRowsFit, TextsTellRows, TypesAreTold, HeadsAreKnown, BodiesAreDeclared, TypedFunctionsFit, TypedHandlersFit, TypedValuesFit, TypedFieldsAgree, TypedFieldsBegin, TypedProgramsFit, TypedHandlersKeepTypes, TypedRunsKeepTypes};
 
 use zk_ascii::equal_texts;
 
@@ -66,4 +66,11 @@ pub fn typed_bodies_fit()
     ensures fields { TypedFieldsAgree }
     ensures begins { TypedFieldsBegin }
     ensures programs { TypedProgramsFit }
+{}
+
+/// The bodies of the program of scripts that break no rule keep the types of the world, as does its whole run, where
+/// the program says what its scripts say: none of them stops for a type. There is nothing to run.
+pub fn typed_programs_keep_types()
+    ensures handlers { TypedHandlersKeepTypes }
+    ensures runs { TypedRunsKeepTypes }
 {}

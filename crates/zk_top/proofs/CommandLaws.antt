@@ -1,12 +1,12 @@
 -- The command line in the subject's own words.
-use Rattle.std.proofs.Common.{◌≡◌, ◌↔◌, ℕ, zero, suc, ◌+◌, ◌<◌, ◌≤◌, Bool, true, false, ◌⊎◌, inl, inr, if◌then◌else◌, List, [], ◌∷◌, ◌++◌, take, length, option_map, is_none, length-append, append-nil, codes, add-one, Option, Some, None, Result, Ok, Err, is_ok, is_some, IsTrue, slice_get, refl, sym, ap, subst, ◌∙◌, arith}
+use Rattle.std.proofs.Common.{◌≡◌, ◌↔◌, ℕ, zero, suc, ◌+◌, ◌<◌, ◌≤◌, Bool, true, false, ◌⊎◌, inl, inr, if◌then◌else◌, List, [], ◌∷◌, ◌++◌, take, length, option_map, is_none, length-append, codes, add-one, Option, Some, None, Result, Ok, Err, is_ok, is_some, IsTrue, slice_get, refl, sym, ap, subst, ◌∙◌, arith}
 use Rattle.std.specs.Str.{bytes_eq}
 use Rattle.zk_top.specs.declared.command.Next.{Next}
 use Rattle.zk_top.specs.declared.command.Next.TheVariants as next
 use Rattle.zk_top.specs.declared.command.Run.{Run}
 use Rattle.zk_top.specs.declared.command.Standing.{Standing}
 use Rattle.zk_top.specs.declared.command.Standing.TheVariants as standing
-use Rattle.zk_top.specs.Command.{budget_max, buffer_max, IsFirstNotUnderstood, begins, is_whole, is_whole_at, no_options, is_file_name, number_in, once, with_option, with_script, with_word, run_on, verb, step, stand_from, settings_of, words_from, run_of, command_of}
+use Rattle.zk_top.specs.Command.{budget_max, buffer_max, IsFirstNotUnderstood, begins, is_whole, is_whole_at, no_options, is_file_name, number_in, once, with_option, with_script, with_word, run_on, verb, step, stand_from}
 
 -- Words one after another --------------------------------------------------------------------------------------------
 

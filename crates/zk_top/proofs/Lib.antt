@@ -7,6 +7,7 @@ mod ItemLemmas
 mod ListingLemmas
 mod OpenCapture
 mod OverCapture
+mod OverDefaults
 mod OverScript
 mod Playing
 mod Replaying

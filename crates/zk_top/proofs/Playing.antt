@@ -1,5 +1,5 @@
 -- How a program plays.
-use Rattle.std.proofs.Common.{◌≡◌, ℕ, List, [], ◌∷◌, ◌++◌, map, filter_map, refl, sym, ap, subst, ◌∙◌, append-nil, append_assoc}
+use Rattle.std.proofs.Common.{◌≡◌, ℕ, List, [], ◌∷◌, ◌++◌, map, refl, ap, subst, ◌∙◌, append-nil}
 use Rattle.std.proofs.lemmas.List.{map-append}
 use Rattle.std.proofs.lemmas.List.Concat.{flat_map-append}
 use Rattle.zk_base.specs.Shelf.{Outside}
@@ -7,11 +7,10 @@ use Rattle.zk_events.specs.Run.{Stage, New, Begun, progress_at}
 use Rattle.zk_events.specs.Laws as laws
 use Rattle.zk_logs.specs.Logs.{Row}
 use Rattle.zk_lower.specs.Told.{Told, Stays}
-use Rattle.zk_machine.specs.State.{atom_of, cell_of, column_of, line_in, row_in}
+use Rattle.zk_machine.specs.State.{atom_of, cell_of, column_of}
 use Rattle.zk_machine.specs.Standing.{with_out}
 use Rattle.zk_typed.specs.Log as log
 use Rattle.zk_typed.specs.Program.{Program}
-use Rattle.zk_typed.specs.Running.{world_in}
 use Rattle.zk_typed.specs.State.{World}
 use Rattle.zk_value.specs.declared.cell.Atom.{Atom}
 use Rattle.zk_value.specs.declared.cell.Atom.TheVariants as atom
@@ -21,14 +20,13 @@ use Rattle.zk_value.specs.declared.cell.Column.{Column}
 use Rattle.zk_value.specs.declared.out.Out.{Out}
 use Rattle.zk_value.specs.declared.out.Out.TheVariants as out
 use Rattle.zk_load.specs.declared.stop.Stop.TheVariants.{NoMemory}
-use Rattle.zk_load.specs.Parts.{IsPrefix}
 use Rattle.zk_load.proofs.Doing.{prefix_none}
 use Rattle.zk_top.specs.declared.player.Player.{Player}
 use Rattle.zk_top.specs.Line.{line_end}
 use Rattle.zk_top.specs.Logged.{dated, shown_atom, shown_cell, shown_column, shown_row}
 use Rattle.zk_top.specs.Printed.{with_line_ends}
 use Rattle.zk_top.specs.Replay.{Plays, output_at, told_at}
-use Rattle.zk_top.specs.Writing.{Output, Begins, HasGiven, GivesSome, and_out, output_of, told_by}
+use Rattle.zk_top.specs.Writing.{Begins, HasGiven, GivesSome, and_out, output_of, told_by}
 use Rattle.zk_top.proofs.Giving.{given_without_memory}
 
 -- What was told ---------------------------------------------------------------------------------------------------------

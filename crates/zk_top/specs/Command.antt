@@ -149,13 +149,8 @@ command_of words (standing.Run run) = run_of words run run.file
 command_of words standing.Help = Some Help
 command_of words standing.Version = Some Version
 
--- Until the default scripts are loaded a run has to leave them out.
-abbrev pub is_carried_out : Command → Bool
-is_carried_out (RunScripts settings file scripts) = settings.bare
-is_carried_out other = true
-
 abbrev pub command_or : Option Command → ℕ → Result Command ℕ
-command_or (Some command) number = if is_carried_out command then Ok command else Err number
+command_or (Some command) number = Ok command
 command_or None number = Err number
 
 abbrev pub judged : List (List ℕ) → Result Standing ℕ → Result Command ℕ
@@ -180,7 +175,7 @@ command_seen variants.Version = Version
 abbrev pub begins : List (List ℕ) → Bool
 begins words = is_ok (stand_from standing.Nothing 0 words)
 
--- the words are a whole command, whether or not it is carried out yet
+-- the words are a whole command
 abbrev pub is_whole_at : List (List ℕ) → Result Standing ℕ → Bool
 is_whole_at words (Err number) = false
 is_whole_at words (Ok all) = is_some (command_of words all)

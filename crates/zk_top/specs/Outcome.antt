@@ -1,7 +1,7 @@
 -- What a run of the program comes to, by its words and its inputs.
 use Rattle.std.specs.Prelude.{ℕ, List, [], ◌∷◌, ◌++◌, Option, Some, None, Result, Ok, Err}
 use Rattle.zk_base.specs.declared.endings.Ending.{Ending}
-use Rattle.zk_base.specs.declared.endings.Ending.TheVariants.{Done, Usage, ScriptRefused, NoInput, CaptureRefused, CutShort, Flood}
+use Rattle.zk_base.specs.declared.endings.Ending.TheVariants.{Done, Usage, NoInput, CaptureRefused, CutShort, Flood}
 use Rattle.zk_base.specs.Shelf.{Files}
 use Rattle.zk_pcap.specs.declared.captures.Capture.{Capture}
 use Rattle.zk_pcap.specs.declared.captures.CaptureEnding.{CaptureEnding}
@@ -20,9 +20,9 @@ use Rattle.zk_top.specs.Command.{Command, ListItems, RunScripts, Help, Version, 
 use Rattle.zk_top.specs.Complaint.{complaint_of}
 use Rattle.zk_top.specs.Line.{capture_lines}
 use Rattle.zk_top.specs.Printed.{logged, progress_of, printed}
-use Rattle.zk_load.specs.Loading.{Loading, Scripts, loading}
+use Rattle.zk_load.specs.Loading.{Scripts, loading}
 use Rattle.zk_top.specs.declared.command.Settings.{Settings}
-use Rattle.zk_top.specs.Script.{program_of}
+use Rattle.zk_top.specs.Script.{program_of, scripts_before}
 
 pub record Outcome : Type 0 where
   -- how it ends
@@ -123,9 +123,14 @@ abbrev pub run_of : List ℕ → Settings → List (List ℕ) → Found Scripts 
 run_of file settings asked (Refused ending) input = ending_so ending [] asked
 run_of file settings asked (Accepted scripts) input = running file settings asked (program_of scripts) input
 
+-- a run of the scripts of these names behind those that are read before, or how it ends where one of these is refused
+abbrev pub run_behind : List ℕ → Settings → List (List ℕ) → Files → Found Scripts → Outcome
+run_behind file settings names inputs (Refused ending) = ending_so ending [] []
+run_behind file settings names inputs (Accepted before) = run_of file settings (loading before names inputs).asked (loading before names inputs).found (inputs file)
+
 -- A run of the scripts of these names. The capture is asked for once they are read and checked.
 abbrev pub run_scripts : List ℕ → Settings → List (List ℕ) → Files → Outcome
-run_scripts file settings names inputs = run_of file settings (loading names inputs).asked (loading names inputs).found (inputs file)
+run_scripts file settings names inputs = run_behind file settings names inputs (scripts_before settings.bare)
 
 -- what the words ask for
 abbrev pub outcome_of : Result Command ℕ → Files → Outcome

@@ -1,5 +1,5 @@
 ghost use Rattle.std.specs.Prelude.{◌≡◌, ◌<◌, ◌^◌, ◌↔◌, ◌++◌, List, ℕ, IsTrue, Ok, Err, MatchResult};
-ghost use Rattle.zk_top.specs.Command.{IsFirstNotUnderstood, begins, is_whole, is_file_name, number_in, number_from, once, with_option, with_script, with_word, run_on, verb, step, stand_from, settings_of, words_from, run_of, command_of, is_carried_out, understand, command_seen};
+ghost use Rattle.zk_top.specs.Command.{IsFirstNotUnderstood, begins, is_whole, is_file_name, number_in, number_from, once, with_option, with_script, with_word, run_on, verb, step, stand_from, settings_of, words_from, run_of, command_of, understand, command_seen};
 ghost use Rattle.std.specs.Option.{option_map};
 
 use zk_base::Word;
@@ -106,18 +106,8 @@ pub fn read_command(words: &[Word]) -> Result<Command<'_>, usize>
 {
     let standing = stand(words)?;
     match command_of(words, standing) {
-        Some(command) if is_carried_out(&command) => Ok(command),
-        _ => Err(words.len()),
-    }
-}
-
-/// Until the default scripts are loaded a run has to leave them out.
-fn is_carried_out(command: &Command<'_>) -> bool
-    ensures { result ≡ is_carried_out (command_seen command.now) }
-{
-    match command {
-        Command::Run { settings, .. } => settings.bare,
-        Command::List { .. } | Command::Help | Command::Version => true,
+        Some(command) => Ok(command),
+        None => Err(words.len()),
     }
 }
 

@@ -21,6 +21,8 @@ pub use command::command_line;
 pub use entry::run;
 
 #[cfg(test)]
+mod default_tests;
+#[cfg(test)]
 mod grammar_tests;
 #[cfg(test)]
 mod list_tests;
@@ -28,3 +30,5 @@ mod list_tests;
 mod log_tests;
 #[cfg(test)]
 mod tests;
+#[cfg(test)]
+mod timer_tests;

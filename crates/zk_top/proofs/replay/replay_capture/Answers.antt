@@ -1,4 +1,4 @@
-use Rattle.std.proofs.Common.{[], false, refl, sym, subst}
+use Rattle.std.proofs.Common.{[], false, refl, subst}
 use Rattle.std.proofs.lemmas.Result.{err_from_is_err_and}
 use Rattle.zk_load.specs.declared.stop.Stop.TheVariants.{NoMemory}
 use Rattle.zk_load.proofs.Doing.{out_of_memory}

@@ -1,6 +1,5 @@
-use Rattle.std.proofs.Common.{[], true, false, refl, subst, ◌∙◌}
+use Rattle.std.proofs.Common.{true, false, subst}
 use Rattle.std.proofs.lemmas.Result.{err_from_is_err_and, IfOk-weaker, IfErr-weaker}
-use Rattle.zk_events.specs.declared.engine.ItemEnd.TheVariants.{Done}
 use Rattle.zk_events.specs.Run.{Begun, Ended}
 use Rattle.zk_top.specs.Replay.{After, items_in, output_at}
 use Rattle.zk_top.proofs.ItemLemmas.{items_end}

@@ -1,6 +1,5 @@
-use Rattle.std.proofs.Common.{[], true, false, refl, sym, subst, ◌∙◌}
+use Rattle.std.proofs.Common.{[], true, false, sym, subst}
 use Rattle.std.proofs.lemmas.Result.{err_from_is_err_and, IfOk-weaker, IfErr-weaker}
-use Rattle.zk_events.specs.declared.engine.ItemEnd.TheVariants.{Done}
 use Rattle.zk_load.specs.Parts.{IsPrefix}
 use Rattle.zk_load.proofs.Doing.{prefix_none}
 use Rattle.zk_top.specs.Replay.{After, HasFlooded, items_in, output_over}

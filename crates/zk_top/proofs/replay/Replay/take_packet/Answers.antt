@@ -2,7 +2,7 @@ use Rattle.std.proofs.Common.{[], ◌∷◌, ◌++◌, false}
 use Rattle.std.proofs.lemmas.Result.{err_from_is_err_and, IfOk-weaker, IfErr-weaker}
 use Rattle.zk_events.specs.Run.{Begun}
 use Rattle.zk_pcap.specs.View.{packet_of}
-use Rattle.zk_top.specs.Replay.{Comes, items_in, output_at}
+use Rattle.zk_top.specs.Replay.{items_in, output_at}
 use Rattle.zk_top.proofs.ItemLemmas.{items_begin, bounded_moment}
 use Rattle.zk_top.proofs.Giving.{given_without_memory}
 use Rattle.zk_top.proofs.Replaying.{comes_given, given_further}

@@ -20,11 +20,11 @@ use Rattle.zk_top.specs.Script.{default_scripts, scripts_before}
 use Rattle.zk_top.proofs.Giving.{no_file_begun, no_file_written}
 
 -- a text is refused
-record IsTextRefusal (e : Ending) : Type 0 where
-  file : List ℕ
-  place : ℕ
-  kind : ScriptKind
-  is : e ≡ ScriptRefused file place kind
+pub record IsTextRefusal (e : Ending) : Type 0 where
+  pub file : List ℕ
+  pub place : ℕ
+  pub kind : ScriptKind
+  pub is : e ≡ ScriptRefused file place kind
 
 text_refusal : (name : List ℕ) (read : Result Tree Refusal) (others : Found Scripts) (e : Ending) → ((e : Ending) → others ≡ Refused e → IsTextRefusal e)
     → before_others name (accepted name read) others ≡ Refused e → IsTextRefusal e
@@ -36,7 +36,7 @@ texts_refusal : (texts : List (List ℕ × List ℕ)) (e : Ending) → scripts_i
 texts_refusal [] e is = absurd (let never : ⊥ = cc in never)
 texts_refusal (one ∷ others) e is = text_refusal one.0 (script_of one.1) (scripts_in others) e (λ other same. texts_refusal others other same) is
 
-before_refusal : (bare : Bool) (e : Ending) → Refused e ≡ scripts_before bare → IsTextRefusal e
+pub before_refusal : (bare : Bool) (e : Ending) → Refused e ≡ scripts_before bare → IsTextRefusal e
 unfolding default_scripts
 before_refusal true e is = absurd (let never : ⊥ = cc in never)
 before_refusal false e is = texts_refusal default_texts e (sym is)

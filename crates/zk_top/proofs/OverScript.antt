@@ -196,9 +196,9 @@ stopped_scripts file settings before names old stop new part = record {
 -- What was found -----------------------------------------------------------------------------------------------------
 
 -- how a run ends without a program
-record NoProgram (e : Ending) : Type 0 where
-  refusal : IsRefusal e
-  there : (name : List ℕ) → e ≡ NoInput name → ⊥
+pub record NoProgram (e : Ending) : Type 0 where
+  pub refusal : IsRefusal e
+  pub there : (name : List ℕ) → e ≡ NoInput name → ⊥
 
 refused_scripts_end : (scripts : Scripts) (refusal : Refusal) (e : Ending) → ◌≡◌ {A = Found Program} (Refused (refused_at scripts refusal)) (Refused e) → NoProgram e
 refused_scripts_end scripts refusal e is =
@@ -209,7 +209,7 @@ judged_ends : (scripts : Scripts) (rules : List Broken) (e : Ending) → judged 
 judged_ends scripts [] e is = absurd (let never : ⊥ = cc in never)
 judged_ends scripts (one ∷ others) e is = refused_scripts_end scripts (record { file = one.place.file; place = one.place.byte; kind = kind_of one.rule }) e is
 
-no_program : (scripts : Scripts) (e : Ending) → program_of scripts ≡ Refused e → NoProgram e
+pub no_program : (scripts : Scripts) (e : Ending) → program_of scripts ≡ Refused e → NoProgram e
 unfolding program_of
 no_program scripts e is = judged_ends scripts (errors (files_of scripts)) e is
 

@@ -7,6 +7,7 @@ mod command;
 mod complaint;
 mod entry;
 mod front;
+mod generated;
 mod line;
 mod listing;
 mod output;
@@ -15,6 +16,8 @@ mod replay;
 mod runnable;
 mod running;
 mod scripts;
+mod sink;
+mod summary;
 mod writer;
 
 pub use command::command_line;
@@ -22,6 +25,8 @@ pub use entry::run;
 
 #[cfg(test)]
 mod default_tests;
+#[cfg(test)]
+mod generated_tests;
 #[cfg(test)]
 mod grammar_tests;
 #[cfg(test)]

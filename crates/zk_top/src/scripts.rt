@@ -7,9 +7,9 @@ ghost use Rattle.zk_typed.specs.View.{program_of as plain_program};
 ghost use Rattle.zk_typed.specs.declared.refusal.Broken.{Broken};
 ghost use Rattle.zk_check.specs.Faults.{IsFirst};
 ghost use Rattle.zk_load.specs.Loads.{LoadsPart};
-ghost use Rattle.zk_top.specs.Compiling.{FindsCode, IsCodeOf, Runs, refusal_in};
+ghost use Rattle.zk_top.specs.Compiling.{FindsCode, IsCodeOf, Runs, program_by, refusal_in};
 ghost use Rattle.zk_top.specs.Printed.{handles};
-ghost use Rattle.zk_top.specs.Script.{scripts_before, judged, name_of, program_of, refused_at};
+ghost use Rattle.zk_top.specs.Script.{default_scripts, scripts_before, judged, name_of, program_of, refused_at};
 
 use crate::runnable::{Refusal, Runnable};
 use std::alloc::Global;
@@ -31,6 +31,16 @@ pub fn scripts_before(alloc: Global, bare: bool) -> Result<Found<Sequence<(Bytes
         Ok(Found::Accepted(Sequence::new(alloc)))
     } else {
         read_texts(alloc, default_scripts())
+    }
+}
+
+/// The code of the program of the default scripts, or how a run ends where there is none.
+pub fn default_program(alloc: Global) -> Result<Found<Runnable>, Mem>
+    ensures { IfOk result (λ found. IsCodeOf found (program_by default_scripts)) }
+{
+    match scripts_before(alloc, false)? {
+        Found::Accepted(scripts) => compile(alloc, scripts.as_slice()),
+        Found::Refused(ending) => Ok(Found::Refused(ending)),
     }
 }
 

@@ -1,4 +1,7 @@
 pub mod OnwardLemmas
+pub mod Ascending
+pub mod Numbers
+pub mod Dues
 pub mod Steps
 pub mod Primitives
 pub mod Meaning
@@ -7,5 +10,4 @@ pub mod Worlds
 pub mod Walk
 pub mod Once
 pub mod OnceInRuns
-pub mod Ascending
 pub mod InTime

@@ -21,8 +21,7 @@ use Rattle.zk_typed.specs.Objects.{keys_of}
 use Rattle.zk_typed.specs.Predefined.{filter_record}
 use Rattle.zk_typed.specs.Program.{Program, Function, HookBody}
 use Rattle.zk_typed.specs.State.{World}
-use Rattle.zk_agenda.specs.Onward.{Onward}
-use Rattle.zk_agenda.proofs.OnwardLemmas.{alike}
+use Rattle.zk_agenda.proofs.Dues.{Moves, alike}
 use Rattle.zk_agenda.proofs.Steps.{Goes, reached, goes_bind, goes_then, goes_pure, goes_fault, goes_misfit, goes_or_fault, goes_tick, goes_of, goes_local, goes_global, goes_new_record, goes_field, goes_set_field, goes_table, goes_vector, goes_item}
 use Rattle.zk_agenda.proofs.Primitives.{goes_perform, goes_act, goes_set_names, goes_described, goes_write_row, goes_queue_row}
 
@@ -106,7 +105,7 @@ goes_after_turn rest (Returned given) = goes_pure (Returned given)
 
 module _ {test : Does Value} {body : Does Flow} (test_goes : Goes test) (body_goes : Goes body) (place : Place) where
   goes_turns : (most : ℕ) → Goes (turns most place test body)
-  goes_turns zero = record { by = λ state. alike _ _ refl refl refl refl }
+  goes_turns zero = record { by = λ state. alike _ _ refl refl refl refl refl }
   goes_turns (suc most) = goes_bind test_goes (λ one. goes_choose place one
       (goes_then (goes_tick place) (goes_bind body_goes (λ flow. goes_after_turn (goes_turns most) flow)))
       (goes_pure Normal))
@@ -158,8 +157,8 @@ module _ (program : Program) (c : Calls) (go : CallsGo c) where
 
 -- Calls ------------------------------------------------------------------------------------------------------------
 
-entered : {A : Type 0} (before : World) (ran : Ran A) (locals : List (Option Value)) → Onward before (reached ran)
-    → Onward before (reached (and_then ran (λ a left. Gives a (record left { locals = locals }))))
+entered : {A : Type 0} (before : World) (ran : Ran A) (locals : List (Option Value)) → Moves before (reached ran)
+    → Moves before (reached (and_then ran (λ a left. Gives a (record left { locals = locals }))))
 entered before (Gives a state) locals first = first
 entered before (Faults kind place world units) locals first = first
 entered before (Spent place world) locals first = first

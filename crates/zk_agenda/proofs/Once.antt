@@ -105,8 +105,12 @@ module _ (order : ℕ) where
         omega (arith, one.count most, other.count (one.most most), parts);
   }
 
-  pub follows : Follows Conserves
-  follows = record { onward = onward-conserves; waited = waited-conserves; both = both-conserve }
+  pub follows : (program : Program) → Follows program Conserves
+  follows program = record {
+    onward = λ before after passes. onward-conserves before after passes.moves.onward;
+    waited = λ before after event passes. waited-conserves before after event passes.moves.onward;
+    both = both-conserve;
+  }
 
   -- Turns --------------------------------------------------------------------------------------------------------------
 

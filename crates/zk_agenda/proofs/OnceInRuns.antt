@@ -10,11 +10,11 @@ use Rattle.zk_typed.specs.Running.{Due, EntryDue, EventDue, Goes, Floods, Item, 
 use Rattle.zk_typed.specs.State.{World, ending_at, first_world, queued_behind, with_time}
 use Rattle.zk_typed.specs.World.{Scheduled, queued}
 use Rattle.zk_agenda.specs.Laws.{DispatchedOnce, ItemsGo, waits}
-use Rattle.zk_agenda.specs.Onward.{Onward}
+use Rattle.zk_agenda.specs.Onward.{Onward, Raises}
 use Rattle.zk_agenda.specs.Trace.{Came, Dispatched, dispatches, from_here, in_beginning, in_end, in_item, in_items, in_turns, is_scheduled}
-use Rattle.zk_agenda.proofs.Once.{Conserves, follows, given, turn-conserves}
+use Rattle.zk_agenda.proofs.Once.{Conserves, follows, given, onward-conserves, turn-conserves}
 use Rattle.zk_agenda.proofs.Walk.{Follows, Settled, over_beginning, over_end, over_item, over_queue, over_turns, turns_settle}
-use Rattle.zk_agenda.proofs.Worlds.{dispatch-onward, expire_of-onward, still}
+use Rattle.zk_agenda.proofs.Worlds.{dispatch-onward, expire_of-onward, initialised-moves, still}
 use Rattle.std.specs.Prelude.{All, slice_get, not, ◌==◌}
 use Rattle.std.proofs.lemmas.Bool.{false≢true}
 
@@ -33,24 +33,24 @@ module _ (order : ℕ) (program : Program) (budget : ℕ) where
   ending-conserves : (world : World) (moment : Moment) → Conserves order world [] (ending_at moment world)
   ending-conserves world moment = record { most = λ most. most; count = λ most. let e : 0 + waits order world + given order world ≡ waits order world + given order world = omega arith in e }
 
-  item-conserves : (item : Item) → ((world : World) → Onward world (item.raises world)) → (before : Progress)
+  item-conserves : (item : Item) → ((world : World) → Raises world (item.raises world)) → (before : Progress)
       → Conserves order (world_in before) (from_here (in_item program budget item) before) (world_in (take program budget before item))
-  item-conserves item goes (Goes world left) = over_item (Conserves order) (follows order) program budget item world
+  item-conserves item goes (Goes world left) = over_item program (Conserves order) (follows order program) budget item world
       (λ one turn next due. turn-conserves order program budget (λ at. at) one turn next) (λ after more is. timed-conserves after item.moment) goes left
-  item-conserves item goes (Floods world) = (follows order).onward world world (still world)
+  item-conserves item goes (Floods world) = onward-conserves order world world (still world)
 
   items-conserve : (items : List Item) → ItemsGo items → (before : Progress)
       → Conserves order (world_in before) (in_items program budget before items) (world_in (fold (take program budget) before items))
-  items-conserve [] goes before = (follows order).onward (world_in before) (world_in before) (still (world_in before))
+  items-conserve [] goes before = onward-conserves order (world_in before) (world_in before) (still (world_in before))
   items-conserve (item ∷ items) goes before =
-      (follows order).both (world_in before) (world_in (take program budget before item)) _ (from_here (in_item program budget item) before) _
-      (item-conserves item (all-first (λ (i : Item). (world : World) → Onward world (i.raises world)) item items goes) before)
-      (items-conserve items (all-others (λ (i : Item). (world : World) → Onward world (i.raises world)) item items goes) (take program budget before item))
+      (follows order program).both (world_in before) (world_in (take program budget before item)) _ (from_here (in_item program budget item) before) _
+      (item-conserves item (all-first (λ (i : Item). (world : World) → Raises world (i.raises world)) item items goes) before)
+      (items-conserve items (all-others (λ (i : Item). (world : World) → Raises world (i.raises world)) item items goes) (take program budget before item))
 
   end-conserves : (last : Moment) (before : Progress) → Conserves order (world_in before) (from_here (in_end program budget last) before) (world_in (goes_on (finish program budget last) before))
-  end-conserves last (Goes world left) = (follows order).both world (ending_at last world) (world_in (finish program budget last world left)) [] (in_end program budget last world left) (ending-conserves world last)
-      (over_end (Conserves order) (follows order) program budget last world (λ one turn next due. turn-conserves order program budget (λ at. last) one turn next) left)
-  end-conserves last (Floods world) = (follows order).onward world world (still world)
+  end-conserves last (Goes world left) = (follows order program).both world (ending_at last world) (world_in (finish program budget last world left)) [] (in_end program budget last world left) (ending-conserves world last)
+      (over_end program (Conserves order) (follows order program) budget last world (λ one turn next due. turn-conserves order program budget (λ at. last) one turn next) left)
+  end-conserves last (Floods world) = onward-conserves order world world (still world)
 
   run-conserves : (items : List Item) (last : Moment) → ItemsGo items
       → Conserves order (first_world (no_values program)) (dispatches program budget items last) (world_in (run program budget items last))
@@ -58,9 +58,9 @@ module _ (order : ℕ) (program : Program) (budget : ℕ) where
       let first = first_world (no_values program) in
       let start = begun program budget in
       let all = fold (take program budget) start items in
-      (follows order).both first (world_in all) _ (in_beginning program budget ++ in_items program budget start items) (from_here (in_end program budget last) all)
-      ((follows order).both first (world_in start) (world_in all) (in_beginning program budget) (in_items program budget start items)
-      (over_beginning (Conserves order) (follows order) program budget) (items-conserve items goes start))
+      (follows order program).both first (world_in all) _ (in_beginning program budget ++ in_items program budget start items) (from_here (in_end program budget last) all)
+      ((follows order program).both first (world_in start) (world_in all) (in_beginning program budget) (in_items program budget start items)
+      (over_beginning program (Conserves order) (follows order program) budget (onward-conserves order first _ (initialised-moves program budget 0 first program.globals).onward)) (items-conserve items goes start))
       (end-conserves last all)
 
   abbrev below : ℕ → ℕ
@@ -90,10 +90,10 @@ record Quiet (before : World) (trace : List Dispatched) (after : World) : Type 0
 onward-quiet : (before after : World) → Onward before after → Quiet before [] after
 onward-quiet before after goes = record { ending = goes.ending; none = λ is none. goes.scheduled ∙ (ap (λ l. l ++ goes.more) none ∙ goes.none is) }
 
-quietly : Follows Quiet
-quietly = record {
-  onward = onward-quiet;
-  waited = λ before after event goes. let quiet = onward-quiet before after goes in record { ending = quiet.ending; none = quiet.none };
+quietly : (program : Program) → Follows program Quiet
+quietly program = record {
+  onward = λ before after passes. onward-quiet before after passes.moves.onward;
+  waited = λ before after event passes. let quiet = onward-quiet before after passes.moves.onward in record { ending = quiet.ending; none = quiet.none };
   both = λ a b c first second one other. record { ending = other.ending ∙ one.ending; none = λ is none. other.none (one.ending ∙ is) (one.none is none) };
 }
 
@@ -129,11 +129,11 @@ end-quiet : (program : Program) (budget : ℕ) (last : Moment) (world : World) (
     → (after : World) (more : ℕ) → goes_on (λ w l. drained program budget l (queued_behind (queued zeek_done [] ∷ []) w)) turned ≡ Goes after more → after.scheduled ≡ []
 end-quiet program budget last world left (Floods flooded) is after more comes = absurd (let no : ⊥ = cc in no)
 end-quiet program budget last world left (Goes before some) is after more comes =
-    let over = over_turns Quiet quietly program budget (λ at. last) (λ one. true) (λ w one next due. turn-quiet program budget (λ at. last) w one) (suc left) (ending_at last world) left in
+    let over = over_turns program Quiet (quietly program) budget (λ at. last) (λ one. true) (λ w one next due. turn-quiet program budget (λ at. last) w one) (suc left) (ending_at last world) left in
     let quiet = subst (λ (p : Progress). Quiet (ending_at last world) (in_turns program budget (λ at. last) (λ one. true) (ending_at last world) left) (world_in p)) (sym is) over in
     let nothing = none-left program before quiet.ending (settled-none program _ before some (turns_settle program budget (λ at. last) (λ one. true) (ending_at last world) left) (sym is)) in
     let done = queued_behind (queued zeek_done [] ∷ []) before in
-    let rest = over_queue Quiet quietly program budget some done in
+    let rest = over_queue program Quiet (quietly program) budget some done in
     ap (λ (p : Progress). (world_in p).scheduled) (sym comes) ∙ rest.none quiet.ending nothing
 
 run-quiet : (program : Program) (budget : ℕ) (last : Moment) (before : Progress) (after : World) (more : ℕ) → goes_on (finish program budget last) before ≡ Goes after more → after.scheduled ≡ []

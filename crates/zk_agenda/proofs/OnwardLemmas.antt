@@ -16,9 +16,9 @@ use Rattle.zk_typed.specs.World.{Queued, Scheduled, queued}
 use Rattle.zk_agenda.specs.Onward.{AreScheduled, Onward}
 
 -- a change of other parts
-pub alike : (before after : World) → after.time ≡ before.time → after.is_ending ≡ before.is_ending → after.scheduled ≡ before.scheduled → after.schedulings ≡ before.schedulings
+pub onward_alike : (before after : World) → after.time ≡ before.time → after.is_ending ≡ before.is_ending → after.scheduled ≡ before.scheduled → after.schedulings ≡ before.schedulings
     → Onward before after
-alike before after time ending scheduled schedulings = record {
+onward_alike before after time ending scheduled schedulings = record {
   time = time;
   ending = ending;
   more = [];
@@ -59,7 +59,7 @@ onward_both a b c first second = record {
 long_after : (z d : ℤ) → z ≤ℤ pos (2 ^ 63 - 1) → z ≤ℤ int_min (z +ℤ int_max d (pos 0)) (pos (2 ^ 63 - 1))
 long_after z d within = grind (arith, ints)
 
-not_before : (now : Moment) (delay : Span) → now.0 ≤ℤ last_moment → now.0 ≤ℤ (moment_after now delay).0
+pub not_before : (now : Moment) (delay : Span) → now.0 ≤ℤ last_moment → now.0 ≤ℤ (moment_after now delay).0
 unfolding moment_after
 not_before now delay within = long_after now.0 delay.0 within
 
@@ -80,6 +80,6 @@ pub scheduled_onward : (event : EventNo) (delay : Span) (args : List Value) (wor
 scheduled_onward event delay args world = by_ending world.is_ending refl
   where
     by_ending : (ending : Bool) → world.is_ending ≡ ending → Onward world (schedule event delay args world)
-    by_ending true is = subst (λ b. Onward world (if b then world else scheduled_for (moment_after world.time delay) (queued event args) world)) (sym is) (alike world world refl refl refl refl)
+    by_ending true is = subst (λ b. Onward world (if b then world else scheduled_for (moment_after world.time delay) (queued event args) world)) (sym is) (onward_alike world world refl refl refl refl)
     by_ending false is = subst (λ b. Onward world (if b then world else scheduled_for (moment_after world.time delay) (queued event args) world)) (sym is)
         (one-scheduled (moment_after world.time delay) (queued event args) world (not_before world.time delay) is)

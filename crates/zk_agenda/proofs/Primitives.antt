@@ -1,12 +1,12 @@
 -- Each primitive, each action and each part of a write goes onward.
-use Rattle.std.proofs.Common.{ℕ, List, [], ◌∷◌, reverse, Option, Some, None, refl}
+use Rattle.std.proofs.Common.{ℕ, List, [], ◌∷◌, reverse, true, Option, Some, None, refl}
 use Rattle.zk_base.specs.declared.numbers.EventNo.{EventNo}
 use Rattle.zk_base.specs.declared.numbers.LogId.{LogId}
 use Rattle.zk_base.specs.declared.numbers.RecordNo.{RecordNo}
 use Rattle.zk_tree.specs.declared.place.Place.{Place}
 use Rattle.zk_tree.specs.Store.{Object}
 use Rattle.zk_tree.specs.Store as object
-use Rattle.zk_tree.specs.Table.{Table}
+use Rattle.zk_tree.specs.Table.{Table, remove}
 use Rattle.zk_tree.specs.Value as value
 use Rattle.zk_tree.specs.Value.{Value}
 use Rattle.zk_typed.specs.declared.script.action.Action.{Action}
@@ -29,24 +29,25 @@ use Rattle.zk_typed.specs.Logs.{stream_of, create, add_filter, remove_filter, lo
 use Rattle.zk_typed.specs.Meaning.{set_keys, set_names}
 use Rattle.zk_typed.specs.Program.{Program}
 use Rattle.zk_typed.specs.Objects as objects
-use Rattle.zk_typed.specs.Objects.{Given, table_in, vector_in, fields_in, in_field}
+use Rattle.zk_typed.specs.Objects.{Given, keys_of, table_in, vector_in, fields_in, in_field}
 use Rattle.zk_typed.specs.Primitives as primitives
-use Rattle.zk_agenda.proofs.OnwardLemmas.{alike, scheduled_onward}
-use Rattle.zk_agenda.proofs.Steps.{Goes, goes_binary, goes_bind, goes_change_table, goes_copied_to, goes_element, goes_field, goes_global, goes_has_field, goes_has_key, goes_item, goes_local, goes_misfit, goes_new_object, goes_new_record, goes_new_set, goes_new_table, goes_now, goes_object, goes_of, goes_pure, goes_set_field, goes_set_global, goes_set_item, goes_set_local, goes_set_object, goes_size, goes_stepped, goes_string, goes_then, goes_tick, goes_unary, goes_vector}
+use Rattle.zk_agenda.proofs.Dues.{alike, scheduled_moves}
+use Rattle.zk_agenda.proofs.Dues.{becomes-vector, fold-delays, insert-delays, remove-delays}
+use Rattle.zk_agenda.proofs.Steps.{Goes, members-delay, goes_binary, goes_bind, goes_change_table, goes_copied_to, goes_element, goes_field, goes_global, goes_has_field, goes_has_key, goes_item, goes_local, goes_misfit, goes_new_object, goes_new_record, goes_new_set, goes_new_table, goes_now, goes_object, goes_of, goes_pure, goes_set_field, goes_set_global, goes_set_item, goes_set_local, goes_set_vector, goes_size, goes_stepped, goes_string, goes_then, goes_tick, goes_unary, goes_vector}
 
 -- Logs -------------------------------------------------------------------------------------------------------------
 
 pub goes_create : (stream : Stream) (there : Option Stream) → Goes (create stream there)
-goes_create stream (Some there) = record { by = λ state. alike _ _ refl refl refl refl }
-goes_create stream None = record { by = λ state. alike _ _ refl refl refl refl }
+goes_create stream (Some there) = record { by = λ state. alike _ _ refl refl refl refl refl }
+goes_create stream None = record { by = λ state. alike _ _ refl refl refl refl refl }
 
 pub goes_add_filter : (log : LogId) (one : Filter) (stream : Option Stream) → Goes (add_filter log one stream)
-goes_add_filter log one None = record { by = λ state. alike _ _ refl refl refl refl }
-goes_add_filter log one (Some stream) = record { by = λ state. alike _ _ refl refl refl refl }
+goes_add_filter log one None = record { by = λ state. alike _ _ refl refl refl refl refl }
+goes_add_filter log one (Some stream) = record { by = λ state. alike _ _ refl refl refl refl refl }
 
 pub goes_remove_filter : (log : LogId) (name : List ℕ) (stream : Option Stream) → Goes (remove_filter log name stream)
-goes_remove_filter log name None = record { by = λ state. alike _ _ refl refl refl refl }
-goes_remove_filter log name (Some stream) = record { by = λ state. alike _ _ refl refl refl refl }
+goes_remove_filter log name None = record { by = λ state. alike _ _ refl refl refl refl refl }
+goes_remove_filter log name (Some stream) = record { by = λ state. alike _ _ refl refl refl refl refl }
 
 pub goes_log_call : (call : LogCall) → Goes (log_call call)
 goes_log_call (Create log event path policy columns) = goes_of (λ world. stream_of log world.streams) (λ there. goes_create (record { id = log; event = event; path = path; policy = policy; columns = columns; filters = first_filter columns ∷ [] }) there)
@@ -54,15 +55,15 @@ goes_log_call (AddFilter log name path policy columns) = goes_of (λ world. stre
 goes_log_call (RemoveFilter log name) = goes_of (λ world. stream_of log world.streams) (λ stream. goes_remove_filter log name stream)
 
 pub goes_write_row : (program : Program) (stream : Stream) (one : Filter) (row : Value) → Goes (write_row program stream one row)
-goes_write_row program stream one row = record { by = λ state. alike _ _ refl refl refl refl }
+goes_write_row program stream one row = record { by = λ state. alike _ _ refl refl refl refl refl }
 
 pub goes_described : (program : Program) (filter_type : RecordNo) (place : Place) (stream : Stream) (one : Filter) → Goes (described program filter_type place stream one)
 goes_described program filter_type place stream one =
     goes_new_record place filter_type (record_fields program filter_type) ((0, value.String one.name) ∷ (1, value.String (path_of stream one)) ∷ [])
 
 pub goes_queue_row : (event : Option EventNo) (row : Value) → Goes (queue_row event row)
-goes_queue_row None row = record { by = λ state. alike _ _ refl refl refl refl }
-goes_queue_row (Some event) row = record { by = λ state. alike _ _ refl refl refl refl }
+goes_queue_row None row = record { by = λ state. alike _ _ refl refl refl refl refl }
+goes_queue_row (Some event) row = record { by = λ state. alike _ _ refl refl refl refl refl }
 
 -- Left sides -------------------------------------------------------------------------------------------------------
 
@@ -78,7 +79,7 @@ pub goes_assign : (place : Place) (side : Left) (operands : List Value) (one : V
 goes_assign place (left.Local number) [] one = goes_set_local number (Some one)
 goes_assign place (left.Global number) [] one = goes_set_global number (Some one)
 goes_assign place (left.Field field) (of ∷ []) one = goes_set_field place of field.field one
-goes_assign place left.Element (table ∷ key) one = goes_change_table place table _
+goes_assign place left.Element (table ∷ key) one = goes_change_table place table _ (λ moment. insert-delays moment key one)
 goes_assign place left.Item (vector ∷ index ∷ []) one = goes_set_item place vector index one
 goes_assign place side operands one = goes_misfit place
 
@@ -89,11 +90,11 @@ goes_by_kind k of_record of_vector of_table (object.Vector items) = of_vector it
 goes_by_kind k of_record of_vector of_table (object.Table table) = of_table table
 
 pub goes_into_object : (place : Place) (by : Binary) (one other : Value) (there : Object) → Goes (primitives.into_object place by one other there)
-goes_into_object place Plus one added (object.Vector items) = goes_then (goes_set_object one _) (goes_pure one)
+goes_into_object place Plus one added (object.Vector items) = goes_then (goes_set_vector one _) (goes_pure one)
 goes_into_object place Plus one added (object.Table members) = goes_bind (goes_object place added) (goes_by_kind _
-    (λ number fields. goes_misfit place) (λ items. goes_misfit place) (λ others. goes_then (goes_change_table place one _) (goes_pure one)))
+    (λ number fields. goes_misfit place) (λ items. goes_misfit place) (λ others. goes_then (goes_change_table place one _ (λ moment. members-delay moment (keys_of others))) (goes_pure one)))
 goes_into_object place Minus one taken (object.Table members) = goes_bind (goes_object place taken) (goes_by_kind _
-    (λ number fields. goes_misfit place) (λ items. goes_misfit place) (λ others. goes_then (goes_change_table place one _) (goes_pure one)))
+    (λ number fields. goes_misfit place) (λ items. goes_misfit place) (λ others. goes_then (goes_change_table place one _ (λ moment. fold-delays moment (λ left key. remove key left) (λ key. remove-delays moment key) (keys_of others))) (goes_pure one)))
 goes_into_object place by one other there = goes_misfit place
 
 pub goes_updated : (place : Place) (by : Binary) (one other : Value) → Goes (primitives.updated place by one other)
@@ -124,7 +125,7 @@ goes_called place built_in.Strstr (value.String big ∷ value.String little ∷ 
 goes_called place built_in.ToCount (value.String text ∷ []) = goes_pure _
 goes_called place built_in.StartsWith (value.String text ∷ value.String start ∷ []) = goes_pure _
 goes_called place built_in.JoinStringVec (strings ∷ value.String separator ∷ []) = goes_join_strings place strings separator
-goes_called place built_in.AddrToCounts (value.Addr address ∷ []) = goes_new_object _
+goes_called place built_in.AddrToCounts (value.Addr address ∷ []) = goes_new_object _ (λ now. becomes-vector now None _)
 goes_called place built_in.NetworkTime [] = goes_now (λ moment. goes_pure (value.Time moment))
 goes_called place built_in.Copy (one ∷ []) = goes_copied_to 201 place one
 goes_called place function values = goes_misfit place
@@ -151,7 +152,7 @@ goes_perform place primitive.Element (table ∷ key) = goes_element place table 
 goes_perform place primitive.Item (vector ∷ index ∷ []) = goes_item place vector index
 goes_perform place (primitive.NewTable shape) values = goes_new_table shape values
 goes_perform place (primitive.NewSet shape) values = goes_new_set shape values
-goes_perform place primitive.NewVector values = goes_new_object _
+goes_perform place primitive.NewVector values = goes_new_object _ (λ now. becomes-vector now None _)
 goes_perform place (primitive.Step side by) operands =
     goes_bind (goes_left_value place side operands) (λ before. goes_bind (goes_stepped place by before) (λ after. goes_then (goes_assign place side operands after) (goes_pure after)))
 goes_perform place (primitive.BuiltIn function) values = goes_then (goes_tick place) (goes_called place function values)
@@ -159,15 +160,15 @@ goes_perform place (primitive.Log call) [] = goes_then (goes_tick place) (goes_l
 goes_perform place one values = goes_misfit place
 
 pub goes_act : (place : Place) (one : Action) (values : List Value) → Goes (primitives.act place one values)
-goes_act place action.Print values = record { by = λ state. alike _ _ refl refl refl refl }
+goes_act place action.Print values = record { by = λ state. alike _ _ refl refl refl refl refl }
 goes_act place (action.Assign side) (one ∷ operands) = goes_assign place side operands one
 goes_act place (action.Update side by) (one ∷ operands) =
     goes_bind (goes_left_value place side operands) (λ before. goes_bind (goes_updated place by before one) (λ after. goes_assign place side operands after))
 goes_act place (action.Forget number) [] = goes_set_local number None
-goes_act place action.Add (members ∷ key) = goes_change_table place members _
-goes_act place action.Delete (table ∷ key) = goes_change_table place table _
-goes_act place (action.Queue event) values = record { by = λ state. alike _ _ refl refl refl refl }
-goes_act place (action.Schedule event) (value.Interval delay ∷ values) = record { by = λ state. scheduled_onward event delay values state.world }
+goes_act place action.Add (members ∷ key) = goes_change_table place members _ (λ moment. insert-delays moment key (value.Bool true))
+goes_act place action.Delete (table ∷ key) = goes_change_table place table _ (λ moment. remove-delays moment key)
+goes_act place (action.Queue event) values = record { by = λ state. alike _ _ refl refl refl refl refl }
+goes_act place (action.Schedule event) (value.Interval delay ∷ values) = record { by = λ state. scheduled_moves event delay values state.world }
 goes_act place one values = goes_misfit place
 
 -- Names ------------------------------------------------------------------------------------------------------------

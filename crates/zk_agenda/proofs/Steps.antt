@@ -1,13 +1,13 @@
 -- Each step that a script takes goes onward.
-use Rattle.std.proofs.Common.{ℕ, zero, suc, ◌+◌, ◌-◌, Bool, true, false, List, [], ◌∷◌, length, Option, Some, None, refl}
-use Rattle.std.specs.Prelude.{ℤ, pos, nat_lt, nat_le, ◌==◌, ◌^◌, if◌then◌else◌, slice_get}
+use Rattle.std.proofs.Common.{ℕ, zero, suc, ◌+◌, ◌-◌, Bool, true, false, List, [], ◌∷◌, fold, length, take, drop, Option, Some, None, is_some, ◌≡◌, subst, sym, refl}
+use Rattle.std.specs.Prelude.{pos, nat_lt, nat_le, ◌==◌, ◌^◌, if◌then◌else◌, slice_get}
 use Rattle.std.specs.Ordering.{int_eq}
 use Rattle.zk_base.specs.declared.numbers.RecordNo.{RecordNo}
 use Rattle.zk_base.specs.declared.time.Moment.{Moment}
 use Rattle.zk_tree.specs.declared.place.Place.{Place}
 use Rattle.zk_tree.specs.Store.{Object}
 use Rattle.zk_tree.specs.Store as object
-use Rattle.zk_tree.specs.Table.{Table, Entry, insert}
+use Rattle.zk_tree.specs.Table.{Table, Entry, entry_at, insert, renew}
 use Rattle.zk_tree.specs.Value as value
 use Rattle.zk_tree.specs.Value.{Value}
 use Rattle.zk_typed.specs.declared.ends.FaultKind.{FaultKind}
@@ -29,8 +29,8 @@ use Rattle.zk_typed.specs.Objects.{Given, table_in, vector_in, fields_in, in_fie
 use Rattle.zk_typed.specs.Operators as operators
 use Rattle.zk_typed.specs.Program.{Field}
 use Rattle.zk_typed.specs.State.{State, World}
-use Rattle.zk_agenda.specs.Onward.{Onward}
-use Rattle.zk_agenda.proofs.OnwardLemmas.{alike, onward_both}
+use Rattle.zk_agenda.proofs.Dues.{Becomes, Delays, IsUndue, add-moves, becomes-changed, becomes-new, becomes-record, becomes-same, becomes-vector, fold-delays, if-delays, insert-delays, insert-undue, renew-delays, set-moves}
+use Rattle.zk_agenda.proofs.Dues.{alike, moves_both, Moves}
 
 -- the world to which a computation comes, however it ends
 abbrev pub reached : {A : Type 0} → Ran A → World
@@ -39,36 +39,36 @@ reached (Faults kind place world units) = world
 reached (Spent place world) = world
 
 pub record Goes {A : Type 0} (m : Does A) : Type 0 where
-  pub by : (state : State) → Onward state.world (reached (m state))
+  pub by : (state : State) → Moves state.world (reached (m state))
 
-onward_then : {A B : Type 0} → (before : World) → (ran : Ran A) → (k : A → State → Ran B) → ((a : A) (state : State) → Onward state.world (reached (k a state)))
-    → Onward before (reached ran) → Onward before (reached (and_then ran k))
-onward_then before (Gives a state) k h first = onward_both before state.world (reached (k a state)) first (h a state)
-onward_then before (Faults kind place world units) k h first = first
-onward_then before (Spent place world) k h first = first
+step_then : {A B : Type 0} → (before : World) → (ran : Ran A) → (k : A → State → Ran B) → ((a : A) (state : State) → Moves state.world (reached (k a state)))
+    → Moves before (reached ran) → Moves before (reached (and_then ran k))
+step_then before (Gives a state) k h first = moves_both before state.world (reached (k a state)) first (h a state)
+step_then before (Faults kind place world units) k h first = first
+step_then before (Spent place world) k h first = first
 
 pub goes_bind : {A B : Type 0} {m : Does A} {k : A → Does B} → Goes m → ((a : A) → Goes (k a)) → Goes (m >>= k)
-goes_bind {m = m} {k = k} first next = record { by = λ state. onward_then state.world (m state) k (λ a t. (next a).by t) (first.by state) }
+goes_bind {m = m} {k = k} first next = record { by = λ state. step_then state.world (m state) k (λ a t. (next a).by t) (first.by state) }
 
 pub goes_then : {A B : Type 0} {m : Does A} {k : Does B} → Goes m → Goes k → Goes (m >> k)
 goes_then first next = goes_bind first (λ a. next)
 
 pub goes_pure : {A : Type 0} → (a : A) → Goes (pure a)
-goes_pure a = record { by = λ state. alike _ _ refl refl refl refl }
+goes_pure a = record { by = λ state. alike _ _ refl refl refl refl refl }
 
 pub goes_fault : {A : Type 0} → (kind : FaultKind) (place : Place) → Goes (fault {A = A} kind place)
-goes_fault kind place = record { by = λ state. alike _ _ refl refl refl refl }
+goes_fault kind place = record { by = λ state. alike _ _ refl refl refl refl refl }
 
 pub goes_misfit : {A : Type 0} → (place : Place) → Goes (misfit {A = A} place)
-goes_misfit place = record { by = λ state. alike _ _ refl refl refl refl }
+goes_misfit place = record { by = λ state. alike _ _ refl refl refl refl refl }
 
 pub goes_or_fault : {A : Type 0} → (kind : FaultKind) (place : Place) (one : Option A) → Goes (or_fault kind place one)
 goes_or_fault kind place None = goes_fault kind place
 goes_or_fault kind place (Some a) = goes_pure a
 
-spend_onward : (place : Place) (state : State) (units : ℕ) → Onward state.world (reached (spend place state units))
-spend_onward place state zero = alike _ _ refl refl refl refl
-spend_onward place state (suc units) = alike _ _ refl refl refl refl
+spend_onward : (place : Place) (state : State) (units : ℕ) → Moves state.world (reached (spend place state units))
+spend_onward place state zero = alike _ _ refl refl refl refl refl
+spend_onward place state (suc units) = alike _ _ refl refl refl refl refl
 
 pub goes_tick : (place : Place) → Goes (tick place)
 goes_tick place = record { by = λ state. spend_onward place state state.units }
@@ -83,23 +83,45 @@ pub goes_local : (place : Place) (number : ℕ) → Goes (local place number)
 goes_local place number = record { by = λ state. (goes_or_fault Unset place (named state.locals number)).by state }
 
 pub goes_set_local : (number : ℕ) (one : Option Value) → Goes (set_local number one)
-goes_set_local number one = record { by = λ state. alike _ _ refl refl refl refl }
+goes_set_local number one = record { by = λ state. alike _ _ refl refl refl refl refl }
 
 pub goes_global : (place : Place) (number : ℕ) → Goes (global place number)
 goes_global place number = record { by = λ state. (goes_or_fault Unset place (named state.world.globals number)).by state }
 
 pub goes_set_global : (number : ℕ) (one : Option Value) → Goes (set_global number one)
-goes_set_global number one = record { by = λ state. alike _ _ refl refl refl refl }
+goes_set_global number one = record { by = λ state. alike _ _ refl refl refl refl refl }
 
 pub goes_object : (place : Place) (one : Value) → Goes (object place one)
 goes_object place one = record { by = λ state. (goes_or_fault Unset place (object_in one state.world)).by state }
 
-pub goes_set_object : (one : Value) (changed : Object) → Goes (set_object one changed)
-goes_set_object (value.Object number) changed = record { by = λ state. alike _ _ refl refl refl refl }
-goes_set_object one changed = goes_pure tt
+-- an object in the place of the one that a value names
+set_object-step : (state : State) (one : Value) (changed : Object)
+    → Becomes state.world.time (object_in one state.world) (Some changed) → Moves state.world (reached (set_object one changed state))
+set_object-step state (value.Object number) changed here = set-moves state.world number.0 changed here
+set_object-step state one changed here = alike _ _ refl refl refl refl refl
 
-pub goes_new_object : (made : Object) → Goes (new_object made)
-goes_new_object made = record { by = λ state. alike _ _ refl refl refl refl }
+-- what is done to the object that a value names
+goes_with_object : {B : Type 0} (place : Place) (one : Value) (k : Object → Does B)
+    → ((state : State) (found : Object) → object_in one state.world ≡ Some found → Moves state.world (reached (k found state))) → Goes (object place one >>= k)
+goes_with_object place one k next = record { by = λ state. by_object state (object_in one state.world) refl }
+  where
+    by_object : (state : State) (there : Option Object) → object_in one state.world ≡ there → Moves state.world (reached (and_then (or_fault Unset place there state) k))
+    by_object state None is = alike _ _ refl refl refl refl refl
+    by_object state (Some found) is = next state found is
+
+pub goes_set_vector : (one : Value) (items : List Value) → Goes (set_object one (object.Vector items))
+goes_set_vector one items = record { by = λ state. set_object-step state one (object.Vector items) (becomes-vector state.world.time (object_in one state.world) items) }
+
+pub goes_new_object : (made : Object) → ((now : Moment) → Becomes now None (Some made)) → Goes (new_object made)
+goes_new_object made here = record { by = λ state. add-moves state.world made (here state.world.time) }
+
+-- an object that is made at a moment
+goes_new_at : {B : Type 0} (make : Moment → Object) {k : Value → Does B}
+    → ((moment : Moment) → Becomes moment None (Some (make moment))) → ((one : Value) → Goes (k one))
+    → Goes (objects.now >>= (λ moment. new_object (make moment) >>= k))
+goes_new_at make {k} here next = record {
+  by = λ state. step_then state.world (new_object (make state.world.time) state) k (λ one after. (next one).by after) (add-moves state.world (make state.world.time) (here state.world.time));
+}
 
 -- what is read first decides the rest
 pub goes_of : {A B : Type 0} → (part : World → A) {k : A → Does B} → ((a : A) → Goes (k a)) → Goes (read part >>= k)
@@ -116,15 +138,6 @@ goes_give_if false kind place one = goes_fault kind place
 
 pub goes_count : (place : Place) (n : ℕ) → Goes (operators.count place n)
 goes_count place n = goes_give_if (nat_lt n (2 ^ 64)) Overflow place (value.Count n)
-
-pub goes_int : (place : Place) (n : ℤ) → Goes (operators.int place n)
-goes_int place n = goes_give_if (operators.is_int n) Overflow place (value.Int n)
-
-pub goes_interval : (place : Place) (n : ℤ) → Goes (operators.interval place n)
-goes_interval place n = goes_give_if (operators.is_int n) Overflow place (value.Interval (record { 0 = n }))
-
-pub goes_time : (place : Place) (n : ℤ) → Goes (operators.time place n)
-goes_time place n = goes_give_if (operators.is_int n) Overflow place (value.Time (record { 0 = n }))
 
 pub goes_string : (place : Place) (bytes : List ℕ) → Goes (operators.string place bytes)
 goes_string place bytes = goes_give_if (nat_le (length bytes) operators.strings_max) TooLong place (value.String bytes)
@@ -199,8 +212,8 @@ goes_signed place Negated one = goes_unary place Negate one
 
 pub goes_default_value : (place : Place) (default : DefaultValue) → Goes (objects.default_value place default)
 goes_default_value place (Literal literal sign) = goes_signed place sign _
-goes_default_value place EmptyTable = goes_new_object _
-goes_default_value place EmptyVector = goes_new_object _
+goes_default_value place EmptyTable = goes_new_object _ (λ now. becomes-new now (objects.empty_table None) (record { among = tt }) (λ low le within. tt))
+goes_default_value place EmptyVector = goes_new_object _ (λ now. becomes-vector now None [])
 
 pub goes_table_in : (place : Place) (one : Object) → Goes (table_in place one)
 goes_table_in place (object.Table table) = goes_pure table
@@ -210,8 +223,27 @@ goes_table_in place (object.Vector items) = goes_misfit place
 pub goes_table : (place : Place) (one : Value) → Goes (objects.table place one)
 goes_table place one = goes_bind (goes_object place one) (λ found. goes_table_in place found)
 
-pub goes_set_table : (one : Value) (table : Table) → Goes (objects.set_table one table)
-goes_set_table one table = goes_set_object one (object.Table table)
+-- what is done at the moment to the table that a value names
+goes_with_table : {B : Type 0} (place : Place) (one : Value) (k : Table → Moment → Does B)
+    → ((state : State) (table : Table) → object_in one state.world ≡ Some (object.Table table) → Moves state.world (reached (k table state.world.time state)))
+    → Goes (objects.table place one >>= (λ table. objects.now >>= k table))
+goes_with_table place one k next = record { by = λ state. by_object state (object_in one state.world) refl }
+  where
+    by_object : (state : State) (there : Option Object) → object_in one state.world ≡ there
+        → Moves state.world (reached (and_then (and_then (or_fault Unset place there state) (table_in place)) (λ table. objects.now >>= k table)))
+    by_object state None is = alike _ _ refl refl refl refl refl
+    by_object state (Some (object.Table table)) is = next state table is
+    by_object state (Some (object.Record number fields)) is = alike _ _ refl refl refl refl refl
+    by_object state (Some (object.Vector items)) is = alike _ _ refl refl refl refl refl
+
+set_table-step : (state : State) (one : Value) (table : Table) (change : Table → Table) → Delays state.world.time change → object_in one state.world ≡ Some (object.Table table)
+    → Moves state.world (reached (objects.set_table one (change table) state))
+set_table-step state one table change delays is =
+    set_object-step state one (object.Table (change table)) (subst (λ (there : Option Object). Becomes state.world.time there (Some (object.Table (change table)))) (sym is)
+    (becomes-changed state.world.time change table delays))
+
+found-delays : (moment : Moment) (key : List Value) → Delays moment (objects.found moment key)
+found-delays moment key = if-delays moment (λ table. objects.finds_renew table.expiry) (renew moment key) (renew-delays moment key)
 
 pub goes_absent : (place : Place) (default : Option DefaultValue) → Goes (objects.absent place default)
 goes_absent place None = goes_fault NoIndex place
@@ -222,23 +254,46 @@ goes_entry_value place one (Some entry) = goes_pure _
 goes_entry_value place one None = goes_of (objects.default_of one) (λ default. goes_absent place default)
 
 pub goes_element : (place : Place) (one : Value) (key : List Value) → Goes (objects.element place one key)
-goes_element place one key = goes_bind (goes_table place one) (λ table. goes_now (λ moment. goes_then (goes_set_table one _) (goes_entry_value place one _)))
+goes_element place one key = goes_with_table place one (λ table moment. objects.set_table one (objects.found moment key table) >> objects.entry_value place one (entry_at key table.entries)) (λ state table is.
+    step_then state.world (objects.set_table one (objects.found state.world.time key table) state) (λ a. objects.entry_value place one (entry_at key table.entries))
+    (λ a after. (goes_entry_value place one (entry_at key table.entries)).by after)
+    (set_table-step state one table (objects.found state.world.time key) (found-delays state.world.time key) is))
 
 pub goes_has_key : (place : Place) (one : Value) (key : List Value) → Goes (objects.has_key place one key)
-goes_has_key place one key = goes_bind (goes_table place one) (λ table. goes_now (λ moment. goes_then (goes_set_table one _) (goes_pure _)))
+goes_has_key place one key = goes_with_table place one (λ table moment. objects.set_table one (objects.found moment key table) >> pure (value.Bool (is_some (entry_at key table.entries)))) (λ state table is.
+    step_then state.world (objects.set_table one (objects.found state.world.time key table) state) (λ a. pure (value.Bool (is_some (entry_at key table.entries))))
+    (λ a after. (goes_pure (value.Bool (is_some (entry_at key table.entries)))).by after)
+    (set_table-step state one table (objects.found state.world.time key) (found-delays state.world.time key) is))
 
-pub goes_change_table : (place : Place) (one : Value) (changed : Moment → Table → Table) → Goes (objects.change_table place one changed)
-goes_change_table place one changed = goes_bind (goes_table place one) (λ table. goes_now (λ moment. goes_set_table one _))
+pub goes_change_table : (place : Place) (one : Value) (changed : Moment → Table → Table) → ((moment : Moment) → Delays moment (changed moment)) → Goes (objects.change_table place one changed)
+goes_change_table place one changed delays = goes_with_table place one (λ table moment. objects.set_table one (changed moment table)) (λ state table is. set_table-step state one table (changed state.world.time) (delays state.world.time) is)
+
+pub members-delay : (moment : Moment) (keys : List (List Value)) → Delays moment (λ table. fold (objects.add_member moment) table keys)
+members-delay moment keys = fold-delays moment (objects.add_member moment) (λ key. insert-delays moment key (value.Bool true)) keys
+
+pairs-delay : (size : ℕ) (moment : Moment) (groups : List (List Value)) → Delays moment (λ table. fold (objects.with_pair size moment) table groups)
+pairs-delay size moment groups = fold-delays moment (objects.with_pair size moment)
+    (λ group. fold-delays moment (λ filled one. insert moment (take size group) one filled) (λ one. insert-delays moment (take size group) one) (drop size group)) groups
 
 pub goes_keep_default : (default : Option DefaultValue) (one : Value) → Goes (objects.keep_default default one)
-goes_keep_default (Some default) (value.Object number) = record { by = λ state. alike _ _ refl refl refl refl }
+goes_keep_default (Some default) (value.Object number) = record { by = λ state. alike _ _ refl refl refl refl refl }
 goes_keep_default default one = goes_pure one
 
 pub goes_new_set : (shape : Shape) (values : List Value) → Goes (objects.new_set shape values)
-goes_new_set shape values = goes_now (λ moment. goes_bind (goes_new_object _) (λ made. goes_keep_default shape.default made))
+goes_new_set shape values =
+    let members : List (List Value) = objects.groups shape.keys values in
+    goes_new_at (λ moment. object.Table (fold (objects.add_member moment) (objects.empty_table shape.expiry) members))
+    (λ moment. let delays = members-delay moment members in
+    becomes-new moment _ (delays.keeps.sound (objects.empty_table shape.expiry) (record { among = tt })) (λ low le within. delays.by low le within (objects.empty_table shape.expiry) tt))
+    (λ made. goes_keep_default shape.default made)
 
 pub goes_new_table : (shape : Shape) (values : List Value) → Goes (objects.new_table shape values)
-goes_new_table shape values = goes_now (λ moment. goes_bind (goes_new_object _) (λ made. goes_keep_default shape.default made))
+goes_new_table shape values =
+    let pairs : List (List Value) = objects.groups (shape.keys + 1) values in
+    goes_new_at (λ moment. object.Table (fold (objects.with_pair shape.keys moment) (objects.empty_table shape.expiry) pairs))
+    (λ moment. let delays = pairs-delay shape.keys moment pairs in
+    becomes-new moment _ (delays.keeps.sound (objects.empty_table shape.expiry) (record { among = tt })) (λ low le within. delays.by low le within (objects.empty_table shape.expiry) tt))
+    (λ made. goes_keep_default shape.default made)
 
 -- Vectors and records ----------------------------------------------------------------------------------------------
 
@@ -259,7 +314,7 @@ goes_with_item place items index item = goes_if (nat_lt index (length items)) (g
 
 pub goes_set_item : (place : Place) (one index item : Value) → Goes (objects.set_item place one index item)
 goes_set_item place one (value.Count index) item =
-    goes_bind (goes_vector place one) (λ items. goes_bind (goes_with_item place items index item) (λ changed. goes_set_object one _))
+    goes_bind (goes_vector place one) (λ items. goes_bind (goes_with_item place items index item) (λ changed. goes_set_vector one _))
 goes_set_item place one index item = goes_misfit place
 
 pub goes_fields_in : (place : Place) (one : Object) → Goes (fields_in place one)
@@ -276,8 +331,15 @@ goes_field place one number = goes_bind (goes_fields place one) (λ fields. goes
 pub goes_has_field : (place : Place) (one : Value) (number : ℕ) → Goes (objects.has_field place one number)
 goes_has_field place one number = goes_bind (goes_fields place one) (λ fields. goes_pure _)
 
+becomes-field : (now : Moment) (number : ℕ) (field : Value) (one : Object) → Becomes now (Some one) (Some (objects.with_field number field one))
+becomes-field now number field (object.Record of fields) = record { dues = λ low le within from. tt; sound = λ sound. tt; past = λ order key past. tt }
+becomes-field now number field (object.Vector items) = becomes-same now _
+becomes-field now number field (object.Table table) = becomes-same now _
+
 pub goes_set_field : (place : Place) (one : Value) (number : ℕ) (field : Value) → Goes (objects.set_field place one number field)
-goes_set_field place one number field = goes_bind (goes_object place one) (λ changed. goes_set_object one _)
+goes_set_field place one number field = goes_with_object place one _ (λ state found is.
+    set_object-step state one (objects.with_field number field found) (subst (λ (there : Option Object). Becomes state.world.time there (Some (objects.with_field number field found))) (sym is)
+    (becomes-field state.world.time number field found)))
 
 pub goes_not_given : (place : Place) (default : Option DefaultValue) → Goes (objects.not_given place default)
 goes_not_given place None = goes_pure None
@@ -293,7 +355,41 @@ goes_first_values place given number (field ∷ fields) =
     goes_bind (goes_first_value place field _) (λ one. goes_bind (goes_first_values place given (number + 1) fields) (λ others. goes_pure (one ∷ others)))
 
 pub goes_new_record : (place : Place) (number : RecordNo) (fields : List Field) (given : List Given) → Goes (objects.new_record place number fields given)
-goes_new_record place number fields given = goes_bind (goes_first_values place given 0 fields) (λ values. goes_new_object _)
+goes_new_record place number fields given = goes_bind (goes_first_values place given 0 fields) (λ values. goes_new_object _ (λ now. becomes-record now number values))
+
+-- Computations of which a value is known ---------------------------------------------------------------------------------------
+
+abbrev Gave : {A : Type 0} → (A → Type 0) → Ran A → Type 0
+Gave P (Gives a state) = P a
+Gave P (Faults kind place world units) = Unit {0}
+Gave P (Spent place world) = Unit {0}
+
+pub record Makes {A : Type 0} (P : A → Type 0) (m : Does A) : Type 0 where
+  pub by : (state : State) → Moves state.world (reached (m state))
+  pub gives : (state : State) → Gave P (m state)
+
+gave_then : {A B : Type 0} (P : B → Type 0) (ran : Ran A) (k : A → State → Ran B) → ((a : A) (state : State) → Gave P (k a state)) → Gave P (and_then ran k)
+gave_then P (Gives a state) k h = h a state
+gave_then P (Faults kind place world units) k h = tt
+gave_then P (Spent place world) k h = tt
+
+makes_then : {A B : Type 0} {P : B → Type 0} {m : Does A} {k : A → Does B} → Goes m → ((a : A) → Makes P (k a)) → Makes P (m >>= k)
+makes_then {P = P} {m = m} {k = k} first next = record {
+  by = λ state. step_then state.world (m state) k (λ a after. (next a).by after) (first.by state);
+  gives = λ state. gave_then P (m state) k (λ a after. (next a).gives after);
+}
+
+makes_now : {B : Type 0} {P : B → Type 0} {k : Moment → Does B} → ((moment : Moment) → Makes P (k moment)) → Makes P (objects.now >>= k)
+makes_now next = record { by = λ state. (next state.world.time).by state; gives = λ state. (next state.world.time).gives state }
+
+known_then : {A B : Type 0} (P : A → Type 0) (before : World) (ran : Ran A) (k : A → State → Ran B) → Gave P ran → ((a : A) (state : State) → P a → Moves state.world (reached (k a state)))
+    → Moves before (reached ran) → Moves before (reached (and_then ran k))
+known_then P before (Gives a state) k gave h first = moves_both before state.world (reached (k a state)) first (h a state gave)
+known_then P before (Faults kind place world units) k gave h first = first
+known_then P before (Spent place world) k gave h first = first
+
+goes_makes : {A B : Type 0} {P : A → Type 0} {m : Does A} {k : A → Does B} → Makes P m → ((a : A) → P a → Goes (k a)) → Goes (m >>= k)
+goes_makes {P = P} {m = m} {k = k} makes next = record { by = λ state. known_then P state.world (m state) k (makes.gives state) (λ a after known. (next a known).by after) (makes.by state) }
 
 -- Sizes and copies -------------------------------------------------------------------------------------------------
 
@@ -316,16 +412,18 @@ module _ (copied : Value → Does Value) (goes : (one : Value) → Goes (copied 
   goes_fields_copied [] = goes_pure []
   goes_fields_copied (one ∷ values) = goes_bind (goes_field_copied one) (λ first. goes_bind (goes_fields_copied values) (λ others. goes_pure (first ∷ others)))
 
-  pub goes_entries_copied : (table : Table) (entries : List Entry) → Goes (objects.entries_copied copied table entries)
-  goes_entries_copied table [] = goes_pure table
-  goes_entries_copied table (entry ∷ entries) =
-      goes_bind (goes entry.value) (λ one. goes_now (λ moment. goes_entries_copied (insert moment entry.key one table) entries))
+  -- a copy has no dues
+  pub entries-copied : (table : Table) → IsUndue table → (entries : List Entry) → Makes IsUndue (objects.entries_copied copied table entries)
+  entries-copied table undue [] = record { by = λ state. alike _ _ refl refl refl refl refl; gives = λ state. undue }
+  entries-copied table undue (entry ∷ entries) =
+      makes_then (goes entry.value) (λ one. makes_now (λ moment. entries-copied (insert moment entry.key one table) (insert-undue moment entry.key one table undue) entries))
 
   pub goes_object_copied : (default : Option DefaultValue) (one : Object) → Goes (objects.object_copied copied default one)
-  goes_object_copied default (object.Record number fields) = goes_bind (goes_fields_copied fields) (λ values. goes_new_object _)
-  goes_object_copied default (object.Vector items) = goes_bind (goes_each_copied items) (λ values. goes_new_object _)
+  goes_object_copied default (object.Record number fields) = goes_bind (goes_fields_copied fields) (λ values. goes_new_object _ (λ now. becomes-record now number values))
+  goes_object_copied default (object.Vector items) = goes_bind (goes_each_copied items) (λ values. goes_new_object _ (λ now. becomes-vector now None values))
   goes_object_copied default (object.Table table) =
-      goes_bind (goes_entries_copied (objects.empty_table None) table.entries) (λ one. goes_bind (goes_new_object _) (λ made. goes_keep_default default made))
+      goes_makes (entries-copied (objects.empty_table None) (record { sound = record { among = tt }; expiry = refl; dues = λ low. tt }) table.entries)
+      (λ one undue. goes_bind (goes_new_object _ (λ now. becomes-new now one undue.sound (λ low le within. undue.dues low))) (λ made. goes_keep_default default made))
 
 pub goes_copied_to : (depth : ℕ) (place : Place) (one : Value) → Goes (objects.copied_to depth place one)
 goes_copied_to zero place one = goes_misfit place

@@ -7,33 +7,29 @@ use Rattle.zk_typed.specs.Running.{Goes, Floods, Item, Progress, Turn, begun, di
 use Rattle.zk_typed.specs.State.{World, ending_at, first_world, queued_behind, with_queue, with_time}
 use Rattle.zk_typed.specs.World.{Queued, queued}
 use Rattle.zk_typed.specs.Predefined.{zeek_done, zeek_init}
-use Rattle.zk_agenda.specs.Onward.{Onward}
+use Rattle.zk_agenda.specs.Onward.{Raises}
 use Rattle.zk_agenda.specs.Trace.{Came, Dispatched, Waited, from_first, from_here, if_due, in_beginning, in_end, in_item, in_queue, in_turn, in_turns, in_turns_from, is_by}
-use Rattle.zk_agenda.proofs.OnwardLemmas.{alike, onward_both}
-use Rattle.zk_agenda.proofs.Worlds.{dispatch-onward, initialised-onward, still}
+use Rattle.zk_agenda.proofs.Worlds.{Passes, pass-both, pass-dispatch, pass-queue, pass-raised, pass-still}
 
--- what holds from a world to another one, over these dispatches
-abbrev pub Stretch : Type 1
-Stretch = World → List Dispatched → World → Type 0
-
-pub record Follows (S : World → List Dispatched → World → Type 0) : Type 0 where
-  pub onward : (a b : World) → Onward a b → S a [] b
-  pub waited : (a b : World) (event : Queued) → Onward a b → S a (record { time = a.time; what = Waited event } ∷ []) b
+-- what holds from a world to another one, over these dispatches, holds of each step and of one stretch behind another
+pub record Follows (program : Program) (S : World → List Dispatched → World → Type 0) : Type 0 where
+  pub onward : (a b : World) → Passes program a b → S a [] b
+  pub waited : (a b : World) (event : Queued) → Passes program a b → S a (record { time = a.time; what = Waited event } ∷ []) b
   pub both : (a b c : World) (first second : List Dispatched) → S a first b → S b second c → S a (first ++ second) c
 
-module _ (S : World → List Dispatched → World → Type 0) (follows : Follows S) (program : Program) (budget : ℕ) where
+module _ (program : Program) (S : World → List Dispatched → World → Type 0) (follows : Follows program S) (budget : ℕ) where
   from-first : (left : ℕ) (next : World → Progress) (then : World → List Dispatched) → ((world : World) → S world (then world) (world_in (next world)))
       → (world : World) (queue : List Queued) → S world (from_first program budget then world queue) (world_in (one_more program budget left next world queue))
-  from-first left next then goes world [] = follows.onward world world (still world)
+  from-first left next then goes world [] = follows.onward world world (pass-still program world)
   from-first left next then goes world (first ∷ others) =
       let after = dispatch program budget (with_queue others world) first in
       follows.both world after (world_in (next after)) (record { time = world.time; what = Waited first } ∷ []) (then after)
-      (follows.waited world after first (onward_both world (with_queue others world) after (alike _ _ refl refl refl refl) (dispatch-onward program budget (with_queue others world) first)))
+      (follows.waited world after first (pass-both program world (with_queue others world) after (pass-queue program world others) (pass-dispatch program budget (with_queue others world) first)))
       (goes after)
 
   none-here : (world : World) (queue : List Queued) → S world [] (world_in (none_left world queue))
-  none-here world [] = follows.onward world world (still world)
-  none-here world (first ∷ others) = follows.onward world world (still world)
+  none-here world [] = follows.onward world world (pass-still program world)
+  none-here world (first ∷ others) = follows.onward world world (pass-still program world)
 
   -- over a queue that is drained
   pub over_queue : (left : ℕ) (world : World) → S world (in_queue program budget left world) (world_in (drained program budget left world))
@@ -45,7 +41,7 @@ module _ (S : World → List Dispatched → World → Type 0) (follows : Follows
     pub over_turn : (world : World) (one : Turn) (more : ℕ)
         → S world (record { time = at one.at; what = Came one } ∷ []) (happens program budget (with_time (at one.at) world) one.what)
         → S world (in_turn program budget at world one more) (world_in (one_turn program budget at world one more))
-    over_turn world one zero came = follows.onward world world (still world)
+    over_turn world one zero came = follows.onward world world (pass-still program world)
     over_turn world one (suc left) came =
         let after = happens program budget (with_time (at one.at) world) one.what in
         follows.both world after (world_in (drained program budget left after)) (record { time = at one.at; what = Came one } ∷ []) (in_queue program budget left after)
@@ -56,7 +52,7 @@ module _ (S : World → List Dispatched → World → Type 0) (follows : Follows
         → S world first (world_in progress) → ((after : World) (left : ℕ) → progress ≡ Goes after left → S after (then after left) (world_in (next after left)))
         → S world (first ++ from_here then progress) (world_in (goes_on next progress))
     over_both world first (Goes after left) next then one more = follows.both world after (world_in (next after left)) first (then after left) one (more after left refl)
-    over_both world first (Floods after) next then one more = follows.both world after after first [] one (follows.onward after after (still after))
+    over_both world first (Floods after) next then one more = follows.both world after after first [] one (follows.onward after after (pass-still program after))
 
     module _ (is_due : Turn → Bool) where
       -- what comes of each turn that is due
@@ -79,23 +75,23 @@ module _ (S : World → List Dispatched → World → Type 0) (follows : Follows
       by_due comes most rest world more one next true is = over_both world (in_turn program budget at world one more) (one_turn program budget at world one more)
           (turns_from most program budget at is_due) (in_turns_from most program budget at is_due)
           (over_turn world one more (comes world one next is)) (λ after left here. rest after left)
-      by_due comes most rest world more one next false is = follows.onward world world (still world)
+      by_due comes most rest world more one next false is = follows.onward world world (pass-still program world)
 
       by_next : Comes → (most : ℕ) → Rest most → (world : World) (more : ℕ) (next : Option Turn) → next_turn program world ≡ next
           → S world (if_due is_due (then_in most world more) next) (world_in (turn_if is_due world more (goes most world more) next))
-      by_next comes most rest world more None is = follows.onward world world (still world)
+      by_next comes most rest world more None is = follows.onward world world (pass-still program world)
       by_next comes most rest world more (Some one) is = by_due comes most rest world more one is (is_due one) refl
 
       -- over turns
       pub over_turns : Comes → (most : ℕ) → Rest most
-      over_turns comes zero = λ world more. follows.onward world world (still world)
+      over_turns comes zero = λ world more. follows.onward world world (pass-still program world)
       over_turns comes (suc most) = λ world more. by_next comes most (over_turns comes most) world more (next_turn program world) refl
 
   -- over the turns that are due by an item, and then the item
   pub over_item : (item : Item) (world : World)
       → Comes (λ at. at) (is_by item.moment)
       → ((after : World) (left : ℕ) → turns program budget (λ at. at) (is_by item.moment) world dispatches_max ≡ Goes after left → S after [] (with_time item.moment after))
-      → ((before : World) → Onward before (item.raises before))
+      → ((before : World) → Raises before (item.raises before))
       → (left : ℕ) → S world (in_item program budget item world left) (world_in (goes_on (with_item program budget item) (turns program budget (λ at. at) (is_by item.moment) world dispatches_max)))
   over_item item world comes settles goes left =
       over_both (λ at. at) world (in_turns program budget (λ at. at) (is_by item.moment) world dispatches_max) (turns program budget (λ at. at) (is_by item.moment) world dispatches_max)
@@ -104,7 +100,7 @@ module _ (S : World → List Dispatched → World → Type 0) (follows : Follows
       (λ after more is.
       let timed = with_time item.moment after in
       let raised = item.raises timed in
-      follows.both after timed _ [] _ (settles after more is) (follows.both timed raised _ [] _ (follows.onward timed raised (goes timed)) (over_queue more raised)))
+      follows.both after timed _ [] _ (settles after more is) (follows.both timed raised _ [] _ (follows.onward timed raised (pass-raised program timed raised (goes timed))) (over_queue more raised)))
 
   -- over the end
   pub over_end : (last : Moment) (world : World) → Comes (λ at. last) (λ one. true)
@@ -115,16 +111,17 @@ module _ (S : World → List Dispatched → World → Type 0) (follows : Follows
       (over_turns (λ at. last) (λ one. true) comes (suc left) (ending_at last world) left)
       (λ after more is.
       let done = queued_behind (queued zeek_done [] ∷ []) after in
-      follows.both after done _ [] _ (follows.onward after done (alike _ _ refl refl refl refl)) (over_queue more done))
+      follows.both after done _ [] _ (follows.onward after done (pass-queue program after done.queue)) (over_queue more done))
 
-  -- over the beginning
-  pub over_beginning : S (first_world (no_values program)) (in_beginning program budget) (world_in (begun program budget))
-  over_beginning =
+  -- over the beginning, behind the initial values
+  pub over_beginning : S (first_world (no_values program)) [] (initialised program budget 0 (first_world (no_values program)) program.globals)
+      → S (first_world (no_values program)) (in_beginning program budget) (world_in (begun program budget))
+  over_beginning begins =
       let first = first_world (no_values program) in
       let computed = initialised program budget 0 first program.globals in
       let waiting = queued_behind (queued zeek_init [] ∷ []) computed in
-      follows.both first waiting _ [] _ (follows.onward first waiting (onward_both first computed waiting (initialised-onward program budget 0 first program.globals) (alike _ _ refl refl refl refl)))
-      (over_queue dispatches_max waiting)
+      follows.both first computed _ [] _ begins
+      (follows.both computed waiting _ [] _ (follows.onward computed waiting (pass-queue program computed waiting.queue)) (over_queue dispatches_max waiting))
 
 -- Where turns come to ------------------------------------------------------------------------------------------------------
 

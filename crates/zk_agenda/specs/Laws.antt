@@ -1,17 +1,20 @@
--- Laws of runs, over items that go onward: each of which queues events and makes objects, and does no more to network time and
--- to the events that were scheduled than the body of a script does.
-use Rattle.std.specs.Prelude.{◌≡◌, ◌+◌, ◌<◌, ◌==◌, ◌≤ℤ◌, ℕ, ℤ, pos, List, [], ◌∷◌, None, All}
+-- Laws of runs, over items that go onward: each of which queues events and makes objects, and does no more to network time, to
+-- the events that were scheduled and to tables than the body of a script does.
+use Rattle.std.specs.Prelude.{◌≡◌, ◌+◌, ◌<◌, ◌==◌, ◌≤ℤ◌, ℕ, ℤ, pos, List, [], ◌∷◌, All, true, is_some, slice_get}
 use Rattle.std.specs.List.{count_by}
 use Rattle.zk_base.specs.declared.time.Moment.{Moment}
 use Rattle.zk_tree.specs.Table.{last_moment}
+use Rattle.zk_typed.specs.Dispatch.{dispatch}
+use Rattle.zk_typed.specs.Does.{named}
 use Rattle.zk_typed.specs.Program.{Program, Global}
-use Rattle.zk_typed.specs.Running.{Item, Goes, run, world_in}
+use Rattle.zk_typed.specs.Running.{Item, Goes, expire_of, run, world_in}
 use Rattle.zk_typed.specs.State.{World}
-use Rattle.zk_agenda.specs.Onward.{Onward}
+use Rattle.zk_typed.specs.World.{Queued}
+use Rattle.zk_agenda.specs.Onward.{Raises}
 use Rattle.zk_agenda.specs.Trace.{dispatches, dues, is_scheduled, times}
 
 abbrev pub ItemsGo : List Item → Type 0
-ItemsGo items = All (λ item. (world : World) → Onward world (item.raises world)) items
+ItemsGo items = All (λ item. (world : World) → Raises world (item.raises world)) items
 
 -- how many of the events that wait for their moments have this number
 abbrev pub waits : ℕ → World → ℕ
@@ -43,17 +46,23 @@ abbrev pub AreInOrder : Moment → List Item → Moment → Type 0
 AreInOrder start [] last = start.0 ≤ℤ last.0
 AreInOrder start (item ∷ items) last = (start.0 ≤ℤ item.moment.0) × AreInOrder item.moment items last
 
--- no entry of any global expires
-abbrev pub NothingExpires : List Global → Type 0
-NothingExpires [] = Unit {0}
-NothingExpires (one ∷ others) = (one.expiry ≡ None) × NothingExpires others
+-- The globals whose entries expire, from this number on, have the same values in both worlds, and so the same tables.
+abbrev pub SameTables : ℕ → List Global → World → World → Type 0
+SameTables number [] before after = Unit {0}
+SameTables number (one ∷ others) before after =
+    (is_some one.expiry ≡ true → named after.globals number ≡ named before.globals number) × SameTables (number + 1) others before after
+
+-- No body gives a global whose entries expire another value, as no script does that breaks no rule.
+pub record TablesStay (program : Program) : Type 0 where
+  pub dispatches : (budget : ℕ) (world : World) (event : Queued) → SameTables 0 program.globals world (dispatch program budget world event)
+  pub expiries : (budget number order : ℕ) (world : World) → SameTables 0 program.globals world (expire_of program budget number order world (slice_get program.globals number))
 
 -- Network time never falls from one dispatch to a later one; and of two turns the one that is due earlier comes first.
 pub record IsInTime (program : Program) (budget : ℕ) (items : List Item) (last : Moment) : Type 0 where
   pub times : IsAscending (times (dispatches program budget items last))
   pub dues : IsAscending (dues (dispatches program budget items last))
 
--- Of programs without expiring tables, over items whose moments rise from 0 on to the last network time.
+-- Of programs whose tables stay those of their globals, over items whose moments rise from 0 on to the last network time.
 abbrev pub TimeRises : Type 0
-TimeRises = (program : Program) (budget : ℕ) (items : List Item) (last : Moment) → ItemsGo items → NothingExpires program.globals
+TimeRises = (program : Program) (budget : ℕ) (items : List Item) (last : Moment) → ItemsGo items → TablesStay program
     → AreInOrder (record { 0 = pos 0 }) items last → last.0 ≤ℤ last_moment → IsInTime program budget items last

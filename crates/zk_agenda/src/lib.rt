@@ -6,7 +6,8 @@ ghost use Rattle.zk_agenda.specs.Laws.{DispatchedOnce, TimeRises};
 
 /// No body moves network time, begins or ends the end, or takes an event that was scheduled from those that
 /// wait; those that it schedules have the next numbers, are due at network time at the earliest, and are none
-/// once the end has begun (Zeek manual, Statements, schedule).
+/// once the end has begun (Zeek manual, Statements, schedule). Nor does it make an entry of a table due before
+/// network time (Attributes, &create_expire and its kin).
 pub fn bodies_go_onward()
     ensures handlers { HandlersGo }
     ensures initials { InitialsGo }
@@ -19,8 +20,9 @@ pub fn dispatched_once()
     ensures { DispatchedOnce }
 {}
 
-/// Where no entry of a table expires, network time never falls from one dispatch to a later one, and of two
-/// turns the one that is due earlier comes first.
+/// Network time never falls from one dispatch to a later one, and of two turns the one that is due earlier
+/// comes first, whatever expires and whatever its functions ask: in programs of which no body gives a global
+/// whose entries expire another value, which is what the rules want of scripts.
 pub fn time_rises()
     ensures { TimeRises }
 {}

@@ -1,5 +1,6 @@
--- What an item does before its events are dispatched tells nothing, and leaves network time and what was scheduled as it was.
-use Rattle.std.proofs.Common.{◌≡◌, ℕ, ◌+◌, ◌==◌, Bool, true, false, List, [], ◌∷◌, Option, Some, None, fold, refl, sym, ap, ◌∙◌, append-nil, arith, if◌then◌else◌}
+-- What an item does before its events are dispatched tells nothing, and leaves network time, what was scheduled, tables and globals
+-- as they were.
+use Rattle.std.proofs.Common.{◌≡◌, ℕ, ◌+◌, ◌==◌, Bool, true, false, List, [], ◌∷◌, Option, Some, None, ◌++◌, fold, map, slice_get, zero, suc, refl, sym, ap, subst, ◌∙◌, append-nil, arith, if◌then◌else◌}
 use Rattle.zk_base.specs.declared.network.Side.{Side}
 use Rattle.zk_base.specs.declared.numbers.ObjectNo.{ObjectNo}
 use Rattle.zk_base.specs.declared.numbers.RecordNo.{RecordNo}
@@ -11,7 +12,10 @@ use Rattle.zk_http.specs.declared.units.Start.{Start}
 use Rattle.zk_http.specs.declared.units.Start.TheVariants as start
 use Rattle.zk_http.specs.declared.units.UnitKind.{UnitKind}
 use Rattle.zk_http.specs.declared.units.UnitKind.TheVariants as unit
-use Rattle.zk_machine.specs.Made.{begins, default_in, fields_begin, fresh, nowhere, renewed}
+use Rattle.zk_machine.specs.Made.{begins, default_in, fields_begin, fresh, nowhere, renewed, with_object}
+use Rattle.zk_tree.specs.Store.{Object, Store}
+use Rattle.zk_tree.specs.Store as object
+use Rattle.zk_value.specs.Objects as change
 use Rattle.zk_traffic.specs.declared.item.What.{What}
 use Rattle.zk_traffic.specs.declared.item.What.TheVariants as what
 use Rattle.zk_tree.specs.declared.place.Place.{Place}
@@ -24,21 +28,21 @@ use Rattle.zk_typed.specs.declared.script.literal.Sign.TheVariants.{Converted, N
 use Rattle.zk_typed.specs.declared.script.primitive.Unary.TheVariants.{Negate, ToInt}
 use Rattle.zk_typed.specs.declared.ends.FaultKind.{FaultKind}
 use Rattle.zk_typed.specs.Columns.{record_fields}
-use Rattle.zk_typed.specs.Objects.{Given, given_at, signed}
+use Rattle.zk_typed.specs.Objects.{Given, empty_table, given_at, signed}
 use Rattle.zk_typed.specs.Operators.{give_if, unary}
 use Rattle.zk_typed.specs.Program.{Field, Program}
 use Rattle.zk_typed.specs.Log.{Row}
-use Rattle.zk_typed.specs.State.{World}
+use Rattle.zk_typed.specs.State.{World, with_store}
 use Rattle.zk_typed.specs.World.{Scheduled}
 use Rattle.zk_base.specs.declared.time.Moment.{Moment}
-use Rattle.zk_agenda.specs.Onward.{Onward}
+use Rattle.zk_agenda.specs.Onward.{IsBare, IsNoTable, KeepsTable, Raises}
 use Rattle.zk_typed.specs.View.{literal_value}
 use Rattle.zk_events.specs.Dns.{answer_fields, message_fields, soa_fields, answer_raises, content_raises, kind_raises, message_raises, name_raises, question_raises}
 use Rattle.zk_events.specs.Http.{header_raises, start_raises, unit_raises}
 use Rattle.zk_events.specs.Known.{Known}
 use Rattle.zk_events.specs.Facts.{connection_fields, end_fields, id_fields}
 use Rattle.zk_events.specs.Numbers as number
-use Rattle.zk_events.specs.Raising.{is_orig, made, numbered_from, object, raised, with_fields}
+use Rattle.zk_events.specs.Raising.{is_orig, made, numbered_from, object as object_value, raised, with_fields}
 use Rattle.zk_events.specs.declared.connections.Objects.{Objects}
 use Rattle.zk_events.specs.Turns.{Subject, new_objects, no_object, objects_of, raises, raises_with, subject_of, what_raises, with_facts}
 
@@ -55,6 +59,7 @@ record Kept : Type 0 where
   is_ending : Bool
   scheduled : List Scheduled
   schedulings : ℕ
+  globals : List (Option Value)
 
 abbrev kept_in : World → Kept
 kept_in world = record {
@@ -64,16 +69,57 @@ kept_in world = record {
   is_ending = world.is_ending;
   scheduled = world.scheduled;
   schedulings = world.schedulings;
+  globals = world.globals;
 }
 
 record IsKept (before after : World) : Type 0 where
   kept : kept_in after ≡ kept_in before
+  tables : (number : ℕ) → KeepsTable (slice_get before.store number) (slice_get after.store number)
+
+keeps-same : (one : Option Object) → KeepsTable one one
+keeps-same None = tt
+keeps-same (Some (object.Table table)) = refl
+keeps-same (Some (object.Vector items)) = tt
+keeps-same (Some (object.Record of fields)) = tt
+
+no-table : (b c : Option Object) → IsNoTable b → KeepsTable b c → IsNoTable c
+no-table None c none keeps = absurd none
+no-table (Some (object.Table table)) c none keeps = absurd none
+no-table (Some (object.Vector items)) c none keeps = keeps
+no-table (Some (object.Record of fields)) c none keeps = keeps
+
+no-table-bare : (one : Option Object) → IsNoTable one → IsBare one
+no-table-bare None none = absurd none
+no-table-bare (Some (object.Table table)) none = absurd none
+no-table-bare (Some (object.Vector items)) none = tt
+no-table-bare (Some (object.Record of fields)) none = tt
+
+bare : (b c : Option Object) → IsBare b → KeepsTable b c → IsBare c
+bare None c is keeps = keeps
+bare (Some (object.Table table)) c is keeps = subst IsBare (sym keeps) is
+bare (Some (object.Vector items)) c is keeps = no-table-bare c keeps
+bare (Some (object.Record of fields)) c is keeps = no-table-bare c keeps
+
+keeps-both : (a b c : Option Object) → KeepsTable a b → KeepsTable b c → KeepsTable a c
+keeps-both None b c first second = bare b c first second
+keeps-both (Some (object.Table table)) b c first second = subst (λ (one : Option Object). KeepsTable one c) first second
+keeps-both (Some (object.Vector items)) b c first second = no-table b c first second
+keeps-both (Some (object.Record of fields)) b c first second = no-table b c first second
+
+same-objects : (before after : World) → kept_in after ≡ kept_in before → after.store ≡ before.store → IsKept before after
+same-objects before after kept same = record {
+  kept = kept;
+  tables = λ number. subst (λ (store : Store). KeepsTable (slice_get before.store number) (slice_get store number)) (sym same) (keeps-same (slice_get before.store number));
+}
 
 still : (world : World) → IsKept world world
-still world = record { kept = refl }
+still world = same-objects world world refl refl
 
 both : (a b c : World) → IsKept a b → IsKept b c → IsKept a c
-both a b c first second = record { kept = second.kept ∙ first.kept }
+both a b c first second = record {
+  kept = second.kept ∙ first.kept;
+  tables = λ number. keeps-both (slice_get a.store number) (slice_get b.store number) (slice_get c.store number) (first.tables number) (second.tables number);
+}
 
 folded-kept : {A : Type 0} (step : World → A → World) → ((world : World) (one : A) → IsKept world (step world one)) → (list : List A) (world : World)
     → IsKept world (fold step world list)
@@ -82,11 +128,36 @@ folded-kept step same (one ∷ others) world = both world (step world one) _ (sa
 
 -- Objects ----------------------------------------------------------------------------------------------------------
 
+field-keeps : (field : ℕ) (value : Option Value) (one : Object) → KeepsTable (Some one) (Some (change.with_field field value one))
+field-keeps field value (object.Record of fields) = tt
+field-keeps field value (object.Vector items) = tt
+field-keeps field value (object.Table table) = refl
+
+-- a field of the object of a number, among these objects
+renewed-keeps : (field : ℕ) (value : Option Value) (world : World) (store : Store) (number place : ℕ)
+    → KeepsTable (slice_get store place) (slice_get (renewed (record { 0 = number }) field value (with_store store world)).store place)
+renewed-keeps field value world [] number place = tt
+renewed-keeps field value world (first ∷ store) zero zero = field-keeps field value first
+renewed-keeps field value world (first ∷ store) zero (suc place) = keeps-same (slice_get store place)
+renewed-keeps field value world (first ∷ store) (suc number) zero = keeps-same (Some first)
+renewed-keeps field value world (first ∷ store) (suc number) (suc place) = renewed-keeps field value world store number place
+
+added-keeps : (one : Object) → IsBare (Some one) → (store : Store) (place : ℕ) → KeepsTable (slice_get store place) (slice_get (store ++ one ∷ []) place)
+added-keeps one is [] zero = is
+added-keeps one is [] (suc place) = tt
+added-keeps one is (first ∷ store) zero = keeps-same (Some first)
+added-keeps one is (first ∷ store) (suc place) = added-keeps one is store place
+
+renewed-kept : (one : ObjectNo) (field : ℕ) (value : Option Value) (world : World) → IsKept world (renewed one field value world)
+renewed-kept one field value world = record { kept = refl; tables = λ number. renewed-keeps field value world world.store one.0 number }
+
+added-kept : (one : Object) → IsBare (Some one) → (world : World) → IsKept world (with_object one world)
+added-kept one is world = record { kept = refl; tables = λ number. added-keeps one is world.store number }
+
 fields-kept : (one : ObjectNo) (field : ℕ) (values : List (Option Value)) (world : World) → IsKept world (with_fields one field values world)
 fields-kept one field [] world = still world
 fields-kept one field (value ∷ values) world =
-    let rest = fields-kept one (field + 1) values (renewed one field value world) in
-    record { kept = rest.kept }
+    both world (renewed one field value world) _ (renewed-kept one field value world) (fields-kept one (field + 1) values (renewed one field value world))
 
 given-kept : (world : World) (place : Place) (test : Bool) (kind : FaultKind) (value : Value) (locals : List (Option Value)) (units : ℕ)
     → IsKept world (default_in (give_if test kind place value (record { world = world; locals = locals; units = units }))).1
@@ -128,8 +199,8 @@ begins-kept : (world : World) (given : Option Value) (default : Option DefaultVa
 begins-kept world (Some value) default = still world
 begins-kept world None None = still world
 begins-kept world None (Some (Literal literal sign)) = signed-kept world sign (literal_value literal)
-begins-kept world None (Some EmptyTable) = record { kept = refl }
-begins-kept world None (Some EmptyVector) = record { kept = refl }
+begins-kept world None (Some EmptyTable) = added-kept (object.Table (empty_table None)) refl world
+begins-kept world None (Some EmptyVector) = added-kept (object.Vector []) tt world
 
 begin-kept : (given : List Given) (number : ℕ) (fields : List Field) (world : World) → IsKept world (fields_begin given number fields world).1
 begin-kept given number [] world = still world
@@ -139,8 +210,8 @@ begin-kept given number (field ∷ fields) world =
 
 fresh-kept : (program : Program) (kind : RecordNo) (given : List Given) (world : World) → IsKept world (fresh program kind given world).world
 fresh-kept program kind given world =
-    let begun = begin-kept given 0 (record_fields program kind) world in
-    record { kept = begun.kept }
+    let begun = fields_begin given 0 (record_fields program kind) world in
+    both world begun.1 _ (begin-kept given 0 (record_fields program kind) world) (added-kept (object.Record kind begun.0) tt begun.1)
 
 made-kept : (program : Program) (kind : RecordNo) (values : List Value) (world : World) → IsKept world (made program kind values world).world
 made-kept program kind values world = fresh-kept program kind (numbered_from 0 values) world
@@ -148,19 +219,20 @@ made-kept program kind values world = fresh-kept program kind (numbered_from 0 v
 -- Events -----------------------------------------------------------------------------------------------------------
 
 start-kept : (c : ObjectNo) (one : Start) (world : World) → IsKept world (start_raises c one world)
-start-kept c (start.Request method target minor) world = record { kept = refl }
-start-kept c (start.Response minor code phrase) world = record { kept = refl }
+start-kept c (start.Request method target minor) world = same-objects _ _ refl refl
+start-kept c (start.Response minor code phrase) world = same-objects _ _ refl refl
 
 unit-kept : (program : Program) (c : ObjectNo) (side : Side) (one : UnitKind) (world : World) → IsKept world (unit_raises program c side one world)
 unit-kept program c side (unit.Head head) world =
     let begun = start_raises c head.start world in
     both world begun (fold (header_raises c side) begun head.headers) (start-kept c head.start world)
-    (folded-kept (header_raises c side) (λ w header. record { kept = refl }) head.headers begun)
+    (folded-kept (header_raises c side) (λ w header. same-objects _ _ refl refl) head.headers begun)
 unit-kept program c side (unit.Done body head gap) world =
-    let stat = made-kept program number.http_message_stat (plain.Count body ∷ plain.Count head ∷ plain.Count gap ∷ []) world in
-    record { kept = stat.kept }
-unit-kept program c side unit.Tunnel world = record { kept = refl }
-unit-kept program c side (unit.Violation why) world = record { kept = refl }
+    let values = plain.Count body ∷ plain.Count head ∷ plain.Count gap ∷ [] in
+    let stat = made program number.http_message_stat values world in
+    both world stat.world _ (made-kept program number.http_message_stat values world) (same-objects stat.world _ refl refl)
+unit-kept program c side unit.Tunnel world = same-objects _ _ refl refl
+unit-kept program c side (unit.Violation why) world = same-objects _ _ refl refl
 
 either-kept : (met : Bool) (one other : World → World) → ((world : World) → IsKept world (one world)) → ((world : World) → IsKept world (other world))
     → (world : World) → IsKept world ((if met then one else other) world)
@@ -169,51 +241,55 @@ either-kept false one other here there world = there world
 
 name-kept : (rtype : ℕ) (name : List ℕ) (given : List Value) (world : World) → IsKept world (name_raises rtype name given world)
 name-kept rtype name given =
-    either-kept (rtype == 2) _ _ (λ w. record { kept = refl })
-    (either-kept (rtype == 5) _ _ (λ w. record { kept = refl })
-    (either-kept (rtype == 12) _ _ (λ w. record { kept = refl }) (λ w. record { kept = refl })))
+    either-kept (rtype == 2) _ _ (λ w. same-objects _ _ refl refl)
+    (either-kept (rtype == 5) _ _ (λ w. same-objects _ _ refl refl)
+    (either-kept (rtype == 12) _ _ (λ w. same-objects _ _ refl refl) (λ w. same-objects _ _ refl refl)))
 
 kind-kept : (program : Program) (rtype : ℕ) (one : AnswerKind) (given : List Value) (world : World) → IsKept world (kind_raises program rtype one given world)
-kind-kept program rtype (kind.A address) given world = record { kept = refl }
-kind-kept program rtype (kind.Aaaa address) given world = record { kept = refl }
+kind-kept program rtype (kind.A address) given world = same-objects _ _ refl refl
+kind-kept program rtype (kind.Aaaa address) given world = same-objects _ _ refl refl
 kind-kept program rtype (kind.Name name) given world = name-kept rtype name given world
-kind-kept program rtype (kind.Mx preference name) given world = record { kept = refl }
-kind-kept program rtype (kind.Txt texts) given world = record { kept = refl }
+kind-kept program rtype (kind.Mx preference name) given world = same-objects _ _ refl refl
+kind-kept program rtype (kind.Txt texts) given world =
+    let strings = object.Vector (map plain.String texts) in
+    both world (with_object strings world) _ (added-kept strings tt world) (same-objects (with_object strings world) _ refl refl)
 kind-kept program rtype (kind.Soa mname rname serial refresh retry expire minimum) given world =
-    let soa = made-kept program number.dns_soa (soa_fields mname rname serial (refresh ∷ retry ∷ expire ∷ minimum ∷ [])) world in
-    record { kept = soa.kept }
-kind-kept program rtype kind.Other given world = record { kept = refl }
+    let fields = soa_fields mname rname serial (refresh ∷ retry ∷ expire ∷ minimum ∷ []) in
+    let soa = made program number.dns_soa fields world in
+    both world soa.world _ (made-kept program number.dns_soa fields world) (same-objects soa.world _ refl refl)
+kind-kept program rtype kind.Other given world = same-objects _ _ refl refl
 
 answer-kept : (program : Program) (c message : ObjectNo) (world : World) (one : Answer) → IsKept world (answer_raises program c message world one)
 answer-kept program c message world one =
     let ans = made program number.dns_answer (answer_fields one) world in
     both world ans.world (answer_raises program c message world one) (made-kept program number.dns_answer (answer_fields one) world)
-    (kind-kept program one.rtype one.what (object c ∷ object message ∷ object ans.number ∷ []) ans.world)
+    (kind-kept program one.rtype one.what (object_value c ∷ object_value message ∷ object_value ans.number ∷ []) ans.world)
 
 content-kept : (program : Program) (c message : ObjectNo) (told : DnsRecord) (qr : Bool) (world : World) → IsKept world (content_raises program c message told qr world)
 content-kept program c message told true world = folded-kept (answer_raises program c message) (λ w one. answer-kept program c message w one) told.answers world
-content-kept program c message told false world = folded-kept (question_raises c message) (λ w one. record { kept = refl }) told.questions world
+content-kept program c message told false world = folded-kept (question_raises c message) (λ w one. same-objects _ _ refl refl) told.questions world
 
 message-kept : (program : Program) (c : ObjectNo) (side : Side) (len : ℕ) (told : DnsRecord) (world : World) → IsKept world (message_raises program c side len told world)
 message-kept program c side len told world =
     let msg = made program number.dns_msg (message_fields told) world in
     let first = made-kept program number.dns_msg (message_fields told) world in
-    let begun = raised number.dns_message (object c ∷ is_orig side ∷ object msg.number ∷ plain.Count len ∷ []) msg.world in
-    let content = content-kept program c msg.number told told.qr begun in
-    record { kept = content.kept ∙ first.kept }
+    let begun = raised number.dns_message (object_value c ∷ is_orig side ∷ object_value msg.number ∷ plain.Count len ∷ []) msg.world in
+    let after = content_raises program c msg.number told told.qr begun in
+    both world msg.world _ first (both msg.world begun _ (same-objects msg.world begun refl refl)
+    (both begun after _ (content-kept program c msg.number told told.qr begun) (same-objects after _ refl refl)))
 
 what-kept : (program : Program) (c : ObjectNo) (one : What) (world : World) → IsKept world (what_raises program c one world)
-what-kept program c (what.Seen own caplen len) world = record { kept = refl }
-what-kept program c (what.Opened conn facts) world = record { kept = refl }
-what-kept program c (what.Established conn facts) world = record { kept = refl }
-what-kept program c (what.Gap conn facts side from length) world = record { kept = refl }
+what-kept program c (what.Seen own caplen len) world = same-objects _ _ refl refl
+what-kept program c (what.Opened conn facts) world = same-objects _ _ refl refl
+what-kept program c (what.Established conn facts) world = same-objects _ _ refl refl
+what-kept program c (what.Gap conn facts side from length) world = same-objects _ _ refl refl
 what-kept program c (what.Http conn facts side part) world = unit-kept program c side part.what world
 what-kept program c (what.Dns conn facts side len message) world = message-kept program c side len message world
-what-kept program c (what.DnsBad conn facts side fault len) world = record { kept = refl }
-what-kept program c (what.Ended conn facts side) world = record { kept = refl }
-what-kept program c (what.GaveUp conn facts side) world = record { kept = refl }
-what-kept program c (what.Reset conn facts) world = record { kept = refl }
-what-kept program c (what.Removed conn facts) world = record { kept = refl }
+what-kept program c (what.DnsBad conn facts side fault len) world = same-objects _ _ refl refl
+what-kept program c (what.Ended conn facts side) world = same-objects _ _ refl refl
+what-kept program c (what.GaveUp conn facts side) world = same-objects _ _ refl refl
+what-kept program c (what.Reset conn facts) world = same-objects _ _ refl refl
+what-kept program c (what.Removed conn facts) world = same-objects _ _ refl refl
 
 -- Items ------------------------------------------------------------------------------------------------------------
 
@@ -259,15 +335,20 @@ raises-told program known one world =
     let same = (raises-kept program known one world).kept in
     record { lines = ap (λ (k : Kept). k.lines) same; rows = ap (λ (k : Kept). k.rows) same }
 
-pub raises-onward : (program : Program) (known : Known) (one : What) (world : World) → Onward world (raises program known one world)
-raises-onward program known one world =
-    let same = (raises-kept program known one world).kept in
+pub raises-go : (program : Program) (known : Known) (one : What) (world : World) → Raises world (raises program known one world)
+raises-go program known one world =
+    let goes = raises-kept program known one world in
+    let same = goes.kept in
     record {
-      time = ap (λ (k : Kept). k.time) same;
-      ending = ap (λ (k : Kept). k.is_ending) same;
-      more = [];
-      scheduled = ap (λ (k : Kept). k.scheduled) same ∙ sym (append-nil world.scheduled);
-      schedulings = ap (λ (k : Kept). k.schedulings) same ∙ (let e : world.schedulings ≡ world.schedulings + 0 = omega arith in e);
-      are_scheduled = tt;
-      none = λ is. refl;
+      onward = record {
+        time = ap (λ (k : Kept). k.time) same;
+        ending = ap (λ (k : Kept). k.is_ending) same;
+        more = [];
+        scheduled = ap (λ (k : Kept). k.scheduled) same ∙ sym (append-nil world.scheduled);
+        schedulings = ap (λ (k : Kept). k.schedulings) same ∙ (let e : world.schedulings ≡ world.schedulings + 0 = omega arith in e);
+        are_scheduled = tt;
+        none = λ is. refl;
+      };
+      tables = goes.tables;
+      globals = ap (λ (k : Kept). k.globals) same;
     }

@@ -2,7 +2,7 @@
 use Rattle.std.proofs.Common.{◌≡◌, ℕ, zero, suc, List, [], ◌∷◌, fold, refl, ap, arith}
 use Rattle.std.specs.Prelude.{All}
 use Rattle.zk_agenda.specs.Laws.{DispatchedOnce, ItemsGo, TimeRises}
-use Rattle.zk_agenda.specs.Onward.{Onward}
+use Rattle.zk_agenda.specs.Onward.{Raises}
 use Rattle.zk_traffic.specs.declared.item.Item.{Item}
 use Rattle.zk_typed.specs.Program.{Program}
 use Rattle.zk_typed.specs.Running as plain
@@ -11,7 +11,7 @@ use Rattle.zk_typed.specs.State.{World}
 use Rattle.zk_events.specs.Laws.{EventsOnce, RunsByTurns, TimeNeverFalls}
 use Rattle.zk_events.specs.Run.{SoFar, so_far, taken, turned, turned_from}
 use Rattle.zk_events.specs.Turns.{turn_of}
-use Rattle.zk_events.proofs.KeptLemmas.{raises-onward}
+use Rattle.zk_events.proofs.KeptLemmas.{raises-go}
 
 taken-turned : (program : Program) (budget : ℕ) (before : SoFar) (items : List Item)
     → (fold (taken program budget) before items).progress ≡ fold (take program budget) before.progress (turned_from program budget before items)
@@ -30,12 +30,12 @@ all-more P x xs first others = by_place
 
 turned-go : (program : Program) (budget : ℕ) (before : SoFar) (items : List Item) → ItemsGo (turned_from program budget before items)
 turned-go program budget before [] = λ k d within. absurd (omega (arith, within))
-turned-go program budget before (item ∷ items) = all-more (λ (one : plain.Item). (world : World) → Onward world (one.raises world)) (turn_of program before.known item) _
-    (λ world. raises-onward program before.known item.what world) (turned-go program budget (taken program budget before item) items)
+turned-go program budget before (item ∷ items) = all-more (λ (one : plain.Item). (world : World) → Raises world (one.raises world)) (turn_of program before.known item) _
+    (λ world. raises-go program before.known item.what world) (turned-go program budget (taken program budget before item) items)
 
 pub events_once : DispatchedOnce → EventsOnce
 events_once law program budget items last = law program budget (turned program budget items) last (turned-go program budget (so_far program budget []) items)
 
 pub time_never_falls : TimeRises → TimeNeverFalls
-time_never_falls law program budget items last none order within =
-    law program budget (turned program budget items) last (turned-go program budget (so_far program budget []) items) none order within
+time_never_falls law program budget items last stay order within =
+    law program budget (turned program budget items) last (turned-go program budget (so_far program budget []) items) stay order within

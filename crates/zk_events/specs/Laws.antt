@@ -7,7 +7,7 @@ use Rattle.zk_typed.specs.Program.{Program}
 use Rattle.zk_typed.specs.Running.{Progress, world_in}
 use Rattle.zk_typed.specs.Running as plain
 use Rattle.zk_tree.specs.Table.{last_moment}
-use Rattle.zk_agenda.specs.Laws.{AreInOrder, IsInTime, IsOnce, NothingExpires}
+use Rattle.zk_agenda.specs.Laws.{AreInOrder, IsInTime, IsOnce, TablesStay}
 use Rattle.zk_events.specs.declared.engine.Engine.{Engine}
 use Rattle.zk_events.specs.Run.{Begun, Ended, Stage, progress_at, run, turned}
 use Rattle.zk_events.specs.Standing.{StandsFor}
@@ -32,10 +32,10 @@ RunsByTurns = (program : Program) (budget : ℕ) (items : List Item) (last : Mom
 abbrev pub EventsOnce : Type 0
 EventsOnce = (program : Program) (budget : ℕ) (items : List Item) (last : Moment) → IsOnce program budget (turned program budget items) last
 
--- Without expiring tables, over items whose moments rise from 0 on to the last network time: network time never falls from
--- one dispatch to a later one, and of two turns the one that is due earlier comes first.
+-- Where no body gives a global whose entries expire another value, over items whose moments rise from 0 on to the last network
+-- time: network time never falls from one dispatch to a later one, and of two turns the one that is due earlier comes first.
 abbrev pub TimeNeverFalls : Type 0
-TimeNeverFalls = (program : Program) (budget : ℕ) (items : List Item) (last : Moment) → NothingExpires program.globals
+TimeNeverFalls = (program : Program) (budget : ℕ) (items : List Item) (last : Moment) → TablesStay program
     → AreInOrder (record { 0 = pos 0 }) (turned program budget items) last → last.0 ≤ℤ last_moment → IsInTime program budget (turned program budget items) last
 
 -- Given out -------------------------------------------------------------------------------------------------------------

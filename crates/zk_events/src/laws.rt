@@ -19,9 +19,8 @@ pub fn lines_given()
 {}
 
 /// The run is that of the meaning over the items as it takes them, and so: each event that it schedules is
-/// dispatched once or waits still, and where it comes to its end none waits; and without expiring tables
-/// network time never falls, and of two turns the one that is due earlier comes first. There is nothing to
-/// run.
+/// dispatched once or waits still, and where it comes to its end none waits; and network time never falls,
+/// and of two turns the one that is due earlier comes first. There is nothing to run.
 pub fn agenda_holds()
     ensures turns { RunsByTurns }
     ensures once { EventsOnce }

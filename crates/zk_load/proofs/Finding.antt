@@ -1,5 +1,5 @@
 -- What is found in the input of a script.
-use Rattle.std.proofs.Common.{◌≡◌, ◌≢◌, ℕ, ◌<◌, inl, inr, cond, length, length-append, arith, List, [], ◌∷◌, Option, Some, None, Result, Ok, Err, IfSome, refl, sym, ap, subst, ◌∙◌}
+use Rattle.std.proofs.Common.{◌≡◌, ℕ, ◌<◌, inl, inr, cond, length, length-append, arith, List, [], ◌∷◌, Option, Some, None, Result, Ok, Err, IfSome, refl, sym, ap, subst, ◌∙◌}
 use Rattle.std.proofs.lemmas.Bool.{lt-ltb}
 use Rattle.zk_base.specs.declared.endings.Ending.{Ending}
 use Rattle.zk_base.specs.declared.endings.Ending.TheVariants as ending
@@ -7,8 +7,7 @@ use Rattle.zk_base.specs.declared.endings.ScriptKind.TheVariants.{TooLarge}
 use Rattle.zk_base.specs.Shelf.{Files, Outside, HasRisen}
 use Rattle.zk_tree.specs.declared.decl.Tree.{Tree}
 use Rattle.zk_token.specs.Tokens.{tokens_of}
-use Rattle.zk_load.specs.declared.found.Found.{Found}
-use Rattle.zk_load.specs.declared.found.Found.TheVariants.{Accepted, Refused}
+use Rattle.zk_load.specs.declared.found.Found.TheVariants.{Refused}
 use Rattle.zk_load.specs.Script.{Refusal, script_max, tree_read, script_of, accepted, script_in}
 use Rattle.zk_load.specs.Parts.{IsRefusal, IsReadBeyond, IsReadOf, DoesWithoutFault, Finds, SameAbsences}
 

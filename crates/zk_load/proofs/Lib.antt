@@ -3,3 +3,4 @@ mod Finding
 mod LoadLaws
 mod Rows
 pub mod SoFar
+mod TextLaws

@@ -1,9 +1,8 @@
 -- The scripts of a run (Zeek manual, Directives, @load): those that it names, each followed by the files that it loads,
 -- and these by those that they load. Each file is read once.
-use Rattle.std.specs.Prelude.{ℕ, zero, suc, Bool, List, [], ◌∷◌, ◌++◌, flat_map, codes, nat_eq, Option, Some, None, if◌then◌else◌}
+use Rattle.std.specs.Prelude.{ℕ, zero, suc, Bool, List, [], ◌∷◌, ◌++◌, flat_map, codes, nat_eq, if◌then◌else◌}
 use Rattle.std.specs.List.{list_any, starts_with}
 use Rattle.std.specs.Str.{bytes_eq}
-use Rattle.zk_base.specs.declared.endings.Ending.{Ending}
 use Rattle.zk_base.specs.declared.endings.Ending.TheVariants.{ScriptRefused}
 use Rattle.zk_base.specs.declared.endings.ScriptKind.TheVariants.{TooMany}
 use Rattle.zk_base.specs.Shelf.{Files}
@@ -11,7 +10,7 @@ use Rattle.zk_tree.specs.declared.decl.Decl.{Decl, Load, Export', Row_of-Decl, e
 use Rattle.zk_tree.specs.declared.decl.Tree.{Tree}
 use Rattle.zk_load.specs.declared.found.Found.{Found}
 use Rattle.zk_load.specs.declared.found.Found.TheVariants.{Accepted, Refused}
-use Rattle.zk_load.specs.Script.{script_in}
+use Rattle.zk_load.specs.Script.{accepted, script_in, script_of}
 
 -- the most files that a run may read
 abbrev pub files_max : ℕ
@@ -74,6 +73,19 @@ load_from (suc room) inputs scripts names = elim (unread scripts names) [
   | name ∷ others ↦ asking name (after (script_in name (inputs name)) (λ tree. load_from room inputs (scripts ++ (name, tree) ∷ []) (loads_of tree ++ others)))
 ]
 
--- the scripts of a run by their names
-unfoldable pub loading : List (List ℕ) → Files → Loading
-loading names inputs = load_from files_max inputs [] names
+-- the scripts of a run by their names, behind those that are read before: these count as read, and not among the files
+unfoldable pub loading : Scripts → List (List ℕ) → Files → Loading
+loading before names inputs = load_from files_max inputs before names
+
+-- Scripts that lie in no file --------------------------------------------------------------------------------------------
+
+-- one more script before others, or how a run ends at the first that is refused
+abbrev pub before_others : List ℕ → Found Tree → Found Scripts → Found Scripts
+before_others name (Refused ending) others = Refused ending
+before_others name (Accepted tree) (Refused ending) = Refused ending
+before_others name (Accepted tree) (Accepted scripts) = Accepted ((name, tree) ∷ scripts)
+
+-- scripts with these names and texts, in order
+abbrev pub scripts_in : List (List ℕ × List ℕ) → Found Scripts
+scripts_in [] = Accepted []
+scripts_in (one ∷ others) = before_others one.0 (accepted one.0 (script_of one.1)) (scripts_in others)

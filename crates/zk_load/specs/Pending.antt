@@ -1,5 +1,5 @@
 -- The scripts that were read, and the names that are to be read.
-use Rattle.std.specs.Prelude.{◌≡◌, ℕ, List, Bool, reverse}
+use Rattle.std.specs.Prelude.{◌≡◌, ℕ, List, reverse}
 use Rattle.std.specs.Str.{bytes_eq}
 use Rattle.indexmap.specs.IndexSet.{contains}
 use Rattle.zk_load.specs.declared.loading.Scripts.{Scripts}

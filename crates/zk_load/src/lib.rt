@@ -8,11 +8,13 @@ mod loads;
 mod reading;
 mod script;
 mod stop;
+mod texts;
 
 pub use found::Found;
 pub use loading::load_scripts;
 pub use reading::read_input;
 pub use stop::{Stop, written};
+pub use texts::read_texts;
 
 #[cfg(test)]
 mod tests;

@@ -1,8 +1,10 @@
 ghost use Rattle.std.specs.Prelude.{◌≡◌, ◌++◌, ◌∷◌, [], ℕ, List, reverse, IfSome, IfNone, IfOk, OnOk, IfErr};
+ghost use Rattle.std.specs.Str.{bytes_eq};
+ghost use Rattle.indexmap.specs.IndexSet.{contains};
 ghost use Rattle.zk_base.specs.declared.endings.ScriptKind.TheVariants.{TooMany};
 ghost use Rattle.zk_tree.specs.declared.decl.Tree.{Tree as TreeData};
 ghost use Rattle.zk_load.specs.Loads.{LoadsAll, LoadsPart};
-ghost use Rattle.zk_load.specs.Loading.{loads_of, unread};
+ghost use Rattle.zk_load.specs.Loading.{is_read, loads_of, unread};
 
 use crate::found::Found;
 use crate::loads::loads_of;
@@ -30,18 +32,19 @@ pub struct Scripts {
 impl Scripts {
     ghost use Rattle.zk_load.specs.Pending.{Waits};
 
-    /// None is read.
-    fn new(alloc: Global, names: &[Word]) -> Result<Scripts, Mem>
-        ensures { IfOk result (λ scripts. Waits scripts [] names.now) }
+    /// These are read, and those of these names are to be read.
+    fn new(alloc: Global, before: Sequence<(Bytes, Tree)>, names: &[Word]) -> Result<Scripts, Mem>
+        ensures { IfOk result (λ scripts. Waits scripts before names.now) }
     {
+        let known = names_of(alloc, before.as_slice())?;
         let mut pending = Vec::with_capacity(alloc, names.len())?;
         for name in names {
             pending.push(Whole::copy_of(alloc, name.as_slice())?)?;
         }
         pending.reverse();
         Ok(Scripts {
-            read: Vec::new(alloc),
-            names: IndexSet::new(alloc),
+            read: before.into_vec(),
+            names: known,
             pending,
         })
     }
@@ -76,19 +79,33 @@ impl Scripts {
     }
 }
 
-/// Reads the scripts of a run: those of these names in order, each followed by the files that it loads. A
-/// file is read once. More than 256 are refused at the next one, before it is asked for.
+/// The names of scripts.
+fn names_of(alloc: Global, scripts: &[(Bytes, Tree)]) -> Result<IndexSet<Whole>, Mem>
+    ensures { IfOk result (λ names. (name : List ℕ) → contains bytes_eq names name ≡ is_read scripts.now name) }
+{
+    let mut names = IndexSet::new(alloc);
+    for script in scripts {
+        names.insert(Whole::copy_of(alloc, script.0.as_slice())?)?;
+    }
+    Ok(names)
+}
+
+/// Reads the scripts of a run behind those that were read before: those of these names in order, each
+/// followed by the files that it loads. A file is read once. More than 256 are refused at the next one,
+/// before it is asked for; those before don't count.
 pub fn load_scripts<S: Shelf>(
     alloc: Global,
     shelf: &mut S,
+    before: Sequence<(Bytes, Tree)>,
     names: &[Word],
 ) -> Result<Found<Sequence<(Bytes, Tree)>>, Stop>
-    ensures loaded { IfOk result (λ found. LoadsAll names.now (S.outside shelf.old) found (S.outside shelf.new)) }
-    ensures stopped { IfErr result (λ stop. LoadsPart names.now (S.outside shelf.old) stop (S.outside shelf.new)) }
+    ensures loaded { IfOk result (λ found. LoadsAll before names.now (S.outside shelf.old) found (S.outside shelf.new)) }
+    ensures stopped { IfErr result (λ stop. LoadsPart before names.now (S.outside shelf.old) stop (S.outside shelf.new)) }
 {
-    let mut scripts = Scripts::new(alloc, names)?;
+    let most = before.as_slice().len() + FILES_MAX;
+    let mut scripts = Scripts::new(alloc, before, names)?;
     'files: while let Some(name) = scripts.next() {
-        if scripts.read.len() == FILES_MAX {
+        if scripts.read.len() == most {
             return Ok(Found::Refused(too_many(name)));
         }
         match read_script(alloc, shelf, name.as_slice())? {

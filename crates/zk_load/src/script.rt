@@ -27,7 +27,7 @@ pub fn read_script<S: Shelf>(alloc: Global, shelf: &mut S, file: &[u8]) -> Resul
 }
 
 /// The tree of a text, or how a run ends where it is refused.
-fn read_text(alloc: Global, name: Bytes, text: &[u8]) -> Result<Found<Tree>, Mem>
+pub fn read_text(alloc: Global, name: Bytes, text: &[u8]) -> Result<Found<Tree>, Mem>
     ensures { IfOk result (λ found. found ≡ accepted name (script_of text.now)) }
 {
     if text.len() > SCRIPT_MAX {

@@ -1,4 +1,4 @@
-use crate::{Found, load_scripts};
+use crate::{Found, load_scripts, read_texts};
 use std::alloc::Global;
 use std::test::Fail;
 use zk_base::{Bytes, Ending, Mem, MemShelf, Sequence, Word};
@@ -13,6 +13,9 @@ const FILES: [(&[u8], &[u8]); 6] = [
     (b"bad", b"@load none\nmodule ;"),
     (b"open", b"global x = \"a"),
 ];
+
+/// Scripts that lie in no file.
+const BEFORE: [(&[u8], &[u8]); 2] = [(b"c", b"module C;"), (b"d", b"")];
 
 /// A shelf with these files.
 fn shelf(alloc: Global) -> Result<MemShelf, Mem> {
@@ -68,11 +71,24 @@ fn told(alloc: Global, found: &Found<Sequence<(Bytes, Tree)>>) -> Result<Vec<u8>
     }
 }
 
-/// What comes of the scripts that a line names.
-fn loaded(alloc: Global, line: &[u8]) -> Result<Vec<u8>, Mem> {
+/// What is read before.
+fn before(alloc: Global, is_behind: bool) -> Result<Found<Sequence<(Bytes, Tree)>>, Mem> {
+    if is_behind {
+        read_texts(alloc, &BEFORE)
+    } else {
+        Ok(Found::Accepted(Sequence::new(alloc)))
+    }
+}
+
+/// What comes of the scripts that a line names, behind `c` and `d` if these are read before.
+fn loaded(alloc: Global, is_behind: bool, line: &[u8]) -> Result<Vec<u8>, Mem> {
+    let before = match before(alloc, is_behind)? {
+        Found::Accepted(before) => before,
+        Found::Refused(ending) => return refusal_of(alloc, &ending),
+    };
     let mut shelf = shelf(alloc)?;
     let words = words(alloc, line)?;
-    match load_scripts(alloc, &mut shelf, &words) {
+    match load_scripts(alloc, &mut shelf, before, &words) {
         Ok(found) => told(alloc, &found),
         Err(_) => Err(Mem),
     }
@@ -81,16 +97,17 @@ fn loaded(alloc: Global, line: &[u8]) -> Result<Vec<u8>, Mem> {
 #[test]
 fn scripts_are_read_in_order_each_followed_by_what_it_loads(rt: HostRuntime) -> Result<(), Fail> {
     let alloc = rt.alloc();
-    let rows: [(&[u8], &[u8]); 6] = [
-        (b"a c", b" a b d c"),
-        (b"d a", b" d a b c"),
-        (b"d d", b" d"),
-        (b"bad open", b"NoTree bad"),
-        (b"a open", b"OpenString open"),
-        (b"c base/x", b"no base/x"),
+    let rows: [(bool, &[u8], &[u8]); 7] = [
+        (false, b"a c", b" a b d c"),
+        (false, b"d a", b" d a b c"),
+        (false, b"d d", b" d"),
+        (false, b"bad open", b"NoTree bad"),
+        (false, b"a open", b"OpenString open"),
+        (false, b"c base/x", b"no base/x"),
+        (true, b"a d", b" c d a b"),
     ];
-    for (line, expected) in &rows {
-        let text = loaded(alloc, line)?;
+    for (is_behind, line, expected) in &rows {
+        let text = loaded(alloc, *is_behind, line)?;
         assert_eq!(rt; text.as_slice(), *expected);
     }
     Ok(())

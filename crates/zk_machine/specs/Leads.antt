@@ -1,7 +1,6 @@
 -- How a step of code agrees with what the machine says of it.
 use Rattle.std.specs.Prelude.{◌≡◌, Result, Ok, Err, Option}
 use Rattle.zk_base.specs.declared.memory.Mem.{Mem}
-use Rattle.zk_lower.specs.Frames as plain
 use Rattle.zk_lower.specs.Steps.{Step, Goes, Ends}
 use Rattle.zk_tree.specs.Value.{Value}
 use Rattle.zk_typed.specs.Does.{Ran, Gives, Faults, Spent}
@@ -11,14 +10,19 @@ use Rattle.zk_machine.specs.declared.ends.Ending as rust
 use Rattle.zk_machine.specs.declared.ends.Ending.TheVariants as ending
 use Rattle.zk_machine.specs.declared.ends.Next as next
 use Rattle.zk_machine.specs.declared.ends.Next.TheVariants as to
+use Rattle.zk_machine.specs.declared.running.Running as running
+use Rattle.zk_machine.specs.Running.{machine_of}
+use Rattle.zk_machine.specs.State.{state_of}
 
 abbrev pub ran_of : rust.Ending → State → Ran (Option Value)
 ran_of (ending.Done value) state = Gives (field_of value) state
 ran_of (ending.Fault kind place) state = Faults kind place state.world state.units
 ran_of (ending.Spent place) state = Spent place state.world
 
--- Want of memory alone is free.
-abbrev pub Leads : Result next.Next Mem → Step → plain.Machine → Type 0
-Leads (Ok to.Goes) step now = step ≡ Goes now
-Leads (Ok (to.Ends ending)) step now = step ≡ Ends (ran_of ending now.state)
+-- The code ends with the value that was given last. Want of memory alone is free.
+abbrev pub Leads : Result next.Next Mem → Step → running.Running → Type 0
+Leads (Ok to.Goes) step now = step ≡ Goes (machine_of now)
+Leads (Ok to.Done) step now = step ≡ Ends (Gives (field_of now.given) (state_of now.state))
+Leads (Ok (to.Fault kind place)) step now = step ≡ Ends (ran_of (ending.Fault kind place) (state_of now.state))
+Leads (Ok (to.Spent place)) step now = step ≡ Ends (ran_of (ending.Spent place) (state_of now.state))
 Leads (Err mem) step now = Unit {0}

@@ -12,6 +12,7 @@ use Rattle.zk_machine.specs.declared.frames.Awaits as awaits
 use Rattle.zk_machine.specs.declared.frames.Awaits.TheVariants as await
 use Rattle.zk_machine.specs.declared.frames.Frame as frames
 use Rattle.zk_machine.specs.declared.frames.Loop as loops
+use Rattle.zk_machine.specs.declared.frames.Waiting as waitings
 use Rattle.zk_machine.specs.declared.frames.Write as writes
 use Rattle.zk_machine.specs.declared.frames.Loop.TheVariants as loop
 use Rattle.zk_machine.specs.declared.halt.Halt.{Halt}
@@ -52,10 +53,13 @@ waits_of (Some write) = pending_of write
 
 -- Bodies that wait -------------------------------------------------------------------------------------------------
 
+abbrev pub waiting_of : waitings.Waiting → plain.Awaits
+waiting_of waiting = plain.Bodies waiting.place (key_of waiting.args.items) (map body_of (reverse waiting.others.items)) (waits_of waiting.write)
+
 abbrev pub awaits_of : awaits.Awaits → plain.Awaits
 awaits_of (await.Result place) = plain.Result place
 awaits_of await.Return = plain.Return
-awaits_of (await.Bodies place args others write) = plain.Bodies place (key_of args.items) (map body_of (reverse others.items)) (waits_of write)
+awaits_of (await.Bodies waiting) = waiting_of waiting.value
 
 abbrev pub frame_of : frames.Frame → plain.Frame
 frame_of frame = record {

@@ -5,6 +5,7 @@ ghost use Rattle.zk_lower.specs.Steps as steps;
 ghost use Rattle.zk_lower.specs.View.{body_of, code_of};
 ghost use Rattle.zk_tree.specs.declared.place.Place.{Place as At};
 ghost use Rattle.zk_typed.specs.Does as does;
+ghost use Rattle.zk_typed.specs.Meaning as meaning;
 ghost use Rattle.zk_typed.specs.Meaning.{first_locals};
 ghost use Rattle.zk_machine.specs.Flows.{flow_of};
 ghost use Rattle.zk_value.specs.Plain.{value_of, key_of, field_of};
@@ -12,12 +13,12 @@ ghost use Rattle.zk_machine.specs.Leads.{Leads};
 ghost use Rattle.zk_machine.specs.Running.{awaits_of, held_of, machine_of, Moves};
 ghost use Rattle.zk_machine.specs.State.{state_of};
 
-use crate::ends::{Ending, Next, placed};
+use crate::ends::Next;
 use crate::frames::{Awaits, Flow, Frame};
 use crate::halt::Halt;
 use crate::objects::UNFIT;
 use crate::running::{Running, behind, cut};
-use crate::state::handles;
+use crate::state::{handle, handles};
 use std::alloc::Global;
 use std::mem;
 use zk_base::{HookNo, Mem};
@@ -35,7 +36,7 @@ pub fn params(alloc: Global, values: &[Value]) -> Result<Vec<Option<Value>>, Mem
 {
     let mut names = Vec::new(alloc);
     for value in values {
-        names.push(Some(value.clone()?))?;
+        names.push(Some(handle(value)?))?;
     }
     Ok(names)
 }
@@ -118,12 +119,51 @@ impl Running {
         }
     }
 
+    /// Calls a function whose value is used.
+    #[inline(never)]
+    pub fn call_for_value(
+        &mut self,
+        code: &Code,
+        place: Place,
+        function: u32,
+        count: usize,
+    ) -> Result<(), Halt>
+        ensures { let held = held_of self.old in Moves place result (steps.call (code_of code.now) place (plain.Result place) function self.old.at (steps.operands count held) (steps.without count held) (state_of self.old.state)) (machine_of self.new) }
+    {
+        self.call(code, function, count, Awaits::Result { place })
+    }
+
+    /// Calls a function whose value is not used.
+    #[inline(never)]
+    pub fn call_alone(&mut self, code: &Code, function: u32, count: usize) -> Result<(), Halt>
+        ensures { (place : At) → let held = held_of self.old in Moves place result (steps.call (code_of code.now) place plain.Return function self.old.at (steps.operands count held) (steps.without count held) (state_of self.old.state)) (machine_of self.new) }
+    {
+        self.call(code, function, count, Awaits::Return)
+    }
+
+    /// Comes out of the body under way without a value.
+    #[inline(never)]
+    pub fn end(&mut self, code: &Code) -> Result<Next, Mem>
+        ensures { Leads result (steps.come_out (code_of code.now) meaning.Normal (held_of self.old).stack (state_of self.old.state) (held_of self.old).frames) self.new }
+    {
+        self.come_out(code, Flow::Normal)
+    }
+
+    /// Comes out of the body under way by a `break`.
+    #[inline(never)]
+    pub fn break_out(&mut self, code: &Code) -> Result<Next, Mem>
+        ensures { Leads result (steps.come_out (code_of code.now) meaning.Broke (held_of self.old).stack (state_of self.old.state) (held_of self.old).frames) self.new }
+    {
+        self.come_out(code, Flow::Broke)
+    }
+
     /// Comes out of the body under way.
     pub fn come_out(&mut self, code: &Code, flow: Flow) -> Result<Next, Mem>
-        ensures { Leads result (steps.come_out (code_of code.now) (flow_of flow) (held_of self.old).stack (state_of self.old.state) (held_of self.old).frames) (machine_of self.new) }
+        ensures { Leads result (steps.come_out (code_of code.now) (flow_of flow) (held_of self.old).stack (state_of self.old.state) (held_of self.old).frames) self.new }
     {
         let Some(frame) = self.frames.pop() else {
-            return Ok(Next::Ends(Ending::Done(flow.given())));
+            self.given = flow.given();
+            return Ok(Next::Done);
         };
         let Frame {
             back,
@@ -138,8 +178,9 @@ impl Running {
     }
 
     /// Comes out of the body under way with the last operand.
+    #[inline(never)]
     pub fn give(&mut self, code: &Code) -> Result<Next, Mem>
-        ensures { Leads result (steps.give (code_of code.now) (held_of self.old) (state_of self.old.state)) (machine_of self.new) }
+        ensures { Leads result (steps.give (code_of code.now) (held_of self.old) (state_of self.old.state)) self.new }
     {
         match self.stack.pop() {
             Some(value) => self.come_out(code, Flow::Returned(Some(value))),

@@ -1,7 +1,7 @@
-ghost use Rattle.zk_lower.specs.Frames as plain;
 ghost use Rattle.zk_lower.specs.Steps.{Step};
 ghost use Rattle.zk_machine.specs.Leads.{Leads};
-ghost use Rattle.zk_machine.specs.Running.{Moves};
+ghost use Rattle.zk_machine.specs.Running.{Moves, machine_of};
+ghost use Rattle.zk_machine.specs.declared.running.Running as running;
 
 use crate::halt::Halt;
 use zk_base::Mem;
@@ -19,21 +19,24 @@ pub enum Ending {
     Spent { place: Place },
 }
 
-/// What a step comes to.
-#[derive(Debug, Drop)]
+/// What a step comes to. It is small, since each operation gives one: the value that a body gives stays with
+/// what runs.
+#[derive(Clone, Copy, Debug)]
 pub enum Next {
     Goes,
-    Ends(Ending),
+    Done,
+    Fault { kind: FaultKind, place: Place },
+    Spent { place: Place },
 }
 
 /// What a step comes to that is of the statement at a place.
 pub fn placed(place: Place, done: Result<(), Halt>) -> Result<Next, Mem>
-    ensures { (step : Step) (now : plain.Machine) → Moves place done step now → Leads result step now }
+    ensures { (step : Step) (now : running.Running) → Moves place done step (machine_of now) → Leads result step now }
 {
     match done {
         Ok(()) => Ok(Next::Goes),
-        Err(Halt::Fault(kind)) => Ok(Next::Ends(Ending::Fault { kind, place })),
-        Err(Halt::Spent) => Ok(Next::Ends(Ending::Spent { place })),
+        Err(Halt::Fault(kind)) => Ok(Next::Fault { kind, place }),
+        Err(Halt::Spent) => Ok(Next::Spent { place }),
         Err(Halt::NoMemory) => Err(Mem),
     }
 }

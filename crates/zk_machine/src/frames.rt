@@ -29,19 +29,22 @@ pub enum Loop {
 #[derive(Debug, Drop)]
 pub enum Awaits {
     /// The value of a function.
-    Result {
-        place: Place,
-    },
+    Result { place: Place },
     /// The end of a function.
     Return,
-    /// The bodies of a hook, of which these are left, the next one last.
-    Bodies {
-        place: Place,
-        args: Vec<Value>,
-        others: Vec<BodyCode>,
-        /// The write that waits for the hook.
-        write: Option<Write>,
-    },
+    /// The bodies of a hook.
+    Bodies(Box<Waiting>),
+}
+
+/// What waits for the bodies of a hook. It is boxed, so that the frame of a function is small.
+#[derive(Debug, Drop)]
+pub struct Waiting {
+    pub place: Place,
+    pub args: Vec<Value>,
+    /// The bodies that are left, the next one last.
+    pub others: Vec<BodyCode>,
+    /// The write that waits for the hook.
+    pub write: Option<Write>,
 }
 
 /// A write to a log under way: the row, and the stream with its filters as they were at the write.

@@ -8,12 +8,12 @@ ghost use Rattle.zk_machine.specs.Comes.{Comes};
 ghost use Rattle.zk_machine.specs.Flows.{flow_of};
 ghost use Rattle.zk_machine.specs.Leads.{Leads};
 ghost use Rattle.zk_machine.specs.Onwards.{onward_of};
-ghost use Rattle.zk_machine.specs.Running.{awaits_of, held_of, machine_of, waits_of, Moves};
+ghost use Rattle.zk_machine.specs.Running.{awaits_of, held_of, machine_of, waiting_of, waits_of, Moves};
 ghost use Rattle.zk_machine.specs.State.{state_of};
 
 use crate::calls::{DEPTH_MAX, first_names};
-use crate::ends::{Ending, Next, placed};
-use crate::frames::{Awaits, Flow, Frame, Write};
+use crate::ends::{Next, placed};
+use crate::frames::{Awaits, Flow, Frame, Waiting, Write};
 use crate::halt::Halt;
 use crate::objects::UNFIT;
 use crate::onward::{Asked, Onward};
@@ -126,27 +126,32 @@ impl Running {
         write: Option<Write>,
     ) -> Result<(), Mem>
         ensures { OnOk result (let state = state_of self.old.state in steps.enter (body_of asked.body) (key_of asked.args.items)
-            (record { back = back; locals = state.locals; loops = (held_of self.old).loops; awaits = awaits_of (Awaits.Bodies place asked.args asked.others write) }) (held_of self.old) state ≡ steps.Goes (machine_of self.new)) }
+            (record { back = back; locals = state.locals; loops = (held_of self.old).loops; awaits = waiting_of (record { place = place; args = asked.args; others = asked.others; write = write }) }) (held_of self.old) state ≡ steps.Goes (machine_of self.new)) }
     {
         let Asked { body, args, others } = asked;
         let alloc = self.state.world.alloc;
         let names = first_names(alloc, &args, body.locals)?;
-        self.frames.push(Frame {
-            back,
-            locals: mem::replace(&mut self.state.locals, names),
-            loops: mem::replace(&mut self.loops, Vec::new(alloc)),
-            awaits: Awaits::Bodies {
+        let waiting = Box::new(
+            alloc,
+            Waiting {
                 place,
                 args,
                 others,
                 write,
             },
+        )?;
+        self.frames.push(Frame {
+            back,
+            locals: mem::replace(&mut self.state.locals, names),
+            loops: mem::replace(&mut self.loops, Vec::new(alloc)),
+            awaits: Awaits::Bodies(waiting),
         })?;
         self.at = body.entry;
         Ok(())
     }
 
     /// Calls a hook with the last operands, so many of them.
+    #[inline(never)]
     pub fn hook(
         &mut self,
         code: &Code,
@@ -169,6 +174,7 @@ impl Running {
     }
 
     /// Writes the record that is the last operand to a log.
+    #[inline(never)]
     pub fn write(&mut self, code: &Code, place: Place, log: LogId) -> Result<(), Halt>
         ensures { Moves place result (steps.with_top place (held_of self.old) (state_of self.old.state) (steps.write (code_of code.now) place log self.old.at (state_of self.old.state))) (machine_of self.new) }
     {
@@ -200,7 +206,7 @@ impl Running {
 
     /// Goes on with the body that waited.
     pub fn resume(&mut self, code: &Code, flow: Flow, awaits: Awaits) -> Result<Next, Mem>
-        ensures { Leads result (steps.resume (code_of code.now) (flow_of flow) self.old.at (held_of self.old) (state_of self.old.state) (awaits_of awaits)) (machine_of self.new) }
+        ensures { Leads result (steps.resume (code_of code.now) (flow_of flow) self.old.at (held_of self.old) (state_of self.old.state) (awaits_of awaits)) self.new }
     {
         match awaits {
             Awaits::Return => Ok(Next::Goes),
@@ -209,25 +215,34 @@ impl Running {
                     self.stack.push(value)?;
                     Ok(Next::Goes)
                 }
-                None => Ok(Next::Ends(Ending::Fault {
+                None => Ok(Next::Fault {
                     kind: FaultKind::Unset,
                     place,
-                })),
+                }),
             },
-            Awaits::Bodies {
-                place,
-                args,
-                others,
-                write,
-            } => placed(
-                place,
-                self.resume_hook(code, place, args, others, write, flow),
-            ),
+            Awaits::Bodies(waiting) => self.resume_hook(code, Box::into_inner(waiting), flow),
         }
     }
 
     /// Goes on with a hook, of which a body came out so.
-    fn resume_hook(
+    #[inline(never)]
+    fn resume_hook(&mut self, code: &Code, waiting: Waiting, flow: Flow) -> Result<Next, Mem>
+        ensures { Leads result (steps.resume (code_of code.now) (flow_of flow) self.old.at (held_of self.old) (state_of self.old.state) (waiting_of waiting)) self.new }
+    {
+        let Waiting {
+            place,
+            args,
+            others,
+            write,
+        } = waiting;
+        placed(
+            place,
+            self.resume_bodies(code, place, args, others, write, flow),
+        )
+    }
+
+    /// Goes on with these bodies of a hook and its write, of which a body came out so.
+    fn resume_bodies(
         &mut self,
         code: &Code,
         place: Place,

@@ -81,6 +81,7 @@ impl Running {
     }
 
     /// Begins a loop over the keys of a table or a set.
+    #[inline(never)]
     pub fn begin_keys(&mut self) -> Result<(), Halt>
         ensures { (place : At) → Moves place result (steps.with_top place (held_of self.old) (state_of self.old.state) (steps.begin_keys place self.old.at (state_of self.old.state))) (machine_of self.new) }
     {
@@ -112,6 +113,7 @@ impl Running {
     }
 
     /// Begins a loop over the indexes of a vector.
+    #[inline(never)]
     pub fn begin_indexes(&mut self) -> Result<(), Halt>
         ensures { (place : At) → Moves place result (steps.with_top place (held_of self.old) (state_of self.old.state) (steps.begin_indexes place self.old.at (state_of self.old.state))) (machine_of self.new) }
     {
@@ -122,6 +124,7 @@ impl Running {
     }
 
     /// Begins the next turn over a vector, or goes on behind the end of the loop.
+    #[inline(never)]
     pub fn next_index(&mut self, names: &Names, back: usize) -> Result<(), Halt>
         ensures { (place : At) → Moves place result (steps.indexes_step place names.now back self.old.at (held_of self.old) (state_of self.old.state) (held_of self.old).loops) (machine_of self.new) }
     {
@@ -147,6 +150,7 @@ impl Running {
     }
 
     /// Begins the next turn over a table, or goes on behind the end of the loop.
+    #[inline(never)]
     pub fn next_key(&mut self, names: &Names, back: usize) -> Result<(), Halt>
         ensures { (place : At) → Moves place result (steps.keys_step place names.now back self.old.at (held_of self.old) (state_of self.old.state) (held_of self.old).loops) (machine_of self.new) }
     {

@@ -45,6 +45,7 @@ fn make_last(
 
 impl Running {
     /// Pushes a new record whose given fields have the last operands as values.
+    #[inline(never)]
     pub fn make(&mut self, code: &Code, number: RecordNo, given: &[u32]) -> Result<(), Halt>
         ensures { (place : At) → Moves place result (steps.by (new_record place number (record_fields (types_in (code_of code.now)) number) (steps.given given.now (steps.operands (length given.now) (held_of self.old))) (state_of self.old.state))
             (steps.push self.old.at (steps.without (length given.now) (held_of self.old)))) (machine_of self.new) }

@@ -2,6 +2,7 @@ ghost use Rattle.std.specs.Prelude.{◌∷◌};
 ghost use Rattle.zk_tree.specs.declared.place.Place.{Place as At};
 ghost use Rattle.zk_tree.specs.Value as plain;
 ghost use Rattle.zk_typed.specs.Primitives as meant;
+ghost use Rattle.zk_typed.specs.State as typed;
 ghost use Rattle.zk_typed.specs.declared.script.action.Action.TheVariants as action;
 ghost use Rattle.zk_typed.specs.declared.script.primitive.Primitive.TheVariants as primitive;
 ghost use Rattle.zk_value.specs.Plain.{value_of, key_of};
@@ -16,6 +17,16 @@ use zk_base::{EventNo, Span};
 use zk_builtin::{binary, holds, in_subnet, is_within, unary};
 use zk_typed::script::{Action, Binary, BuiltIn, Primitive, Relation, Unary};
 use zk_value::Value;
+
+/// Whether a relation holds between two operands (Zeek manual, Operators).
+pub fn compared(relation: Relation, operands: &[Value]) -> Result<bool, Halt>
+    ensures { (place : At) (state : typed.State) → Comes plain.Bool place result (meant.perform place (primitive.Compare relation) (key_of operands.now) state) state }
+{
+    match operands {
+        [a, b] => Ok(holds(relation, a, b)),
+        [] | [_] | [_, _, _, ..] => Err(UNFIT),
+    }
+}
 
 impl State {
     /// An operator before its operand (Zeek manual, Operators).
@@ -42,10 +53,8 @@ impl State {
     fn compare(&self, relation: Relation, operands: &[Value]) -> Result<Value, Halt>
         ensures { (place : At) → Comes value_of place result (meant.perform place (primitive.Compare relation) (key_of operands.now) (state_of self.now)) (state_of self.now) }
     {
-        match operands {
-            [a, b] => Ok(Value::Bool(holds(relation, a, b))),
-            [] | [_] | [_, _, _, ..] => Err(UNFIT),
-        }
+        let truth = compared(relation, operands)?;
+        Ok(Value::Bool(truth))
     }
 
     /// `k in t`: the key, then the table or set.

@@ -7,7 +7,6 @@ ghost use Rattle.zk_machine.specs.Running.{held_of, machine_of};
 ghost use Rattle.zk_machine.specs.State.{state_of};
 
 use crate::ends::{Ending, Next, placed};
-use crate::frames::{Awaits, Flow};
 use crate::running::Running;
 use zk_base::Mem;
 use zk_lower::{Code, Op, code_ends};
@@ -15,12 +14,11 @@ use zk_lower::{Code, Op, code_ends};
 impl Running {
     /// What an operation does.
     fn operate(&mut self, code: &Code, op: &Op) -> Result<Next, Mem>
-        ensures { Leads result (steps.operate (code_of code.now) (op_of op.now) self.old.at (held_of self.old) (state_of self.old.state)) (machine_of self.new) }
+        ensures { Leads result (steps.operate (code_of code.now) (op_of op.now) self.old.at (held_of self.old) (state_of self.old.state)) self.new }
     {
         match op {
             Op::Push(value) => {
-                let value = value.clone()?;
-                self.push(value)?;
+                self.push_handle(value)?;
                 Ok(Next::Goes)
             }
             Op::Local { place, number } => placed(*place, self.local(*number)),
@@ -64,18 +62,15 @@ impl Running {
                 place,
                 function,
                 count,
-            } => {
-                let awaits = Awaits::Result { place: *place };
-                placed(*place, self.call(code, *function, *count, awaits))
-            }
+            } => placed(*place, self.call_for_value(code, *place, *function, *count)),
             Op::Perform {
                 place,
                 function,
                 count,
-            } => placed(*place, self.call(code, *function, *count, Awaits::Return)),
-            Op::End => self.come_out(code, Flow::Normal),
+            } => placed(*place, self.call_alone(code, *function, *count)),
+            Op::End => self.end(code),
             Op::Give => self.give(code),
-            Op::Break => self.come_out(code, Flow::Broke),
+            Op::Break => self.break_out(code),
             Op::Hook { place, hook, count } => {
                 placed(*place, self.hook(code, *place, *hook, *count))
             }
@@ -85,11 +80,14 @@ impl Running {
 
     /// Does the operation that is next. Past its end the code is done.
     fn step(&mut self, code: &Code) -> Result<Next, Mem>
-        ensures { Leads result (steps.step (code_of code.now) (machine_of self.old)) (machine_of self.new) }
+        ensures { Leads result (steps.step (code_of code.now) (machine_of self.old)) self.new }
     {
         match code.ops.as_slice().get(self.at) {
             Some(op) => self.operate(code, op),
-            None => Ok(Next::Ends(Ending::Done(None))),
+            None => {
+                self.given = None;
+                Ok(Next::Done)
+            }
         }
     }
 
@@ -101,7 +99,9 @@ impl Running {
             code_ends();
             match self.step(code)? {
                 Next::Goes => {}
-                Next::Ends(ending) => return Ok(ending),
+                Next::Done => return Ok(Ending::Done(self.given.take())),
+                Next::Fault { kind, place } => return Ok(Ending::Fault { kind, place }),
+                Next::Spent { place } => return Ok(Ending::Spent { place }),
             }
         }
     }

@@ -1,9 +1,12 @@
-ghost use Rattle.std.specs.Prelude.{◌≡◌, ◌+◌, map, reverse, take, drop, IfSome, OnOk};
+ghost use Rattle.std.specs.Prelude.{◌≡◌, ◌+◌, ◌∷◌, map, reverse, take, drop, IfSome, OnOk};
 ghost use Rattle.zk_lower.specs.Frames.{with_loops};
 ghost use Rattle.zk_lower.specs.Steps as steps;
 ghost use Rattle.zk_tree.specs.declared.place.Place.{Place as At};
 ghost use Rattle.zk_typed.specs.Does as does;
 ghost use Rattle.zk_typed.specs.Primitives.{perform, act};
+ghost use Rattle.zk_typed.specs.State as typed;
+ghost use Rattle.zk_typed.specs.declared.script.primitive.Primitive.TheVariants as primitive;
+ghost use Rattle.zk_tree.specs.Value as plain;
 ghost use Rattle.zk_value.specs.Plain.{value_of};
 ghost use Rattle.zk_machine.specs.Comes.{Comes};
 ghost use Rattle.zk_machine.specs.Running.{held_of, machine_of, Moves};
@@ -12,9 +15,10 @@ ghost use Rattle.zk_machine.specs.State.{state_of};
 use crate::frames::{Frame, Loop};
 use crate::halt::Halt;
 use crate::objects::UNFIT;
-use crate::state::State;
+use crate::primitives::compared;
+use crate::state::{State, named};
 use zk_base::Mem;
-use zk_typed::script::{Action, Primitive};
+use zk_typed::script::{Action, Primitive, Relation};
 use zk_value::Value;
 
 /// What code runs with: where it is, the operands, loops and waiting bodies, the innermost one last, and the
@@ -26,6 +30,8 @@ pub struct Running {
     pub loops: Vec<Loop>,
     pub frames: Vec<Frame>,
     pub state: State,
+    /// What the body gave that came to its end.
+    pub given: Option<Value>,
 }
 
 impl Running {
@@ -46,7 +52,18 @@ impl Running {
     pub fn push(&mut self, value: Value) -> Result<(), Mem>
         ensures { OnOk result (steps.push self.old.at (held_of self.old) (value_of value) (state_of self.old.state) ≡ steps.Goes (machine_of self.new)) }
     {
-        self.stack.push(value)?;
+        match value {
+            Value::Count(count) => self.stack.push(Value::Count(count))?,
+            _ => self.stack.push(value)?,
+        }
+        self.advance()
+    }
+
+    /// Pushes another handle to a value, and goes on.
+    pub fn push_handle(&mut self, value: &Value) -> Result<(), Mem>
+        ensures { OnOk result (steps.push self.old.at (held_of self.old) (value_of value.now) (state_of self.old.state) ≡ steps.Goes (machine_of self.new)) }
+    {
+        push_handle(&mut self.stack, value)?;
         self.advance()
     }
 
@@ -54,8 +71,9 @@ impl Running {
     pub fn local(&mut self, number: u32) -> Result<(), Halt>
         ensures { (place : At) → Moves place result (steps.by (does.local place number (state_of self.old.state)) (steps.push self.old.at (held_of self.old))) (machine_of self.new) }
     {
-        let value = self.state.local(number)?;
-        self.push(value)?;
+        let value = named(&self.state.locals, number)?;
+        push_handle(&mut self.stack, value)?;
+        self.advance()?;
         Ok(())
     }
 
@@ -63,8 +81,9 @@ impl Running {
     pub fn global(&mut self, number: u32) -> Result<(), Halt>
         ensures { (place : At) → Moves place result (steps.by (does.global place number (state_of self.old.state)) (steps.push self.old.at (held_of self.old))) (machine_of self.new) }
     {
-        let value = self.state.global(number)?;
-        self.push(value)?;
+        let value = named(&self.state.world.globals, number)?;
+        push_handle(&mut self.stack, value)?;
+        self.advance()?;
         Ok(())
     }
 
@@ -97,9 +116,30 @@ impl Running {
     pub fn apply(&mut self, primitive: &Primitive, count: usize) -> Result<(), Halt>
         ensures { (place : At) → Moves place result (steps.by (perform place primitive.now (steps.operands count (held_of self.old)) (state_of self.old.state)) (steps.push self.old.at (steps.without count (held_of self.old)))) (machine_of self.new) }
     {
+        match primitive {
+            Primitive::Compare(relation) => self.compare(*relation, count),
+            _ => self.perform(primitive, count),
+        }
+    }
+
+    /// Pushes what a primitive gives for the last operands, so many of them.
+    fn perform(&mut self, primitive: &Primitive, count: usize) -> Result<(), Halt>
+        ensures { (place : At) → Moves place result (steps.by (perform place primitive.now (steps.operands count (held_of self.old)) (state_of self.old.state)) (steps.push self.old.at (steps.without count (held_of self.old)))) (machine_of self.new) }
+    {
         let value = perform_last(&mut self.state, &self.stack, primitive, count)?;
         cut(&mut self.stack, count);
         self.push(value)?;
+        Ok(())
+    }
+
+    /// Pushes whether a relation holds between the last operands, so many of them.
+    fn compare(&mut self, relation: Relation, count: usize) -> Result<(), Halt>
+        ensures { (place : At) → Moves place result (steps.by (perform place (primitive.Compare relation) (steps.operands count (held_of self.old)) (state_of self.old.state)) (steps.push self.old.at (steps.without count (held_of self.old)))) (machine_of self.new) }
+    {
+        let truth = compare_last(&self.stack, relation, count)?;
+        cut(&mut self.stack, count);
+        self.stack.push(Value::Bool(truth))?;
+        self.advance()?;
         Ok(())
     }
 
@@ -177,6 +217,17 @@ impl Running {
     }
 }
 
+/// Pushes another handle to a value. A count is written anew, since a whole value is slow to copy.
+fn push_handle(stack: &mut Vec<Value>, value: &Value) -> Result<(), Mem>
+    ensures { OnOk result (map value_of (reverse stack.new.items) ≡ value_of value.now ∷ map value_of (reverse stack.old.items)) }
+{
+    match value {
+        Value::Count(count) => stack.push(Value::Count(*count))?,
+        _ => stack.push(value.clone()?)?,
+    }
+    Ok(())
+}
+
 /// The place behind the next operations, so many of them, where it has a number.
 pub fn behind(at: usize, over: usize) -> Option<usize>
     ensures { IfSome result (λ to. to ≡ at + 1 + over) }
@@ -198,6 +249,14 @@ fn perform_last(
 {
     let from = stack.len().saturating_sub(count);
     state.perform(primitive, &stack[from..])
+}
+
+/// Whether a relation holds between the last operands, so many of them.
+fn compare_last(stack: &[Value], relation: Relation, count: usize) -> Result<bool, Halt>
+    ensures { (place : At) (state : typed.State) → Comes plain.Bool place result (perform place (primitive.Compare relation) (reverse (take count (map value_of (reverse stack.now)))) state) state }
+{
+    let from = stack.len().saturating_sub(count);
+    compared(relation, &stack[from..])
 }
 
 /// What an action does with the last operands, so many of them.

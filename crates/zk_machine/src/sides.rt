@@ -2,8 +2,9 @@ ghost use Rattle.zk_tree.specs.declared.place.Place.{Place as At};
 ghost use Rattle.zk_typed.specs.Does as does;
 ghost use Rattle.zk_typed.specs.Operators as operators;
 ghost use Rattle.zk_typed.specs.Primitives as primitive;
-ghost use Rattle.std.specs.Prelude.{◌∷◌};
+ghost use Rattle.std.specs.Prelude.{[], ◌∷◌};
 ghost use Rattle.zk_typed.specs.declared.script.action.Action.TheVariants as action;
+ghost use Rattle.zk_typed.specs.declared.script.action.Left.TheVariants as left;
 ghost use Rattle.zk_typed.specs.declared.script.primitive.Primitive.TheVariants as one;
 ghost use Rattle.zk_value.specs.Plain.{value_of, key_of};
 ghost use Rattle.zk_machine.specs.Comes.{Comes};
@@ -11,7 +12,7 @@ ghost use Rattle.zk_machine.specs.State.{state_of};
 
 use crate::halt::Halt;
 use crate::objects::UNFIT;
-use crate::state::State;
+use crate::state::{State, handle, named};
 use zk_builtin::stepped;
 use zk_typed::script::{Binary, Direction, Left};
 use zk_value::Value;
@@ -60,17 +61,53 @@ impl State {
     ) -> Result<(), Halt>
         ensures { (place : At) → Comes (λ _. tt) place result (primitive.act place (action.Assign side) (value_of value.now ∷ key_of operands.now) (state_of self.old)) (state_of self.new) }
     {
-        self.assign(side, operands, value.clone()?)
+        match (side, operands) {
+            (Left::Local(number), []) => self.assign_local(number, value),
+            _ => self.assign(side, operands, value.clone()?),
+        }
+    }
+
+    /// `x = y;` of a local.
+    fn assign_local(&mut self, number: u32, value: &Value) -> Result<(), Halt>
+        ensures { (place : At) → Comes (λ _. tt) place result (primitive.act place (action.Assign (left.Local number)) (value_of value.now ∷ []) (state_of self.old)) (state_of self.new) }
+    {
+        match value {
+            Value::Count(count) => self.set_local(number, Some(Value::Count(*count))),
+            _ => self.set_local(number, Some(value.clone()?)),
+        }
+        Ok(())
     }
 
     /// `++x` or `--x` (Zeek manual, Operators).
     pub fn step(&mut self, side: Left, by: Direction, operands: &[Value]) -> Result<Value, Halt>
         ensures { (place : At) → Comes value_of place result (primitive.perform place (one.Step side by) (key_of operands.now) (state_of self.old)) (state_of self.new) }
     {
-        let before = self.left_value(side, operands)?;
-        let after = stepped(by, &before)?;
-        self.assign(side, operands, after.clone()?)?;
-        Ok(after)
+        match (side, operands) {
+            (Left::Local(number), []) => self.step_local(number, by),
+            _ => {
+                let before = self.left_value(side, operands)?;
+                let after = stepped(by, &before)?;
+                self.assign(side, operands, after.clone()?)?;
+                Ok(after)
+            }
+        }
+    }
+
+    /// `++x` or `--x` of a local.
+    fn step_local(&mut self, number: u32, by: Direction) -> Result<Value, Halt>
+        ensures { (place : At) → Comes value_of place result (primitive.perform place (one.Step (left.Local number) by) [] (state_of self.old)) (state_of self.new) }
+    {
+        let after = stepped(by, named(&self.locals, number)?)?;
+        match after {
+            Value::Count(count) => {
+                self.set_local(number, Some(Value::Count(count)));
+                Ok(Value::Count(count))
+            }
+            _ => {
+                self.set_local(number, Some(after.clone()?));
+                Ok(after)
+            }
+        }
     }
 
     /// `left += x;` or `left -= x;` (Zeek manual, Operators).
@@ -83,8 +120,23 @@ impl State {
     ) -> Result<(), Halt>
         ensures { (place : At) → Comes (λ _. tt) place result (primitive.act place (action.Update side by) (value_of value.now ∷ key_of operands.now) (state_of self.old)) (state_of self.new) }
     {
-        let before = self.left_value(side, operands)?;
+        match (side, operands) {
+            (Left::Local(number), []) => self.update_local(number, by, value),
+            _ => {
+                let before = self.left_value(side, operands)?;
+                let after = self.updated(by, &before, value)?;
+                self.assign(side, operands, after)
+            }
+        }
+    }
+
+    /// `x += y;` or `x -= y;` of a local.
+    fn update_local(&mut self, number: u32, by: Binary, value: &Value) -> Result<(), Halt>
+        ensures { (place : At) → Comes (λ _. tt) place result (primitive.act place (action.Update (left.Local number) by) (value_of value.now ∷ []) (state_of self.old)) (state_of self.new) }
+    {
+        let before = handle(named(&self.locals, number)?)?;
         let after = self.updated(by, &before, value)?;
-        self.assign(side, operands, after)
+        self.set_local(number, Some(after));
+        Ok(())
     }
 }

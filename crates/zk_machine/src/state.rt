@@ -28,13 +28,13 @@ pub struct State {
     pub units: u64,
 }
 
-/// The value of a name by its number, where it has one.
-fn named(values: &[Option<Value>], number: u32) -> Result<Value, Halt>
-    ensures { (place : At) (state : typed.State) → Comes value_of place result (does.or_fault Unset place (does.named (map field_of values.now) number) state) state }
+/// The value of a name by its number, lent, where it has one.
+pub fn named(values: &[Option<Value>], number: u32) -> Result<&Value, Halt>
+    ensures { (place : At) (state : typed.State) → Comes (λ value. value_of value.now) place result (does.or_fault Unset place (does.named (map field_of values.now) number) state) state }
 {
     match values.get(number as usize) {
         Some(value) => match value {
-            Some(value) => Ok(value.clone()?),
+            Some(value) => Ok(value),
             None => Err(Halt::Fault(FaultKind::Unset)),
         },
         None => Err(Halt::Fault(FaultKind::Unset)),
@@ -42,6 +42,7 @@ fn named(values: &[Option<Value>], number: u32) -> Result<Value, Halt>
 }
 
 /// Gives a name a value, or takes its value away. There is nothing to do where no name has the number.
+#[inline(always)]
 fn set_named(values: &mut Vec<Option<Value>>, number: u32, value: Option<Value>)
     ensures { map field_of values.new.items ≡ slice_set (map field_of values.old.items) number (field_of value) }
 {
@@ -69,21 +70,30 @@ impl State {
     pub fn local(&self, number: u32) -> Result<Value, Halt>
         ensures { (place : At) → Comes value_of place result (does.local place number (state_of self.now)) (state_of self.now) }
     {
-        named(&self.locals, number)
+        let value = named(&self.locals, number)?;
+        Ok(handle(value)?)
     }
 
-    /// Gives a local or a parameter a value, or takes its value away.
+    /// Gives a local or a parameter a value, or takes its value away. A count is written anew, since a whole
+    /// value is slow to copy.
+    #[inline(always)]
     pub fn set_local(&mut self, number: u32, value: Option<Value>)
         ensures { does.set_local number (field_of value) (state_of self.old) ≡ does.Gives tt (state_of self.new) }
     {
-        set_named(&mut self.locals, number, value);
+        match value {
+            Some(Value::Count(count)) => {
+                set_named(&mut self.locals, number, Some(Value::Count(count)));
+            }
+            _ => set_named(&mut self.locals, number, value),
+        }
     }
 
     /// The value of a global or a constant.
     pub fn global(&self, number: u32) -> Result<Value, Halt>
         ensures { (place : At) → Comes value_of place result (does.global place number (state_of self.now)) (state_of self.now) }
     {
-        named(&self.world.globals, number)
+        let value = named(&self.world.globals, number)?;
+        Ok(handle(value)?)
     }
 
     /// Gives a global or a constant a value, or takes its value away.
@@ -112,13 +122,24 @@ impl State {
     }
 }
 
+/// Another handle to a value. A count is written anew, since a whole value is slow to copy.
+#[inline(always)]
+pub fn handle(value: &Value) -> Result<Value, Mem>
+    ensures { IfOk result (λ copy. copy ≡ value.now) }
+{
+    match value {
+        Value::Count(count) => Ok(Value::Count(*count)),
+        _ => Ok(value.clone()?),
+    }
+}
+
 /// Handles to these values.
 pub fn handles(alloc: Global, values: &[Value]) -> Result<Vec<Value>, Mem>
     ensures { IfOk result (λ copy. copy.items ≡ values.now) }
 {
     let mut copy = Vec::with_capacity(alloc, values.len())?;
     for value in values {
-        copy.push(value.clone()?)?;
+        copy.push(handle(value)?)?;
     }
     Ok(copy)
 }

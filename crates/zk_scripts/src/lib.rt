@@ -2,7 +2,8 @@
 //! http.log (Zeek manual, Log Files).
 #![tactic(auto)]
 
-ghost use Rattle.std.specs.Prelude.{◌≡◌, length};
+ghost use Rattle.std.specs.Prelude.{◌≡◌, map};
+ghost use Rattle.zk_scripts.specs.Texts.{default_texts};
 
 mod conn;
 mod dns;
@@ -12,7 +13,7 @@ mod tests;
 
 /// The default scripts, each with its name and its text, in load order. No memory is taken.
 pub fn default_scripts() -> &'static [(&'static [u8], &'static [u8])]
-    ensures { length result.now ≡ 3 }
+    ensures { map (λ one. (one.0.now, one.1.now)) result.now ≡ default_texts }
 {
     &[
         (conn::NAME, conn::TEXT),

@@ -136,7 +136,7 @@ module _ (program : Program) (names : Names) (check : Check) (well : ChecksWell 
       (arguments check env place (params_of env.scripts signature) items) _ (given_arguments program names check well env place (params_of env.scripts signature) items) (λ args h. let (types, known, forms) = h in
       sound_bind (λ given. result_of env.scripts signature ≡ Ok given) (CalledForm program names) (result_of env.scripts signature) (with_result (number_among is_function env.scripts one) args) (sound_is (result_of env.scripts signature)) (λ given gave.
       result_form (number_among is_function env.scripts one) args types given forms
-      (agree.scripts.functions env.home.module_name name.text one signature types given (found_is env name one is (λ variable. rw meant at variable)) meant known gave)))
+      (agree.scripts.names.functions env.home.module_name name.text one signature types given (found_is env name one is (λ variable. rw meant at variable)) meant known gave)))
 
   pub hook_sound : (place : Place) (name : Name) (items : List Item) → Sound (Formed program names Nothing) (hook_typed check env place name items (found env name))
   hook_sound place name items = by (found env name) refl
@@ -147,7 +147,7 @@ module _ (program : Program) (names : Names) (check : Check) (well : ChecksWell 
             (λ logs. (
               types,
               refl,
-              agree.scripts.hooks env.home.module_name name.text (record one { meant = Hook signature }) signature types (found_is env name (record one { meant = Hook signature }) is (λ variable. variable)) refl known,
+              agree.scripts.names.hooks env.home.module_name name.text (record one { meant = Hook signature }) signature types (found_is env name (record one { meant = Hook signature }) is (λ variable. variable)) refl known,
               rw forms.1 at (have_forms program names args forms.0 logs),
             )),
             tt,
@@ -187,7 +187,7 @@ module _ (program : Program) (names : Names) (check : Check) (well : ChecksWell 
       typed_by : (word : Declared) (known : Option (Option RecordNo)) → word_of (found env) one ≡ Some word → log_type env.scripts word.name ≡ known → Sound Known (log_word check env one)
       typed_by word None is e = rw (is, e) wrong
       typed_by word (Some known) is e = let (name, there, log) = word_found one word is in
-          rw (is, e) (agree.scripts.logs env.home.module_name name.text word (found_is env name word there (λ variable. no_word word.meant word log variable)) log ∙ stream e)
+          rw (is, e) (agree.scripts.names.logs env.home.module_name name.text word (found_is env name word there (λ variable. no_word word.meant word log variable)) log ∙ stream e)
         where
           stream : log_type env.scripts word.name ≡ Some known → stream_type env.scripts word.name ≡ known
           stream e = rw e refl

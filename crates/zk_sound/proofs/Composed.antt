@@ -89,7 +89,7 @@ module _ (program : Program) (names : Names) (gives : Option ValueType) (context
   loops : StandsIn program gives (looping context)
   loops = record { scripts = stands.scripts; globals = stands.globals; within = stands.within }
 
-  init_sound : (locals : Locals) → LocalsAgree names locals → (wanted : Wanted) (one : Init) → Sound (Formed program names wanted) (init_typed (env_of context locals) wanted one)
+  pub init_sound : (locals : Locals) → LocalsAgree names locals → (wanted : Wanted) (one : Init) → Sound (Formed program names wanted) (init_typed (env_of context locals) wanted one)
   init_sound locals agree wanted (init.Value one) = expr_sound program names (env_of context locals) (env_agrees locals agree) wanted one
   init_sound locals agree wanted (init.Braces place values comma) = braces_sound program names (expr_typed (env_of context locals)) (expr_sound program names (env_of context locals) (env_agrees locals agree)) (env_of context locals) (at (env_of context locals) place) values wanted
 
@@ -366,7 +366,7 @@ module _ (program : Program) (names : Names) (gives : Option ValueType) where
   form_well depth well context stands locals one (stmt.Break place) is = rw is (λ agree. (agree, sound_require (StmtForm program names gives) (breaks context) rule.Break (place_of context place) (Ok (form.Break (place_of context place))) (λ e logs. tt)))
   form_well depth well context stands locals one (stmt.Expr value) is = rw is (λ agree. (agree, expr_stmt_sound program names gives (env_of context locals) (env_agrees program names gives context stands locals agree) value))
 
-  stmt_to_well : (depth : ℕ) → JudgesWell (stmt_to depth)
+  pub stmt_to_well : (depth : ℕ) → JudgesWell (stmt_to depth)
   stmt_to_well zero context stands locals one = λ agree. (agree, tt)
   stmt_to_well (suc depth) context stands locals one = form_well depth (stmt_to_well depth) context stands locals one (out-Stmt one) refl
 

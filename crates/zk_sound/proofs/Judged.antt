@@ -91,7 +91,7 @@ module _ (program : Program) (names : Names) (env : Env) (agree : EnvAgrees prog
 
   -- a word that a name means
   word_named : (name : Name) (word : Declared) (number : ℕ) → found env name ≡ Some word → word.meant ≡ Word number → is_word word.name ≡ true
-  word_named name word number is meant = agree.scripts.words env.home.module_name name.text word number (found_is env name word is (λ variable. no_word word.meant meant variable)) meant
+  word_named name word number is meant = agree.scripts.names.words env.home.module_name name.text word number (found_is env name word is (λ variable. no_word word.meant meant variable)) meant
     where
       no_word : (other : Meant) → other ≡ Word number → IsVariable other → ⊥
       no_word (Variable home lasting tree init attrs) is variable = cc

@@ -23,3 +23,11 @@ pub mod Stated
 mod Rows
 pub mod Composed
 pub mod Shown
+pub mod Names
+pub mod Told
+pub mod Heads
+pub mod Programs
+pub mod Initials
+pub mod Numbers
+pub mod Once
+pub mod Whole

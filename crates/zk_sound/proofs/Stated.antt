@@ -50,7 +50,7 @@ StmtForm program names gives one = StmtLogsFit program one → StmtFits program 
 -- Assignments ------------------------------------------------------------------------------------------------------
 
 -- what may be added to a value of a type is taken by the operator that adds it
-update_takes : (by : Assigning) (of wanted : ValueType) → added_type by of ≡ Some wanted → UpdateTakes (binary_of by) of wanted
+pub update_takes : (by : Assigning) (of wanted : ValueType) → added_type by of ≡ Some wanted → UpdateTakes (binary_of by) of wanted
 update_takes assigning.Add (Simple simple.Count) wanted is = (simple.Count, sym (one_of is), refl)
   where
     one_of : Some type.count ≡ Some wanted → type.count ≡ wanted
@@ -267,7 +267,7 @@ module _ (program : Program) (names : Names) (gives : Option ValueType) (env : E
       of_meant : (meant : Meant) (one : Declared) → found env name ≡ Some (record one { meant = meant }) → Sound EventForm (event_args (expr_typed env) env place name items (Some (record one { meant = meant })))
       of_meant (Event signature) one is = sound_bind (λ args. (types : List ValueType) × (params_of env.scripts signature ≡ Ok types) × AreForms program names types args) EventForm
           (arguments (expr_typed env) env place (params_of env.scripts signature) items) _ (given_arguments program names (expr_typed env) (well program names gives env agree) env place (params_of env.scripts signature) items) (λ args h. let (types, known, forms) = h in
-          (types, agree.scripts.events env.home.module_name name.text (record one { meant = Event signature }) signature types (found_is env name (record one { meant = Event signature }) is (λ variable. variable)) refl known, forms))
+          (types, agree.scripts.names.events env.home.module_name name.text (record one { meant = Event signature }) signature types (found_is env name (record one { meant = Event signature }) is (λ variable. variable)) refl known, forms))
       of_meant meant one is = sound_after EventForm (both (broken {A = Unit {0}} rule.WrongType (at env name.place)) (each (argument (expr_typed env) env Unclear) items)) elsewhere tt
 
       by : (one : Option Declared) → found env name ≡ one → Sound EventForm (event_args (expr_typed env) env place name items one)

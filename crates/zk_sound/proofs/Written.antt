@@ -35,11 +35,11 @@ use Rattle.zk_sound.proofs.Texts.{plain_decimal, plain_signed_decimal, plain_spa
 
 -- Lists --------------------------------------------------------------------------------------------------------------
 
-all_through : {A B : Type 0} (P : A → Type 0) (Q : B → Type 0) (f : A → B) → ((a : A) → P a → Q (f a)) → (xs : List A) → AllByRecursion P xs → AllByRecursion Q (map f xs)
+pub all_through : {A B : Type 0} (P : A → Type 0) (Q : B → Type 0) (f : A → B) → ((a : A) → P a → Q (f a)) → (xs : List A) → AllByRecursion P xs → AllByRecursion Q (map f xs)
 all_through P Q f each [] h = tt
 all_through P Q f each (x ∷ xs) (first, others) = (each x first, all_through P Q f each xs others)
 
-all_met : {A : Type 0} (P Q : A → Type 0) (xs : List A) → AllByRecursion (λ a. P a → Q a) xs → AllByRecursion P xs → AllByRecursion Q xs
+pub all_met : {A : Type 0} (P Q : A → Type 0) (xs : List A) → AllByRecursion (λ a. P a → Q a) xs → AllByRecursion P xs → AllByRecursion Q xs
 all_met P Q [] h k = tt
 all_met P Q (x ∷ xs) h k = (h.0 k.0, all_met P Q xs h.1 k.1)
 

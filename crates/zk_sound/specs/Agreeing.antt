@@ -1,20 +1,22 @@
 -- Programs that say what their scripts say: the types of fields, of functions, hooks and events, of globals and of logs.
-use Rattle.std.specs.Prelude.{◌≡◌, ℕ, true, List, Option, Some, None, Ok, slice_get}
+use Rattle.std.specs.Prelude.{◌≡◌, ◌≢◌, ℕ, true, List, [], ◌∷◌, Option, Some, None, Ok, slice_get}
+use Rattle.std.specs.List.{AllByRecursion}
 use Rattle.zk_base.specs.declared.numbers.RecordNo.{RecordNo}
 use Rattle.zk_typed.specs.declared.script.primitive.Primitive.{Primitive}
 use Rattle.zk_typed.specs.declared.script.primitive.Primitive.TheVariants as primitive
+use Rattle.zk_typed.specs.Columns.{record_fields}
 use Rattle.zk_typed.specs.Forms as form
 use Rattle.zk_typed.specs.Forms.{Expr, Exprs, Givens, Stmt, Stmts}
 use Rattle.zk_typed.specs.LogCalls.{is_log_word, stream_type}
 use Rattle.zk_typed.specs.Names.{Declared, Word, Event, Hook, Function, Signature, look_up}
-use Rattle.zk_typed.specs.Program.{Program, Function as Body}
+use Rattle.zk_typed.specs.Program.{Program, Global, Function as Body}
 use Rattle.zk_typed.specs.Resolving.{Scripts, FieldInfo, fields_of, params_of, result_of}
 use Rattle.zk_typed.specs.Statements.{Context, Within, InFunction}
 use Rattle.zk_typed.specs.Types.{ValueType}
 use Rattle.zk_typed.specs.Typing.{Env, LocalName, Wanted, Nothing, Wants, Unclear, number_among, is_event, is_hook, is_function}
 use Rattle.zk_sound.specs.Holding.{is_word}
 use Rattle.zk_sound.specs.Worlds.{Names, type_of, global_names, field_type, hook_params, event_params, row_type}
-use Rattle.zk_sound.specs.Having.{CallTakes, MayGive, LogCallFits}
+use Rattle.zk_sound.specs.Having.{CallTakes, MayGive, LogCallFits, ExpiryTakes, FieldLogs, WordFits}
 
 -- a function of a program is called with arguments of these types, and gives a value of a type, or none
 pub record FunctionAgrees (program : Program) (number : ℕ) (params : List ValueType) (gives : Option ValueType) : Type 0 where
@@ -23,9 +25,8 @@ pub record FunctionAgrees (program : Program) (number : ℕ) (params : List Valu
   pub takes : CallTakes function params
   pub may_give : (of : ValueType) → gives ≡ Some of → MayGive function.«result» of
 
--- a program says what its scripts say
-pub record Agrees (program : Program) (scripts : Scripts) : Type 0 where
-  pub fields : (number : RecordNo) (n : ℕ) (field : FieldInfo) (of : ValueType) → slice_get (fields_of scripts number.0) n ≡ Some field → field.field_type ≡ Ok of → field_type program number n ≡ Some of
+-- the numbers of names in a program are those of what they mean in its scripts
+pub record NamesAgree (program : Program) (scripts : Scripts) : Type 0 where
   pub functions : (module_name name : List ℕ) (one : Declared) (signature : Signature) (params : List ValueType) (gives : Option ValueType) → look_up scripts.names module_name name ≡ Some one → one.meant ≡ Function signature →
       params_of scripts signature ≡ Ok params → result_of scripts signature ≡ Ok gives → FunctionAgrees program (number_among is_function scripts one) params gives
   pub hooks : (module_name name : List ℕ) (one : Declared) (signature : Signature) (params : List ValueType) → look_up scripts.names module_name name ≡ Some one → one.meant ≡ Hook signature →
@@ -35,6 +36,11 @@ pub record Agrees (program : Program) (scripts : Scripts) : Type 0 where
   pub logs : (module_name name : List ℕ) (one : Declared) → look_up scripts.names module_name name ≡ Some one → is_log_word one ≡ true →
       row_type program (record { 0 = number_among is_log_word scripts one }) ≡ stream_type scripts one.name
   pub words : (module_name name : List ℕ) (one : Declared) (number : ℕ) → look_up scripts.names module_name name ≡ Some one → one.meant ≡ Word number → is_word one.name ≡ true
+
+-- a program says what its scripts say
+pub record Agrees (program : Program) (scripts : Scripts) : Type 0 where
+  pub fields : (number : RecordNo) (n : ℕ) (field : FieldInfo) (of : ValueType) → slice_get (fields_of scripts number.0) n ≡ Some field → field.field_type ≡ Ok of → field_type program number n ≡ Some of
+  pub names : NamesAgree program scripts
 
 -- an environment stands for names of these types
 pub record EnvAgrees (program : Program) (names : Names) (env : Env) : Type 0 where
@@ -102,6 +108,14 @@ abbrev mutual
   StmtsLogsFit program form.NoStmt = Unit {0}
   StmtsLogsFit program (form.AndStmt first others) = StmtLogsFit program first × StmtsLogsFit program others
 
+-- what an initial value says of logs fits, where there is one
+abbrev pub InitialLogsFit : Program → Option Expr → Type 0
+InitialLogsFit program None = Unit {0}
+InitialLogsFit program (Some one) = LogsFit program one
+
+abbrev pub ValuesLogFit : Program → Global → Type 0
+ValuesLogFit program one = InitialLogsFit program one.initial × AllByRecursion (LogsFit program) one.added
+
 -- Bodies -----------------------------------------------------------------------------------------------------------
 
 -- locals are of these types
@@ -120,3 +134,23 @@ pub record StandsIn (program : Program) (gives : Option ValueType) (context : Co
   pub scripts : Agrees program context.scripts
   pub globals : (number : ℕ) (of : ValueType) → context.global_type number ≡ Ok of → type_of (global_names program) number ≡ Some of
   pub within : WithinGives context.within gives
+
+-- Whole programs ---------------------------------------------------------------------------------------------------
+
+-- names differ from one another
+abbrev pub AreApart : List Declared → Type 0
+AreApart [] = Unit {0}
+AreApart (one ∷ others) = AllByRecursion (λ other. one.name ≢ other.name) others × AreApart others
+
+-- A program says what its scripts say: each name is declared once, what its bodies and values say of logs fits, an expiry
+-- function takes its table, a logged field is of a type that columns have, and the texts of its words stand for themselves.
+pub record SaysItsScripts (program : Program) (scripts : Scripts) : Type 0 where
+  pub once : AreApart scripts.names
+  pub words : (module_name name : List ℕ) (one : Declared) (number : ℕ) → look_up scripts.names module_name name ≡ Some one → one.meant ≡ Word number → is_word one.name ≡ true
+  pub functions : AllByRecursion (λ one. StmtLogsFit program one.body) program.functions
+  pub hooks : AllByRecursion (λ hook. AllByRecursion (λ one. StmtLogsFit program one.body) hook.bodies) program.hooks
+  pub handlers : AllByRecursion (λ one. StmtLogsFit program one.body) program.handlers
+  pub values : AllByRecursion (ValuesLogFit program) program.globals
+  pub expiry : AllByRecursion (λ one. ExpiryTakes program one.global_type one.expire_func) program.globals
+  pub columns : (number : RecordNo) → AllByRecursion FieldLogs (record_fields program number)
+  pub logs : AllByRecursion WordFits program.logs

@@ -298,6 +298,10 @@ abbrev pub InitialFits : Program → ValueType → Option Expr → Type 0
 InitialFits program of None = Unit {0}
 InitialFits program of (Some one) = HasForm program [] one of
 
+-- the values that a global begins with
+abbrev pub ValuesFit : Program → Global → Type 0
+ValuesFit program one = InitialFits program one.global_type one.initial × AllByRecursion (AddedFits program one.global_type) one.added
+
 -- the function that says how long an entry stays takes the table and its key, and gives an interval
 abbrev pub ExpiryTakes : Program → ValueType → Option ℕ → Type 0
 ExpiryTakes program of None = Unit {0}

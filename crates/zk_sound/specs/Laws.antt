@@ -1,5 +1,5 @@
 -- The laws: what typed programs promise of their values.
-use Rattle.std.specs.Prelude.{◌≡◌, ℕ, List, map, Option, Some, Ok, slice_get}
+use Rattle.std.specs.Prelude.{◌≡◌, ◌≢◌, ℕ, List, [], map, Err, Option, Some, Ok, slice_get}
 use Rattle.std.specs.List.{AllByRecursion}
 use Rattle.zk_base.specs.declared.time.Moment.{Moment}
 use Rattle.zk_tree.specs.declared.expr.Expr.{Expr as Written}
@@ -8,6 +8,13 @@ use Rattle.zk_tree.specs.Value.{Value}
 use Rattle.zk_tree.specs.declared.stmt.Block.{Block}
 use Rattle.zk_typed.specs.declared.script.action.Action.{Action}
 use Rattle.zk_typed.specs.declared.script.primitive.Primitive.{Primitive}
+use Rattle.zk_tree.specs.declared.types.Type.{«Type»}
+use Rattle.zk_typed.specs.Declaring.{scripts_of}
+use Rattle.zk_typed.specs.Errors.{errors}
+use Rattle.zk_typed.specs.LoadOrder.{File, Home, load_order}
+use Rattle.zk_typed.specs.Resolving.{FieldInfo, type_of, fields_of}
+use Rattle.zk_base.specs.declared.numbers.RecordNo.{RecordNo}
+use Rattle.zk_typed.specs.Columns.{record_fields}
 use Rattle.zk_typed.specs.Dispatch.{dispatch, initial_body, world_after}
 use Rattle.zk_typed.specs.Expressions.{expr_typed}
 use Rattle.zk_typed.specs.Forms.{Expr, Stmt}
@@ -15,6 +22,7 @@ use Rattle.zk_typed.specs.Log.{Row}
 use Rattle.zk_typed.specs.Meaning.{calls, value, does}
 use Rattle.zk_typed.specs.Primitives.{perform, act}
 use Rattle.zk_typed.specs.Program.{Program, Global}
+use Rattle.zk_typed.specs.Programs.{Typed as TypedProgram}
 use Rattle.zk_typed.specs.Running.{Item, expire_of, world_in, run}
 use Rattle.zk_typed.specs.State.{World}
 use Rattle.zk_typed.specs.Statements.{Context, Locals, body_typed}
@@ -25,9 +33,10 @@ use Rattle.zk_ascii.specs.Fits.{Fit}
 use Rattle.zk_ascii.specs.Text.{row_text}
 use Rattle.zk_sound.specs.Holding.{Kinds, HaveTypes}
 use Rattle.zk_sound.specs.Rows.{RowFits, CellIsBytes, shown_cell, shown_column}
-use Rattle.zk_sound.specs.Worlds.{Names, QueuedFits, WorldFits}
-use Rattle.zk_sound.specs.Having.{Takes, ReadsNoName, ActionTakes, ActsOnNoName, HasForm, StmtFits, ProgramFits}
-use Rattle.zk_sound.specs.Agreeing.{EnvAgrees, IsClear, LogsFit, StmtLogsFit, LocalsAgree, StandsIn}
+use Rattle.zk_sound.specs.Worlds.{Names, field_type, QueuedFits, WorldFits}
+use Rattle.zk_sound.specs.Having.{Takes, ReadsNoName, ActionTakes, ActsOnNoName, HasForm, StmtFits, FieldBegins, FunctionFits, HandlerFits, ValuesFit, ProgramFits}
+use Rattle.zk_sound.specs.Agreeing.{Agrees, SaysItsScripts, EnvAgrees, IsClear, LogsFit, ValuesLogFit, StmtLogsFit, LocalsAgree, StandsIn}
+use Rattle.zk_sound.specs.Telling.{HeadIsKnown, BodyIsDeclared}
 use Rattle.zk_sound.specs.Keeping.{Keeps, Stopped, Any, Of, FlowOf, strictly, loose}
 
 -- Operations -------------------------------------------------------------------------------------------------------
@@ -98,6 +107,58 @@ RaisesFit program item = (kinds : Kinds) (world : World) → WorldFits program k
 -- the world to which a run comes is of its types, whatever the items raise that is of its types
 abbrev pub RunsKeepTypes : Type 0
 RunsKeepTypes = (program : Program) (budget : ℕ) (items : List Item) (last : Moment) → ProgramFits program →
+    AllByRecursion (RaisesFit program) items → (kinds : Kinds) × WorldFits program kinds (world_in (run program budget items last))
+
+-- Scripts that break no rule ------------------------------------------------------------------------------------------
+
+-- Where no rule is told, no type is broken: what is not told of a type, for it rests on what is broken elsewhere, is told there.
+abbrev pub TypesAreTold : Type 0
+TypesAreTold = (files : List File) (home : Home) (tree : «Type») → errors files ≡ [] → type_of (scripts_of files) home tree ≢ Err []
+
+-- So each declared type and each type in the head of a body is known,
+abbrev pub HeadsAreKnown : Type 0
+HeadsAreKnown = (files : List File) → errors files ≡ [] → AllByRecursion (HeadIsKnown (scripts_of files)) (load_order files)
+
+-- and a body has the types of the declaration that is found by its name.
+abbrev pub BodiesAreDeclared : Type 0
+BodiesAreDeclared = (files : List File) → errors files ≡ [] → AllByRecursion (BodyIsDeclared (scripts_of files)) (load_order files)
+
+-- The functions of a typed program that says what its scripts say have the types of their declarations, where what they say
+-- of logs fits,
+abbrev pub TypedFunctionsFit : Type 0
+TypedFunctionsFit = (files : List File) (program : Program) → TypedProgram files program → Agrees program (scripts_of files) →
+    AllByRecursion (λ one. StmtLogsFit program one.body) program.functions → AllByRecursion (FunctionFits program) program.functions
+
+-- and so have its handlers.
+abbrev pub TypedHandlersFit : Type 0
+TypedHandlersFit = (files : List File) (program : Program) → TypedProgram files program → Agrees program (scripts_of files) →
+    AllByRecursion (λ one. StmtLogsFit program one.body) program.handlers → AllByRecursion (HandlerFits program) program.handlers
+
+-- So have the values that its globals begin with,
+abbrev pub TypedValuesFit : Type 0
+TypedValuesFit = (files : List File) (program : Program) → TypedProgram files program → Agrees program (scripts_of files) →
+    AllByRecursion (ValuesLogFit program) program.globals → AllByRecursion (ValuesFit program) program.globals
+
+-- and its fields have the types that its scripts give them
+abbrev pub TypedFieldsAgree : Type 0
+TypedFieldsAgree = (files : List File) (program : Program) → TypedProgram files program → (number : RecordNo) (n : ℕ) (field : FieldInfo) (of : ValueType) →
+    slice_get (fields_of (scripts_of files) number.0) n ≡ Some field → field.field_type ≡ Ok of → field_type program number n ≡ Some of
+
+-- and begin with values of these, whatever else.
+abbrev pub TypedFieldsBegin : Type 0
+TypedFieldsBegin = (files : List File) (program : Program) → TypedProgram files program → (number : RecordNo) → AllByRecursion FieldBegins (record_fields program number)
+
+-- Where a typed program says what its scripts say, no body of it stops for a type: it is one that fits.
+abbrev pub TypedProgramsFit : Type 0
+TypedProgramsFit = (files : List File) (program : Program) → TypedProgram files program → SaysItsScripts program (scripts_of files) → ProgramFits program
+
+-- So each of its bodies keeps the types of the world, as does its whole run: no operation meets a value of another type.
+abbrev pub TypedHandlersKeepTypes : Type 0
+TypedHandlersKeepTypes = (files : List File) (program : Program) (kinds : Kinds) (budget : ℕ) (world : World) (what : Queued) → TypedProgram files program →
+    SaysItsScripts program (scripts_of files) → WorldFits program kinds world → QueuedFits program kinds what → Stopped program kinds (dispatch program budget world what)
+
+abbrev pub TypedRunsKeepTypes : Type 0
+TypedRunsKeepTypes = (files : List File) (program : Program) (budget : ℕ) (items : List Item) (last : Moment) → TypedProgram files program → SaysItsScripts program (scripts_of files) →
     AllByRecursion (RaisesFit program) items → (kinds : Kinds) × WorldFits program kinds (world_in (run program budget items last))
 
 -- Rows -------------------------------------------------------------------------------------------------------------

@@ -4,4 +4,5 @@ pub mod Worlds
 pub mod Having
 pub mod Keeping
 pub mod Agreeing
+pub mod Telling
 pub mod Laws

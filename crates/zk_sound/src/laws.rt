@@ -1,5 +1,5 @@
 // What typed programs promise of their values.
-ghost use Rattle.zk_sound.specs.Laws.{PrimitivesTakeTypes, ActionsTakeTypes, ExpressionsKeepTypes, StatementsKeepTypes, HandlersKeepTypes, InitialsKeepTypes, ExpiriesKeepTypes, RunsKeepTypes, RulesGiveForms, RulesGiveStatements, ValuesHaveTypes, RunsWriteRowsThatFit, ShownRowsFit, TextsTellRows};
+ghost use Rattle.zk_sound.specs.Laws.{PrimitivesTakeTypes, ActionsTakeTypes, ExpressionsKeepTypes, StatementsKeepTypes, HandlersKeepTypes, InitialsKeepTypes, ExpiriesKeepTypes, RunsKeepTypes, RulesGiveForms, RulesGiveStatements, ValuesHaveTypes, RunsWriteRowsThatFit, ShownRowsFit, TextsTellRows, TypesAreTold, HeadsAreKnown, BodiesAreDeclared, TypedFunctionsFit, TypedHandlersFit, TypedValuesFit, TypedFieldsAgree, TypedFieldsBegin, TypedProgramsFit, TypedHandlersKeepTypes, TypedRunsKeepTypes};
 
 use zk_ascii::equal_texts;
 
@@ -47,3 +47,30 @@ pub fn rows_fit_their_columns()
 {
     equal_texts();
 }
+
+/// What is broken is told: where scripts break no rule that is told, no type in them is broken, and each body has
+/// the parameters and the result of its declaration. There is nothing to run.
+pub fn broken_is_told()
+    ensures types { TypesAreTold }
+    ensures heads { HeadsAreKnown }
+    ensures bodies { BodiesAreDeclared }
+{}
+
+/// The bodies, initial values and fields of the program of scripts that break no rule have the types of their
+/// declarations, where the program says what its scripts say and what they say of logs fits. There is nothing to
+/// run.
+pub fn typed_bodies_fit()
+    ensures functions { TypedFunctionsFit }
+    ensures handlers { TypedHandlersFit }
+    ensures values { TypedValuesFit }
+    ensures fields { TypedFieldsAgree }
+    ensures begins { TypedFieldsBegin }
+    ensures programs { TypedProgramsFit }
+{}
+
+/// The bodies of the program of scripts that break no rule keep the types of the world, as does its whole run, where
+/// the program says what its scripts say: none of them stops for a type. There is nothing to run.
+pub fn typed_programs_keep_types()
+    ensures handlers { TypedHandlersKeepTypes }
+    ensures runs { TypedRunsKeepTypes }
+{}

@@ -1,6 +1,8 @@
 -- How the reading of a capture goes on.
 use Rattle.std.proofs.Common.{◌≡◌, ℕ, ◌+◌, ◌-◌, ◌<◌, ◌≤◌, ◌^◌, Bool, true, false, cond, List, [], ◌∷◌, ◌++◌, length, take, drop, Option, Some, None, Ok, IsTrue, IfSome, refl, sym, ap, subst, ◌∙◌, arith, inl, inr, length-append, length-take, append_assoc, append-nil, ne_eqb}
 use Rattle.std.specs.Prelude.{◌⊎◌, ◌==◌, nat_le, nat_lt, if◌then◌else◌}
+use Rattle.std.specs.Prelude.{min}
+use Rattle.std.proofs.Math.Nat.{min-eq_left}
 use Rattle.std.proofs.Math.Seq.{take-append-add}
 use Rattle.std.proofs.lemmas.Bool.{and_parts, leb-true}
 use Rattle.std.specs.Option.{option_map}
@@ -70,6 +72,7 @@ reading_on whole header bytes packets reader old new is (reading, inputs) =
       read = has_read_on whole bytes old new is.read (reading, inputs);
       counted = is.counted;
       read_out = λ out. subst (λ rest. (reader.left ≡ 0) ⊎ IfSome rest (λ r. r ≡ [])) (sym same) (is.read_out out);
+      passed = is.passed;
     }
 
 -- ---- packets
@@ -77,41 +80,60 @@ reading_on whole header bytes packets reader old new is (reading, inputs) =
 -- a piece more of a capture was read
 pub reading_more : (whole : Option (List ℕ)) (header : Header) (bytes piece : List ℕ) (packets : List Packet) (reader after : CaptureReader) (old new : Outside)
     → IsReading whole header bytes packets reader old → HasRead whole (bytes ++ piece) new → StandsFor after.feed header (bytes ++ piece) packets
-    → after.link ≡ reader.link → after.left + length piece ≡ reader.left → (after.is_read_out ≡ true → (after.left ≡ 0) ⊎ IfSome (rest_of new) (λ rest. rest ≡ []))
+    → after.link ≡ reader.link → after.passed ≡ reader.passed → after.left + length piece ≡ reader.left → (after.is_read_out ≡ true → (after.left ≡ 0) ⊎ IfSome (rest_of new) (λ rest. rest ≡ []))
     → IsReading whole header (bytes ++ piece) packets after new
-reading_more whole header bytes piece packets reader after old new is read stands link less out = record {
+reading_more whole header bytes piece packets reader after old new is read stands link same less out = record {
   link = link ∙ is.link;
   opens = header_stays bytes piece (subst IsSure (sym is.opens) tt) ∙ is.opens;
   stands = stands;
   read = read;
   counted = omega (arith, is.counted, less, length-append bytes piece);
   read_out = out;
+  passed = same ∙ is.passed;
 }
+
+-- packets take up places, each one at least
+places_of : (header : Header) (bytes : List ℕ) (from : ℕ) (packets : List Packet) (to : ℕ) → StandBetween (record_at header bytes) from packets to → from + length packets ≤ to
+places_of header bytes from [] to is = omega (arith, is)
+places_of header bytes from (packet ∷ packets) to (here, behind) =
+    let start = record_place (number_of header.big) header.nano bytes from packet here in
+    let rest = places_of header bytes (end_of packet) packets to behind in
+    omega (arith, start, rest)
+
+-- one packet more is counted
+one_more_passed : (header : Header) (bytes : List ℕ) (packets : List Packet) (packet : Packet) (place passed left : ℕ) → StandBetween (record_at header bytes) 24 (packets ++ packet ∷ []) place
+    → place ≤ length bytes → left + length bytes ≡ 2 ^ 40 → passed ≡ length packets → min (passed + 1) (2 ^ 64 - 1) ≡ length (packets ++ packet ∷ [])
+one_more_passed header bytes packets packet place passed left stand within counted is =
+    let places = places_of header bytes 24 (packets ++ packet ∷ []) place stand in
+    let longer : length (packets ++ packet ∷ []) ≡ passed + 1 = length-append packets (packet ∷ []) ∙ ap (λ n. n + 1) (sym is) in
+    min-eq_left {n = passed + 1} {m = 2 ^ 64 - 1} (omega (arith, places, longer, within, counted)) ∙ sym longer
 
 -- the reader goes on behind a packet
 pub reading_behind : (whole : Option (List ℕ)) (header : Header) (bytes : List ℕ) (packets : List Packet) (packet : Packet) (reader after : CaptureReader) (now : Outside)
-    → IsReading whole header bytes packets reader now → StandsFor after.feed header bytes (packets ++ packet ∷ []) → after.link ≡ reader.link → after.left ≡ reader.left → after.is_read_out ≡ reader.is_read_out
+    → IsReading whole header bytes packets reader now → StandsFor after.feed header bytes (packets ++ packet ∷ []) → after.link ≡ reader.link → after.left ≡ reader.left → after.is_read_out ≡ reader.is_read_out → after.passed ≡ min (reader.passed + 1) (2 ^ 64 - 1)
     → IsReading whole header bytes (packets ++ packet ∷ []) after now
-reading_behind whole header bytes packets packet reader after now is stands link left out = record {
+reading_behind whole header bytes packets packet reader after now is stands link left out more = record {
   link = link ∙ is.link;
   opens = is.opens;
   stands = stands;
   read = is.read;
   counted = ap (λ n. n + length bytes) left ∙ is.counted;
   read_out = λ ended. subst (λ n. (n ≡ 0) ⊎ IfSome (rest_of now) (λ rest. rest ≡ [])) (sym left) (is.read_out (sym out ∙ ended));
+  passed = more ∙ one_more_passed header bytes packets packet after.feed.place reader.passed reader.left stands.stand stands.within is.counted is.passed;
 }
 
 -- A reader that has read the first bytes of a capture.
 pub reading_begins : (whole : Option (List ℕ)) (header : Header) (bytes : List ℕ) (reader : CaptureReader) (now : Outside)
-    → header_of bytes ≡ Ok header → reader.link ≡ header.link → HasRead whole bytes now → StandsFor reader.feed header bytes [] → reader.left + length bytes ≡ 2 ^ 40 → reader.is_read_out ≡ false
+    → header_of bytes ≡ Ok header → reader.link ≡ header.link → HasRead whole bytes now → StandsFor reader.feed header bytes [] → reader.left + length bytes ≡ 2 ^ 40 → reader.is_read_out ≡ false → reader.passed ≡ 0
     → IsReading whole header bytes [] reader now
-reading_begins whole header bytes reader now opens link read stands counted going = record {
+reading_begins whole header bytes reader now opens link read stands counted going none = record {
   link = link;
   opens = opens;
   stands = stands;
   read = read;
   counted = counted;
   read_out = λ out. absurd (let never : ⊥ = cc in never);
+  passed = none;
 }
 
 -- ---- the end

@@ -1,12 +1,15 @@
 -- The command line in the subject's own words.
 use Rattle.std.proofs.Common.{◌≡◌, ◌↔◌, ℕ, zero, suc, ◌+◌, ◌<◌, ◌≤◌, Bool, true, false, ◌⊎◌, inl, inr, if◌then◌else◌, List, [], ◌∷◌, ◌++◌, take, length, option_map, is_none, length-append, append-nil, codes, add-one, Option, Some, None, Result, Ok, Err, is_ok, is_some, IsTrue, slice_get, refl, sym, ap, subst, ◌∙◌, arith}
+use Rattle.std.specs.Prelude.{◌&&◌, ◌*◌, ◌-◌, ◌==◌, nat_le}
+use Rattle.std.specs.Char.{is_ascii_digit}
 use Rattle.std.specs.Str.{bytes_eq}
+use Rattle.std.proofs.lemmas.Bool.{and_parts, leb-true}
 use Rattle.zk_top.specs.declared.command.Next.{Next}
 use Rattle.zk_top.specs.declared.command.Next.TheVariants as next
 use Rattle.zk_top.specs.declared.command.Run.{Run}
 use Rattle.zk_top.specs.declared.command.Standing.{Standing}
 use Rattle.zk_top.specs.declared.command.Standing.TheVariants as standing
-use Rattle.zk_top.specs.Command.{budget_max, buffer_max, IsFirstNotUnderstood, begins, is_whole, is_whole_at, no_options, is_file_name, number_in, once, with_option, with_script, with_word, run_on, verb, step, stand_from, settings_of, words_from, run_of, command_of}
+use Rattle.zk_top.specs.Command.{Command, ListItems, RunScripts, Generate, Help, Version, IsUnderstood, command_or, judged, understand, number_from, number_to, start_max, count_max, budget_max, buffer_max, IsFirstNotUnderstood, begins, is_whole, is_whole_at, no_options, is_file_name, number_in, once, with_option, with_script, with_word, run_on, verb, step, stand_from, settings_of, words_from, run_of, command_of}
 
 -- Words one after another --------------------------------------------------------------------------------------------
 
@@ -106,6 +109,9 @@ Valid number standing.Nothing = Unit {0}
 Valid number standing.List = 1 ≤ number
 Valid number standing.Listed = 2 ≤ number
 Valid number (standing.Run run) = Sound number run
+Valid number standing.Generate = Unit {0}
+Valid number (standing.GenerateFrom start) = Unit {0}
+Valid number (standing.Generated start count) = count ≤ count_max
 Valid number standing.Help = Unit {0}
 Valid number standing.Version = Unit {0}
 
@@ -224,16 +230,45 @@ run_sound run found number word sound is = of_next run.next refl
               order = λ some. (refl, refl);
             })
 
+-- a number within a limit
+within_from : (most number n : ℕ) (word : List ℕ) → number ≤ most → number_from most number word ≡ Some n → n ≤ most
+within_from most number n [] less is = let same : number ≡ n = cc in omega (arith, less, same)
+within_from most number n (byte ∷ bytes) less is =
+    by (is_ascii_digit byte && nat_le (number * 10 + (byte - 48)) most) refl is (λ within. within_from most (number * 10 + (byte - 48)) n bytes within)
+  where
+    by : (good : Bool) → (is_ascii_digit byte && nat_le (number * 10 + (byte - 48)) most) ≡ good
+        → (if good then number_from most (number * 10 + (byte - 48)) bytes else None) ≡ Some n
+        → (number * 10 + (byte - 48) ≤ most → number_from most (number * 10 + (byte - 48)) bytes ≡ Some n → n ≤ most) → n ≤ most
+    by false there same behind = absurd (let never : ⊥ = cc in never)
+    by true there same behind = behind (leb-true (number * 10 + (byte - 48)) most (and_parts (is_ascii_digit byte) (nat_le (number * 10 + (byte - 48)) most) there).1) same
+
+within_in : (most n : ℕ) (word : List ℕ) → number_in most word ≡ Some n → n ≤ most
+within_in most n [] is = absurd (let never : ⊥ = cc in never)
+within_in most n (first ∷ others) is = by (first == 48) is
+  where
+    by : (zero_first : Bool) → (if zero_first then None else number_from most 0 (first ∷ others)) ≡ Some n → n ≤ most
+    by true same = absurd (let never : ⊥ = cc in never)
+    by false same = within_from most 0 n (first ∷ others) (omega arith) same
+
+within_to : (most n : ℕ) (word : List ℕ) → number_to most word ≡ Some n → n ≤ most
+within_to most n word is = elim (one_or (bytes_eq word (codes "0")) (Some 0) (number_in most word) n is) [
+  | inl here ↦ (let same : 0 ≡ n = cc in omega (arith, same))
+  | inr other ↦ within_in most n word other
+]
+
 verb_valid : (word : List ℕ) (number : ℕ) (more : Standing) → verb word ≡ Some more → Valid (number + 1) more
 verb_valid word number more is = elim (one_or (bytes_eq word (codes "list")) _ _ more is) [
   | inl here ↦ subst (Valid (number + 1)) (let same : standing.List ≡ more = cc in same) (let one : 1 ≤ number + 1 = omega arith in one)
   | inr is ↦ elim (one_or (bytes_eq word (codes "run")) _ _ more is) [
     | inl here ↦ subst (Valid (number + 1)) (let same : standing.Run no_options ≡ more = cc in same) no_names
-    | inr is ↦ elim (one_or (bytes_eq word (codes "--help")) _ _ more is) [
-      | inl here ↦ subst (Valid (number + 1)) (let same : standing.Help ≡ more = cc in same) tt
-      | inr is ↦ elim (one_or (bytes_eq word (codes "--version")) _ _ more is) [
-        | inl here ↦ subst (Valid (number + 1)) (let same : standing.Version ≡ more = cc in same) tt
-        | inr none ↦ absurd (let never : ⊥ = cc in never)
+    | inr is ↦ elim (one_or (bytes_eq word (codes "gen")) _ _ more is) [
+      | inl here ↦ subst (Valid (number + 1)) (let same : standing.Generate ≡ more = cc in same) tt
+      | inr is ↦ elim (one_or (bytes_eq word (codes "--help")) _ _ more is) [
+        | inl here ↦ subst (Valid (number + 1)) (let same : standing.Help ≡ more = cc in same) tt
+        | inr is ↦ elim (one_or (bytes_eq word (codes "--version")) _ _ more is) [
+          | inl here ↦ subst (Valid (number + 1)) (let same : standing.Version ≡ more = cc in same) tt
+          | inr none ↦ absurd (let never : ⊥ = cc in never)
+        ]
       ]
     ]
   ]
@@ -255,6 +290,17 @@ step_valid (standing.Run run) more number word valid is = by (run_on run number 
     by : (found : Option Run) → run_on run number word ≡ found → option_map standing.Run found ≡ Some more → Valid (number + 1) more
     by None there same = absurd (let never : ⊥ = cc in never)
     by (Some found) there same = subst (Valid (number + 1)) (let here : standing.Run found ≡ more = cc in here) (run_sound run found number word valid there)
+step_valid standing.Generate more number word valid is = by (number_to start_max word) is
+  where
+    by : (found : Option ℕ) → option_map standing.GenerateFrom found ≡ Some more → Valid (number + 1) more
+    by None same = absurd (let never : ⊥ = cc in never)
+    by (Some start) same = subst (Valid (number + 1)) (let here : standing.GenerateFrom start ≡ more = cc in here) tt
+step_valid (standing.GenerateFrom start) more number word valid is = by (number_to count_max word) refl is
+  where
+    by : (found : Option ℕ) → number_to count_max word ≡ found → option_map (standing.Generated start) found ≡ Some more → Valid (number + 1) more
+    by None there same = absurd (let never : ⊥ = cc in never)
+    by (Some count) there same = subst (Valid (number + 1)) (let here : standing.Generated start count ≡ more = cc in here) (within_to count_max count word there)
+step_valid (standing.Generated start count) more number word valid is = absurd (let never : ⊥ = cc in never)
 step_valid standing.Help more number word valid is = absurd (let never : ⊥ = cc in never)
 step_valid standing.Version more number word valid is = absurd (let never : ⊥ = cc in never)
 
@@ -306,6 +352,9 @@ complete words standing.Nothing valid = (codes "--help" ∷ [], refl)
 complete words standing.List valid = (codes "a" ∷ [], file_there words (codes "a" ∷ []) _ 1 (omega (arith, valid)))
 complete words standing.Listed valid = ([], file_there words [] _ 1 (omega (arith, valid)))
 complete words (standing.Run run) valid = complete_run words run.unchecked run.bare run.budget run.buffer run.file run.scripts run.next valid
+complete words standing.Generate valid = (codes "0" ∷ codes "0" ∷ [], refl)
+complete words (standing.GenerateFrom start) valid = (codes "0" ∷ [], refl)
+complete words (standing.Generated start count) valid = ([], refl)
 complete words standing.Help valid = ([], refl)
 complete words standing.Version valid = ([], refl)
 
@@ -330,3 +379,48 @@ begun words = (
   λ ok. begun_whole words (stand_from standing.Nothing 0 words) refl ok,
   λ found. whole_begun words found.0 (stand_from standing.Nothing 0 words) refl found.1,
 )
+
+-- What is understood ---------------------------------------------------------------------------------------------------
+
+-- a command that has a name in it
+named_understood : {X : Type 0} (f : X → Command) (found : Option X) (number : ℕ) (command : Command) → ((x : X) → IsUnderstood (f x)) → command_or (option_map f found) number ≡ Ok command → IsUnderstood command
+named_understood f None number command all is = absurd (let never : ⊥ = cc in never)
+named_understood f (Some x) number command all is = subst IsUnderstood (let same : f x ≡ command = cc in same) (all x)
+
+run_understood : (words : List (List ℕ)) (run : Run) (file : Option ℕ) (number : ℕ) (command : Command) → command_or (run_of words run file) number ≡ Ok command → IsUnderstood command
+run_understood words run None number command is = absurd (let never : ⊥ = cc in never)
+run_understood words run (Some at) number command is = of_next run.next refl
+  where
+    on : Next → Option Command
+    on now = elim now [
+      | next.Word ↦ option_map (λ file. RunScripts (settings_of run) file (words_from words run.scripts)) (slice_get words at)
+      | next.Budget ↦ None
+      | next.Buffer ↦ None
+      | next.File ↦ None
+    ]
+
+    of_next : (now : Next) → run.next ≡ now → IsUnderstood command
+    of_next next.Word there =
+        named_understood (λ file. RunScripts (settings_of run) file (words_from words run.scripts)) (slice_get words at) number command (λ file. tt) (sym (ap (λ n. command_or (on n) number) there) ∙ is)
+    of_next next.Budget there = absurd (let none : Err number ≡ Ok command = sym (ap (λ n. command_or (on n) number) there) ∙ is in let never : ⊥ = cc in never)
+    of_next next.Buffer there = absurd (let none : Err number ≡ Ok command = sym (ap (λ n. command_or (on n) number) there) ∙ is in let never : ⊥ = cc in never)
+    of_next next.File there = absurd (let none : Err number ≡ Ok command = sym (ap (λ n. command_or (on n) number) there) ∙ is in let never : ⊥ = cc in never)
+
+standing_understood : (words : List (List ℕ)) (all : Standing) (at number : ℕ) (command : Command) → Valid at all → command_or (command_of words all) number ≡ Ok command → IsUnderstood command
+standing_understood words standing.Nothing at number command valid is = absurd (let never : ⊥ = cc in never)
+standing_understood words standing.List at number command valid is = absurd (let never : ⊥ = cc in never)
+standing_understood words standing.Listed at number command valid is = named_understood ListItems (slice_get words 1) number command (λ file. tt) is
+standing_understood words (standing.Run run) at number command valid is = run_understood words run run.file number command is
+standing_understood words standing.Generate at number command valid is = absurd (let never : ⊥ = cc in never)
+standing_understood words (standing.GenerateFrom start) at number command valid is = absurd (let never : ⊥ = cc in never)
+standing_understood words (standing.Generated start count) at number command valid is = subst IsUnderstood (let same : Generate start count ≡ command = cc in same) valid
+standing_understood words standing.Help at number command valid is = subst IsUnderstood (let same : Help ≡ command = cc in same) tt
+standing_understood words standing.Version at number command valid is = subst IsUnderstood (let same : Version ≡ command = cc in same) tt
+
+-- words that are a command keep to its limits
+pub understood : (words : List (List ℕ)) (command : Command) → understand words ≡ Ok command → IsUnderstood command
+understood words command is = by (stand_from standing.Nothing 0 words) refl is
+  where
+    by : (stands : Result Standing ℕ) → stand_from standing.Nothing 0 words ≡ stands → judged words stands ≡ Ok command → IsUnderstood command
+    by (Err place) there same = absurd (let never : ⊥ = cc in never)
+    by (Ok all) there same = standing_understood words all (0 + length words) (length words) command (stands_valid standing.Nothing 0 words all tt there) same

@@ -1,6 +1,5 @@
 -- From broken rules to refusals, and from typed programs to their code.
-use Rattle.std.proofs.Common.{◌≡◌, ◌⊎◌, inl, inr, ℕ, ◌==◌, ◌||◌, map, List, [], ◌∷◌, Option, Some, None, refl, sym, ap, subst, ◌∙◌}
-use Rattle.zk_base.specs.declared.endings.Ending.{Ending}
+use Rattle.std.proofs.Common.{◌≡◌, ◌⊎◌, inl, inr, ℕ, ◌==◌, ◌||◌, map, List, [], ◌∷◌, Some, None, refl, sym, ap, subst, ◌∙◌}
 use Rattle.zk_tree.specs.declared.place.Place.{Place}
 use Rattle.zk_typed.specs.declared.refusal.Broken.{Broken}
 use Rattle.zk_typed.specs.declared.rule.Rule.{Rule}
@@ -108,8 +107,8 @@ handled number [] = refl
 handled number (one ∷ others) = ap (λ other. (one.event.0 == number) || other) (handled number others)
 
 -- memory ran out behind the scripts
-pub stopped_behind_scripts : (names : List (List ℕ)) (old : Outside) (found : Found Scripts) (new : Outside) → LoadsAll names old found new → LoadsPart names old NoMemory new
-stopped_behind_scripts names old found new loads = record {
+pub stopped_behind_scripts : (before : Scripts) (names : List (List ℕ)) (old : Outside) (found : Found Scripts) (new : Outside) → LoadsAll before names old found new → LoadsPart before names old NoMemory new
+stopped_behind_scripts before names old found new loads = record {
   asked = loads.asked;
   does = loads.does.does;
   cause = loads.does.faults;

@@ -1,5 +1,5 @@
 -- From what the parts of a run do to what a run does.
-use Rattle.std.proofs.Common.{◌≡◌, ℕ, List, [], ◌∷◌, ◌++◌, Option, Some, None, Result, Ok, Err, inl, inr, refl, sym, ap, subst, ◌∙◌}
+use Rattle.std.proofs.Common.{◌≡◌, ℕ, List, [], ◌∷◌, ◌++◌, Option, Some, Result, Ok, Err, inl, inr, refl, sym, ap, subst, ◌∙◌}
 use Rattle.std.specs.Option.{option_map}
 use Rattle.std.proofs.lemmas.List.{append-nil}
 use Rattle.zk_base.specs.declared.endings.Ending.{Ending}
@@ -7,17 +7,18 @@ use Rattle.zk_base.specs.declared.endings.Ending.TheVariants.{Done, Usage}
 use Rattle.zk_base.specs.Shelf.{Files, Outside, HasRisen, appended}
 use Rattle.zk_pcap.specs.declared.captures.Capture.{Capture}
 use Rattle.zk_typed.specs.Program.{Program}
-use Rattle.zk_load.specs.Loading.{Loading, Scripts, loading}
+use Rattle.zk_load.specs.Loading.{Scripts, loading}
 use Rattle.zk_load.specs.declared.found.Found.{Found}
 use Rattle.zk_load.specs.declared.found.Found.TheVariants.{Accepted, Refused}
 use Rattle.zk_load.specs.declared.stop.Stop.{Stop}
-use Rattle.zk_top.specs.Command.{Command, ListItems, RunScripts, Help, Version, understand}
+use Rattle.zk_top.specs.Command.{Command, ListItems, RunScripts, Generate, Help, Version, understand}
+use Rattle.zk_top.specs.Compiling.{program_by}
 use Rattle.zk_top.specs.Complaint.{complaint_of}
 use Rattle.zk_top.specs.declared.command.Settings.{Settings}
-use Rattle.zk_top.specs.Outcome.{Outcome, Report, no_files, ending_so, opened, over_capture, list_report, link_in, run_report, running, run_of, outcome_of, outcome}
-use Rattle.zk_top.specs.Script.{program_of}
+use Rattle.zk_top.specs.Outcome.{Outcome, Report, no_files, ending_so, opened, over_capture, list_report, link_in, run_report, running, run_behind, run_of, generated, generated_name, summary_report, summing_up, outcome_of, outcome}
+use Rattle.zk_top.specs.Script.{default_scripts, program_of, scripts_before}
 use Rattle.zk_load.specs.Parts.{DoesAll, DoesPart, IsPrefix}
-use Rattle.zk_top.specs.Parts.{Fulfils, BreaksOff, IsAllButComplaint, but_outputs}
+use Rattle.zk_top.specs.Parts.{Fulfils, BreaksOff, but_outputs}
 use Rattle.zk_top.specs.Run.{IsDone, StaysWithin}
 use Rattle.zk_top.proofs.Giving.{does_beside, without_fault_beside, no_file_begun, no_file_written, whole_begun}
 use Rattle.zk_load.proofs.Doing.{prefix_of_none, prefix_all, does_nothing_without_fault, does_both, without_fault_both, cause_since}
@@ -40,11 +41,22 @@ plain_scripts : (file : List ℕ) (settings : Settings) (asked : List (List ℕ)
 plain_scripts file settings asked (Accepted scripts) input = plain_running file settings asked (program_of scripts) input
 plain_scripts file settings asked (Refused e) input = refl
 
+plain_behind : (file : List ℕ) (settings : Settings) (names : List (List ℕ)) (inputs : Files) (before : Found Scripts)
+    → (run_behind file settings names inputs before).complained ≡ complaint_of (run_behind file settings names inputs before).ending
+plain_behind file settings names inputs (Refused e) = refl
+plain_behind file settings names inputs (Accepted before) =
+    plain_scripts file settings (loading before names inputs).asked (loading before names inputs).found (inputs file)
+
+plain_summary : (bytes : List ℕ) (found : Found Program) → (summing_up bytes found).complained ≡ complaint_of (summing_up bytes found).ending
+plain_summary bytes (Refused e) = refl
+plain_summary bytes (Accepted program) = plain_over (summary_report program bytes) [] (opened generated_name (Some bytes))
+
 plain_of : (asked : Result Command ℕ) (inputs : Files) → (outcome_of asked inputs).complained ≡ complaint_of (outcome_of asked inputs).ending
 plain_of (Err word) inputs = refl
 plain_of (Ok (ListItems file)) inputs = plain_over (list_report file (link_in (inputs file))) (file ∷ []) (opened file (inputs file))
 plain_of (Ok (RunScripts settings file scripts)) inputs =
-    plain_scripts file settings (loading scripts inputs).asked (loading scripts inputs).found (inputs file)
+    plain_behind file settings scripts inputs (scripts_before settings.bare)
+plain_of (Ok (Generate start count)) inputs = plain_summary (generated start count) (program_by default_scripts)
 plain_of (Ok Help) inputs = refl
 plain_of (Ok Version) inputs = refl
 

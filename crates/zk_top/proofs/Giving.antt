@@ -1,5 +1,5 @@
 -- What a run has given out so far.
-use Rattle.std.proofs.Common.{◌≡◌, ℕ, List, [], ◌∷◌, ◌++◌, map, Option, Result, Ok, Err, OnOk, OnErr, IfErr, refl, sym, ap, subst, ◌∙◌, append-nil, append_assoc, IsSome, IfSome, Some, None, ◌⊎◌, inl, inr}
+use Rattle.std.proofs.Common.{◌≡◌, ℕ, List, [], ◌∷◌, ◌++◌, Option, Result, Ok, Err, OnOk, OnErr, IfErr, refl, sym, ap, subst, ◌∙◌, append-nil, append_assoc, IsSome, IfSome, Some, None, ◌⊎◌, inl, inr}
 use Rattle.std.specs.Option.{option_map}
 use Rattle.zk_base.specs.declared.time.Moment.{Moment}
 use Rattle.zk_base.specs.Shelf.{Files, Outside, appended}
@@ -15,8 +15,8 @@ use Rattle.zk_value.specs.declared.cell.Column.{Column}
 use Rattle.zk_value.specs.declared.out.Out.TheVariants as out
 use Rattle.zk_load.specs.declared.stop.Stop.{Stop}
 use Rattle.zk_load.specs.declared.stop.Stop.TheVariants.{ReadFault, WriteFault, NoMemory}
-use Rattle.zk_load.specs.Parts.{Does, DoesAll, DoesPart, DoesWithoutFault, HasCause, IsPrefix, SameFaults}
-use Rattle.zk_load.proofs.Doing.{none_appended, does_nothing_without_fault, out_of_memory, prefix_all, prefix_none, prefix_trans, does_part_of}
+use Rattle.zk_load.specs.Parts.{Does, DoesAll, DoesPart, DoesWithoutFault, HasCause, IsPrefix}
+use Rattle.zk_load.proofs.Doing.{none_appended, out_of_memory, prefix_all, prefix_none, prefix_trans, does_part_of}
 use Rattle.zk_top.specs.declared.writer.Writer.{Writer}
 use Rattle.zk_top.specs.Line.{line_end}
 use Rattle.zk_top.specs.Listing.{HasSaid}

@@ -1,5 +1,5 @@
 -- The items of packets, one after another.
-use Rattle.std.proofs.Common.{◌≡◌, ℕ, Bool, true, false, List, [], ◌∷◌, ◌++◌, length, slice_get, Some, refl, sym, ap, subst, ◌∙◌, append-nil, append_assoc, ◌≤◌, ◌^◌, pos, ◌≤ℤ◌, arith}
+use Rattle.std.proofs.Common.{◌≡◌, ℕ, Bool, true, false, List, [], ◌∷◌, ◌++◌, length, slice_get, Some, refl, sym, ap, subst, ◌∙◌, append-nil, append_assoc, ◌^◌, pos, ◌≤ℤ◌, arith}
 use Rattle.std.proofs.lemmas.Int.{ints}
 use Rattle.zk_base.specs.declared.time.Moment.{Moment}
 use Rattle.zk_pcap.specs.Record.{IsBounded}

@@ -3,10 +3,13 @@ mod CommandLaws
 mod CompileLaws
 mod EntryLemmas
 mod Giving
+mod Taking
 mod ItemLemmas
 mod ListingLemmas
 mod OpenCapture
 mod OverCapture
+mod OverDefaults
+mod OverGenerated
 mod OverScript
 mod Playing
 mod Replaying

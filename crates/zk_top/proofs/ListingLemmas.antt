@@ -1,12 +1,12 @@
 -- How a listing goes on.
-use Rattle.std.proofs.Common.{◌≡◌, ℕ, Bool, true, false, List, [], ◌∷◌, ◌++◌, ap, ◌∙◌, append-nil}
+use Rattle.std.proofs.Common.{◌≡◌, ℕ, true, false, List, [], ◌∷◌, ◌++◌, ap, ◌∙◌, append-nil}
 use Rattle.std.proofs.lemmas.List.Concat.{flat_map-append}
 use Rattle.zk_base.specs.Shelf.{Outside}
 use Rattle.zk_pcap.specs.declared.records.Packet.{Packet}
 use Rattle.zk_load.specs.Parts.{DoesAll, IsPrefix}
 use Rattle.zk_top.specs.declared.listing.Listing.{Listing}
 use Rattle.zk_top.specs.Line.{line_of, lines_of, list_options, capture_lines}
-use Rattle.zk_top.specs.Listing.{HasListed, HasListedAll, ItemsStay}
+use Rattle.zk_top.specs.Listing.{HasListedAll, ItemsStay}
 use Rattle.zk_top.proofs.ItemLemmas.{items_begin}
 use Rattle.zk_top.proofs.Said.{said_on}
 use Rattle.zk_traffic.specs.declared.item.Item.{Item}

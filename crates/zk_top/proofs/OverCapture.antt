@@ -1,5 +1,5 @@
 -- What is done over a capture, or over none.
-use Rattle.std.proofs.Common.{◌≡◌, ◌≢◌, ℕ, ◌^◌, inl, List, [], ◌∷◌, Option, Some, None, IfSome, refl, sym, ap, subst, ◌∙◌}
+use Rattle.std.proofs.Common.{◌≡◌, ℕ, ◌^◌, inl, List, [], ◌∷◌, Option, Some, None, IfSome, refl, sym, ap, subst, ◌∙◌}
 use Rattle.std.specs.Option.{option_map}
 use Rattle.zk_base.specs.declared.endings.Ending.{Ending}
 use Rattle.zk_base.specs.declared.endings.Ending.TheVariants as ending
@@ -11,7 +11,7 @@ use Rattle.zk_pcap.specs.declared.captures.CaptureEnding.TheVariants.{Whole, Cut
 use Rattle.zk_load.specs.declared.found.Found.{Found}
 use Rattle.zk_load.specs.declared.found.Found.TheVariants.{Accepted, Refused}
 use Rattle.zk_load.specs.declared.stop.Stop.{Stop}
-use Rattle.zk_load.specs.Parts.{IsPrefix, IsRefusal, IsReadOf, DoesWithoutFault, DoesAll, DoesPart, Finds, SameAbsences}
+use Rattle.zk_load.specs.Parts.{IsPrefix, IsRefusal, IsReadOf, DoesWithoutFault, DoesAll, DoesPart, Finds}
 use Rattle.zk_load.proofs.Doing.{prefix_none, prefix_of_none, prefix_trans, without_fault_both, does_both_part}
 use Rattle.zk_logs.specs.Outputs.{files_over, OutputsBegun}
 use Rattle.zk_top.specs.Outcome.{Report, no_files, over_capture, opened, end_of_capture}

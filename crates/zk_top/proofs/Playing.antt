@@ -1,5 +1,5 @@
 -- How a program plays.
-use Rattle.std.proofs.Common.{◌≡◌, ℕ, List, [], ◌∷◌, ◌++◌, map, filter_map, refl, sym, ap, subst, ◌∙◌, append-nil, append_assoc}
+use Rattle.std.proofs.Common.{◌≡◌, ℕ, List, [], ◌∷◌, ◌++◌, map, refl, ap, subst, ◌∙◌, append-nil}
 use Rattle.std.proofs.lemmas.List.{map-append}
 use Rattle.std.proofs.lemmas.List.Concat.{flat_map-append}
 use Rattle.zk_base.specs.Shelf.{Outside}
@@ -7,11 +7,10 @@ use Rattle.zk_events.specs.Run.{Stage, New, Begun, progress_at}
 use Rattle.zk_events.specs.Laws as laws
 use Rattle.zk_logs.specs.Logs.{Row}
 use Rattle.zk_lower.specs.Told.{Told, Stays}
-use Rattle.zk_machine.specs.State.{atom_of, cell_of, column_of, line_in, row_in}
+use Rattle.zk_machine.specs.State.{atom_of, cell_of, column_of}
 use Rattle.zk_machine.specs.Standing.{with_out}
 use Rattle.zk_typed.specs.Log as log
 use Rattle.zk_typed.specs.Program.{Program}
-use Rattle.zk_typed.specs.Running.{world_in}
 use Rattle.zk_typed.specs.State.{World}
 use Rattle.zk_value.specs.declared.cell.Atom.{Atom}
 use Rattle.zk_value.specs.declared.cell.Atom.TheVariants as atom
@@ -21,15 +20,15 @@ use Rattle.zk_value.specs.declared.cell.Column.{Column}
 use Rattle.zk_value.specs.declared.out.Out.{Out}
 use Rattle.zk_value.specs.declared.out.Out.TheVariants as out
 use Rattle.zk_load.specs.declared.stop.Stop.TheVariants.{NoMemory}
-use Rattle.zk_load.specs.Parts.{IsPrefix}
 use Rattle.zk_load.proofs.Doing.{prefix_none}
 use Rattle.zk_top.specs.declared.player.Player.{Player}
 use Rattle.zk_top.specs.Line.{line_end}
 use Rattle.zk_top.specs.Logged.{dated, shown_atom, shown_cell, shown_column, shown_row}
 use Rattle.zk_top.specs.Printed.{with_line_ends}
 use Rattle.zk_top.specs.Replay.{Plays, output_at, told_at}
-use Rattle.zk_top.specs.Writing.{Output, Begins, HasGiven, GivesSome, and_out, output_of, told_by}
-use Rattle.zk_top.proofs.Giving.{given_without_memory}
+use Rattle.zk_top.specs.Sink.{Beginning, HasTaken, TakesSome}
+use Rattle.zk_top.specs.Writing.{Output, Begins, and_out, output_of, told_by}
+use Rattle.zk_top.proofs.Taking.{taken_without_memory}
 
 -- What was told ---------------------------------------------------------------------------------------------------------
 
@@ -94,15 +93,15 @@ told_more told (out.Row path columns cells at) =
 -- Playing ----------------------------------------------------------------------------------------------------------------
 
 -- what a program has given out that has given all
-pub plays_given : (first : Outside) (program : Program) (budget : ℕ) (stage : Stage) (player : Player) (now : Outside) → Plays first program budget stage player now
-    → HasGiven first (output_at program budget stage) player.writer now
-plays_given first program budget stage player now plays = subst (λ told. HasGiven first (output_of told) player.writer now) plays.all plays.gives.given
+pub plays_given : (first : Beginning) (program : Program) (budget : ℕ) (stage : Stage) (player : Player) (now : Outside) → Plays first program budget stage player now
+    → HasTaken first (output_at program budget stage) player.sink now
+plays_given first program budget stage player now plays = subst (λ told. HasTaken first (output_of told) player.sink now) plays.all plays.gives.given
 
 -- memory ran out while the engine went on
-pub memory_in_play : (first : Outside) (program : Program) (budget : ℕ) (stage later : Stage) (player : Player) (now : Outside) → Plays first program budget stage player now
-    → Begins (output_at program budget stage) (output_at program budget later) → GivesSome (output_at program budget later) first NoMemory now
+pub memory_in_play : (first : Beginning) (program : Program) (budget : ℕ) (stage later : Stage) (player : Player) (now : Outside) → Plays first program budget stage player now
+    → Begins (output_at program budget stage) (output_at program budget later) → TakesSome (output_at program budget later) first NoMemory now
 memory_in_play first program budget stage later player now plays begins =
-    given_without_memory first (output_at program budget stage) (output_at program budget later) player.writer now
+    taken_without_memory first (output_at program budget stage) (output_at program budget later) player.sink now
     (plays_given first program budget stage player now plays) begins
 
 -- nothing is given out before the beginning

@@ -1,5 +1,5 @@
 -- How a capture is replayed.
-use Rattle.std.proofs.Common.{◌≡◌, ℕ, Bool, true, false, List, [], ◌∷◌, ◌++◌, fold, Option, Result, Ok, Err, IfOk, OnOk, refl, sym, ap, subst, ◌∙◌, append-nil, append_assoc}
+use Rattle.std.proofs.Common.{◌≡◌, ℕ, Bool, true, false, List, [], ◌∷◌, ◌++◌, fold, Option, Result, Ok, Err, IfOk, OnOk, refl, sym, ap, subst, ◌∙◌}
 use Rattle.std.proofs.lemmas.List.Sums.{fold-append}
 use Rattle.zk_base.specs.declared.time.Moment.{Moment}
 use Rattle.zk_base.specs.Shelf.{Outside}
@@ -27,10 +27,14 @@ use Rattle.zk_top.specs.declared.replay.Came.TheVariants.{Through, Flooded}
 use Rattle.zk_top.specs.declared.replay.Replay.{Replay}
 use Rattle.zk_top.specs.Logged.{dated, end_time}
 use Rattle.zk_top.specs.Reading.{IsCapture, IsReading, IsReadThrough, SameInput}
-use Rattle.zk_top.specs.Replay.{After, Comes, HasFlooded, HasPlayed, HasRun, IsOver, IsRead, IsThrough, Plan, Plays, Replays, ReplaysPart, StopsOver, came_of, files_of, items_in, output_at, output_over, progress_over, time_of}
-use Rattle.zk_top.specs.Writing.{Output, Begins, HasGiven, GivesAll, GivesPart, GivesSome, output_of, told_by}
+use Rattle.zk_top.specs.declared.summary.RowCounts.{RowCounts}
+use Rattle.zk_top.specs.Summary.{counts_of}
+use Rattle.zk_top.specs.Replay.{After, Comes, Counts, HasFlooded, HasPlayed, HasRun, IsOver, IsRead, IsThrough, Plan, Plays, Replays, ReplaysPart, StopsOver, came_of, files_of, items_in, output_at, output_over, progress_over, time_of}
+use Rattle.zk_top.specs.Sink.{Beginning, HasTaken, TakesSome}
+use Rattle.zk_top.specs.Writing.{Output, Begins, GivesAll, GivesPart, output_of, told_by}
 use Rattle.zk_top.proofs.CaptureReading.{read_capture, reading_on}
-use Rattle.zk_top.proofs.Giving.{given_on, some_further, begun_to_end}
+use Rattle.zk_top.proofs.Giving.{some_further, begun_to_end}
+use Rattle.zk_top.proofs.Taking.{taken_on}
 use Rattle.zk_top.proofs.ItemLemmas.{no_items}
 use Rattle.zk_top.proofs.Playing.{stays_begins, plays_given}
 
@@ -50,15 +54,15 @@ given_to_end keep program budget items all last prefix =
     subst (λ xs. Begins (output_at program budget (Begun items)) (output_at program budget (Ended xs last))) (sym prefix.joined)
     (stays_begins (world_in (progress_at program budget (Begun items))) (world_in (progress_at program budget (Ended (items ++ prefix.rest) last))) (keep program budget items prefix.rest last))
 
-pub part_further : ItemsKeep → (program : Program) (budget : ℕ) (items all : List Item) (first : Outside) (stop : Stop) (new : Outside) → IsPrefix items all
-    → GivesSome (output_at program budget (Begun items)) first stop new → GivesSome (output_at program budget (Begun all)) first stop new
+pub part_further : ItemsKeep → (program : Program) (budget : ℕ) (items all : List Item) (first : Beginning) (stop : Stop) (new : Outside) → IsPrefix items all
+    → TakesSome (output_at program budget (Begun items)) first stop new → TakesSome (output_at program budget (Begun all)) first stop new
 part_further keep program budget items all first stop new prefix part =
-    some_further first (output_at program budget (Begun items)) (output_at program budget (Begun all)) stop new (given_further keep program budget items all prefix) part
+    some_further first.outside (output_at program budget (Begun items)) (output_at program budget (Begun all)) stop new (given_further keep program budget items all prefix) part
 
-pub part_to_end : EndKeeps → (program : Program) (budget : ℕ) (items all : List Item) (last : Moment) (first : Outside) (stop : Stop) (new : Outside) → IsPrefix items all
-    → GivesSome (output_at program budget (Begun items)) first stop new → GivesSome (output_at program budget (Ended all last)) first stop new
+pub part_to_end : EndKeeps → (program : Program) (budget : ℕ) (items all : List Item) (last : Moment) (first : Beginning) (stop : Stop) (new : Outside) → IsPrefix items all
+    → TakesSome (output_at program budget (Begun items)) first stop new → TakesSome (output_at program budget (Ended all last)) first stop new
 part_to_end keep program budget items all last first stop new prefix part =
-    some_further first (output_at program budget (Begun items)) (output_at program budget (Ended all last)) stop new (given_to_end keep program budget items all last prefix) part
+    some_further first.outside (output_at program budget (Begun items)) (output_at program budget (Ended all last)) stop new (given_to_end keep program budget items all last prefix) part
 
 -- Ends -------------------------------------------------------------------------------------------------------------
 
@@ -99,7 +103,7 @@ flood_lasts program budget far world (item ∷ items) is =
     stays (Floods before) same = same
 
 -- the run that came to a flood is over
-pub flood_over : (first : Outside) (plan : Plan) (packets : List Packet) (moment last : Moment) (replay : Replay) (now : Outside) → HasFlooded first plan packets true moment replay now
+pub flood_over : (first : Beginning) (plan : Plan) (packets : List Packet) (moment last : Moment) (replay : Replay) (now : Outside) → HasFlooded first plan packets true moment replay now
     → IsOver first plan packets last (Flooded moment) replay now
 flood_over first plan packets moment last replay now far =
     let program : Program = plan.program in
@@ -112,14 +116,14 @@ flood_over first plan packets moment last replay now far =
     let time : moment ≡ world.time = let is_it : Flood moment ≡ Flood world.time = far.floods ∙ ap end_of is in cc in
     record {
       ends = ap Flooded time ∙ ap (came_of last) (sym whole);
-      gives = subst (λ progress. HasGiven first (output_of (told_by (world_in progress))) replay.player.writer now) (is ∙ sym whole) far.gives;
+      gives = subst (λ progress. HasTaken first (output_of (told_by (world_in progress))) replay.player.sink now) (is ∙ sym whole) far.gives;
     }
   where
     ended : (program : Program) (budget : ℕ) (items : List Item) (last : Moment) (world : World) → (so_far program budget items).progress ≡ Floods world → run program budget items last ≡ Floods world
     ended program budget items last world is = rw is refl
 
 -- a flood over the first items of more
-pub flood_further : (first : Outside) (plan : Plan) (packets all : List Packet) (ended more : Bool) (moment : Moment) (replay : Replay) (now : Outside)
+pub flood_further : (first : Beginning) (plan : Plan) (packets all : List Packet) (ended more : Bool) (moment : Moment) (replay : Replay) (now : Outside)
     → HasFlooded first plan packets ended moment replay now → IsPrefix (items_in plan packets ended) (items_in plan all more) → HasFlooded first plan all more moment replay now
 flood_further first plan packets all ended more moment replay now far prefix = record {
   given = far.given;
@@ -130,7 +134,7 @@ flood_further first plan packets all ended more moment replay now far prefix = r
 
 -- Playing on -------------------------------------------------------------------------------------------------------
 
-pub plays_on : (first : Outside) (plan : Plan) (packets : List Packet) (given : List Item) (ended : Bool) (stage : Stage) (replay : Replay) (old new : Outside)
+pub plays_on : (first : Beginning) (plan : Plan) (packets : List Packet) (given : List Item) (ended : Bool) (stage : Stage) (replay : Replay) (old new : Outside)
     → Comes first plan packets given ended stage replay old → DoesAll [] [] [] old new → Comes first plan packets given ended stage replay new
 plays_on first plan packets given ended stage replay old new comes does = record {
   traffic = comes.traffic;
@@ -139,21 +143,21 @@ plays_on first plan packets given ended stage replay old new comes does = record
     told = comes.plays.told;
     gives = record {
       engine = comes.plays.gives.engine;
-      given = given_on first (output_of comes.plays.told) replay.player.writer old new comes.plays.gives.given does;
+      given = taken_on first (output_of comes.plays.told) replay.player.sink old new comes.plays.gives.given does;
     };
     all = comes.plays.all;
   };
 }
 
 -- what has been given out of a replay
-pub comes_given : (first : Outside) (plan : Plan) (packets : List Packet) (given : List Item) (ended : Bool) (replay : Replay) (now : Outside) → Comes first plan packets given ended (Begun given) replay now
-    → HasGiven first (output_at plan.program plan.budget (Begun given)) replay.player.writer now
+pub comes_given : (first : Beginning) (plan : Plan) (packets : List Packet) (given : List Item) (ended : Bool) (replay : Replay) (now : Outside) → Comes first plan packets given ended (Begun given) replay now
+    → HasTaken first (output_at plan.program plan.budget (Begun given)) replay.player.sink now
 comes_given first plan packets given ended replay now comes = plays_given first plan.program plan.budget (Begun given) replay.player now comes.plays
 
 -- Steps of a replay ------------------------------------------------------------------------------------------------
 
 -- a part of the run ended so: the items so far were played, or there was a flood
-pub after_end : (first : Outside) (plan : Plan) (packets : List Packet) (ended : Bool) (end : ItemEnd) (replay : Replay) (now : Outside)
+pub after_end : (first : Beginning) (plan : Plan) (packets : List Packet) (ended : Bool) (end : ItemEnd) (replay : Replay) (now : Outside)
     → Comes first plan packets (items_in plan packets ended) ended (Begun (items_in plan packets ended)) replay now
     → end ≡ end_of (progress_at plan.program plan.budget (Begun (items_in plan packets ended))) → After first plan packets ended end replay now
 after_end first plan packets ended Done replay now comes is = comes
@@ -166,9 +170,9 @@ after_end first plan packets ended (Flood moment) replay now comes is = record {
 
 -- the run has begun
 pub begun_after : (result : Result ItemEnd Stop) (replay : Replay) (player : Player) (old new : Outside)
-    → IfOk result (λ end. (first : Outside) (program : Program) (budget : ℕ) → Plays first program budget New replay.player old → end ≡ end_of (progress_at program budget (Begun [])))
-    → OnOk result ((first : Outside) (program : Program) (budget : ℕ) → Plays first program budget New replay.player old → Plays first program budget (Begun []) player new)
-    → IfOk result (λ end. (first : Outside) (plan : Plan) → Comes first plan [] [] false New replay old → After first plan [] false end (record replay { player = player }) new)
+    → IfOk result (λ end. (first : Beginning) (program : Program) (budget : ℕ) → Plays first program budget New replay.player old → end ≡ end_of (progress_at program budget (Begun [])))
+    → OnOk result ((first : Beginning) (program : Program) (budget : ℕ) → Plays first program budget New replay.player old → Plays first program budget (Begun []) player new)
+    → IfOk result (λ end. (first : Beginning) (plan : Plan) → Comes first plan [] [] false New replay old → After first plan [] false end (record replay { player = player }) new)
 begun_after (Err stop) replay player old new ends plays = tt
 begun_after (Ok end) replay player old new ends plays = λ first plan comes.
     let program : Program = plan.program in
@@ -181,7 +185,7 @@ begun_after (Ok end) replay player old new ends plays = λ first plan comes.
     (ends first program budget comes.plays ∙ ap (λ items. end_of (progress_at program budget (Begun items))) (sym none))
 
 -- the run was ended
-pub finished_over : (first : Outside) (plan : Plan) (packets : List Packet) (last : Moment) (end : ItemEnd) (came : Came) (replay : Replay) (now : Outside)
+pub finished_over : (first : Beginning) (plan : Plan) (packets : List Packet) (last : Moment) (end : ItemEnd) (came : Came) (replay : Replay) (now : Outside)
     → Plays first plan.program plan.budget (Ended (items_in plan packets true) last) replay.player now
     → end ≡ end_of (run plan.program plan.budget (items_in plan packets true) last) → came ≡ came_by last end → IsOver first plan packets last came replay now
 finished_over first plan packets last end came replay now plays ends is = record {
@@ -204,7 +208,7 @@ read_to_end (Through last) whole header bytes packets reader now reading through
 read_to_end (Flooded moment) whole header bytes packets reader now reading through = tt
 
 -- the capture was read to its end, and the run ended
-pub run_through : (first : Outside) (plan : Plan) (whole : Option (List ℕ)) (header : Header) (last : Moment) (before after : Replay) (reader : CaptureReader) (mid : Outside) (came : Came) (new : Outside)
+pub run_through : (first : Beginning) (plan : Plan) (whole : Option (List ℕ)) (header : Header) (last : Moment) (before after : Replay) (reader : CaptureReader) (mid : Outside) (came : Came) (new : Outside)
     → IsThrough first plan whole header last before reader mid → ((packets : List Packet) → HasPlayed first plan packets false before mid → IsOver first plan packets last came after new)
     → SameInput mid new → HasRun first plan whole header came after reader new
 run_through first plan whole header last before after reader mid came new far over same = record {
@@ -221,15 +225,15 @@ no_flood Done none = refl
 no_flood (Flood moment) none = absurd (none moment refl)
 
 pub run_finished : (result : Result Came Stop) (before after : Replay) (reader : CaptureReader) (last : Moment) (mid new : Outside)
-    → IfOk result (λ came. (first : Outside) (plan : Plan) (packets : List Packet) → HasPlayed first plan packets false before mid → IsOver first plan packets last came after new)
+    → IfOk result (λ came. (first : Beginning) (plan : Plan) (packets : List Packet) → HasPlayed first plan packets false before mid → IsOver first plan packets last came after new)
     → OnOk result (SameInput mid new)
-    → IfOk result (λ came. (first : Outside) (plan : Plan) (whole : Option (List ℕ)) (header : Header) → IsThrough first plan whole header last before reader mid → HasRun first plan whole header came after reader new)
+    → IfOk result (λ came. (first : Beginning) (plan : Plan) (whole : Option (List ℕ)) (header : Header) → IsThrough first plan whole header last before reader mid → HasRun first plan whole header came after reader new)
 run_finished (Err stop) before after reader last mid new over same = tt
 run_finished (Ok came) before after reader last mid new over same = λ first plan whole header far.
     run_through first plan whole header last before after reader mid came new far (over first plan) same
 
 -- the run was ended by a flood
-pub flooded_run : (first : Outside) (plan : Plan) (whole : Option (List ℕ)) (header : Header) (packets : List Packet) (ending : CaptureEnding) (moment : Moment) (replay : Replay) (reader : CaptureReader) (now : Outside)
+pub flooded_run : (first : Beginning) (plan : Plan) (whole : Option (List ℕ)) (header : Header) (packets : List Packet) (ending : CaptureEnding) (moment : Moment) (replay : Replay) (reader : CaptureReader) (now : Outside)
     → IsCapture whole packets ending → HasFlooded first plan packets true moment replay now → HasRun first plan whole header (Flooded moment) replay reader now
 flooded_run first plan whole header packets ending moment replay reader now all far = record {
   packets = packets;
@@ -240,15 +244,15 @@ flooded_run first plan whole header packets ending moment replay reader now all 
 }
 
 -- stopped at the end of the run
-pub part_through : (first : Outside) (plan : Plan) (whole : Option (List ℕ)) (header : Header) (last : Moment) (replay : Replay) (reader : CaptureReader) (mid : Outside) (stop : Stop) (new : Outside)
+pub part_through : (first : Beginning) (plan : Plan) (whole : Option (List ℕ)) (header : Header) (last : Moment) (replay : Replay) (reader : CaptureReader) (mid : Outside) (stop : Stop) (new : Outside)
     → IsThrough first plan whole header last replay reader mid
-    → ((packets : List Packet) → HasPlayed first plan packets false replay mid → GivesSome (output_of (told_by (world_in (run plan.program plan.budget (items_in plan packets true) last)))) first stop new)
+    → ((packets : List Packet) → HasPlayed first plan packets false replay mid → TakesSome (output_of (told_by (world_in (run plan.program plan.budget (items_in plan packets true) last)))) first stop new)
     → StopsOver whole plan first stop new
 part_through first plan whole header last replay reader mid stop new far stopped = record {
   packets = far.packets;
   ending = _;
   all = read_capture whole header far.bytes far.packets reader mid far.reading far.through;
-  there = subst (λ t. GivesSome (output_of (told_by (world_in (run plan.program plan.budget (items_in plan far.packets true) t)))) first stop new) far.last_is (stopped far.packets far.played);
+  there = subst (λ t. TakesSome (output_of (told_by (world_in (run plan.program plan.budget (items_in plan far.packets true) t)))) first stop new) far.last_is (stopped far.packets far.played);
 }
 
 -- The logs are closed --------------------------------------------------------------------------------------------------
@@ -260,39 +264,53 @@ closed_files plan packets came is =
     ap (λ end. log_files (output_over plan packets).rows (dated end)) (came_when (network_time packets) came (progress_over plan packets) is)
 
 -- all was said and written
-pub replayed_all : (first : Outside) (plan : Plan) (whole : Option (List ℕ)) (header : Header) (came : Came) (replay : Replay) (reader : CaptureReader) (mid new : Outside)
+pub replayed_all : (first : Beginning) (plan : Plan) (whole : Option (List ℕ)) (header : Header) (came : Came) (replay : Replay) (reader : CaptureReader) (mid new : Outside)
     → HasRun first plan whole header came replay reader mid
-    → ((output : Output) → HasGiven first output replay.player.writer mid → GivesAll output.text (log_files output.rows (dated (time_of came))) first new) → SameInput mid new
-    → Replays plan whole header first came reader new
+    → ((output : Output) → HasTaken first output replay.player.sink mid → GivesAll output.text (log_files output.rows (dated (time_of came))) first.outside new) → SameInput mid new
+    → Replays plan whole header first.outside came reader new
 replayed_all first plan whole header came replay reader mid new ran closes same = record {
   packets = ran.packets;
   ending = ran.ending;
   all = ran.all;
   ends = ran.over.ends;
-  gives = subst (λ files. GivesAll (output_over plan ran.packets).text files first new) (closed_files plan ran.packets came ran.over.ends) (closes (output_over plan ran.packets) ran.over.gives);
+  gives = subst (λ files. GivesAll (output_over plan ran.packets).text files first.outside new) (closed_files plan ran.packets came ran.over.ends) (closes (output_over plan ran.packets) ran.over.gives);
   read = read_on came whole header ran.packets reader mid new same ran.read;
 }
 
 -- stopped while the logs were closed
-pub replayed_part : (first : Outside) (plan : Plan) (whole : Option (List ℕ)) (header : Header) (came : Came) (replay : Replay) (reader : CaptureReader) (mid : Outside) (stop : Stop) (new : Outside)
+pub replayed_part : (first : Beginning) (plan : Plan) (whole : Option (List ℕ)) (header : Header) (came : Came) (replay : Replay) (reader : CaptureReader) (mid : Outside) (stop : Stop) (new : Outside)
     → HasRun first plan whole header came replay reader mid
-    → ((output : Output) → HasGiven first output replay.player.writer mid → GivesPart output.text (log_files output.rows (dated (time_of came))) first stop new)
-    → ReplaysPart whole plan first stop new
+    → ((output : Output) → HasTaken first output replay.player.sink mid → GivesPart output.text (log_files output.rows (dated (time_of came))) first.outside stop new)
+    → ReplaysPart whole plan first.outside stop new
 replayed_part first plan whole header came replay reader mid stop new ran closes = record {
   packets = ran.packets;
   ending = ran.ending;
   all = ran.all;
-  there = subst (λ files. GivesPart (output_over plan ran.packets).text files first stop new) (closed_files plan ran.packets came ran.over.ends) (closes (output_over plan ran.packets) ran.over.gives);
+  there = subst (λ files. GivesPart (output_over plan ran.packets).text files first.outside stop new) (closed_files plan ran.packets came ran.over.ends) (closes (output_over plan ran.packets) ran.over.gives);
 }
 
 -- stopped before
-pub some_replayed : (whole : Option (List ℕ)) (plan : Plan) (first : Outside) (stop : Stop) (new : Outside) → StopsOver whole plan first stop new → ReplaysPart whole plan first stop new
+pub some_replayed : (whole : Option (List ℕ)) (plan : Plan) (first : Beginning) (stop : Stop) (new : Outside) → StopsOver whole plan first stop new → ReplaysPart whole plan first.outside stop new
 some_replayed whole plan first stop new some = record {
   packets = some.packets;
   ending = some.ending;
   all = some.all;
   there = record {
     says = some.there.says;
-    begun = begun_to_end (output_over plan some.packets).rows first.outputs new.outputs _ some.there.begun;
+    begun = begun_to_end (output_over plan some.packets).rows first.outside.outputs new.outputs _ some.there.begun;
   };
+}
+
+-- Or rows were counted -------------------------------------------------------------------------------------------------
+
+pub counted_all : (first : Beginning) (plan : Plan) (whole : Option (List ℕ)) (header : Header) (came : Came) (replay : Replay) (reader : CaptureReader) (now : Outside) (rows : RowCounts)
+    → HasRun first plan whole header came replay reader now → ((output : Output) → HasTaken first output replay.player.sink now → rows ≡ counts_of output.rows)
+    → Counts plan whole header came rows reader now
+counted_all first plan whole header came replay reader now rows ran counts = record {
+  packets = ran.packets;
+  ending = ran.ending;
+  all = ran.all;
+  ends = ran.over.ends;
+  rows_are = counts (output_over plan ran.packets) ran.over.gives;
+  read = ran.read;
 }

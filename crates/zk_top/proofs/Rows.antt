@@ -3,7 +3,7 @@ use Rattle.std.proofs.Common.{◌≡◌, ℕ, List, [], ◌∷◌, ◌++◌, cod
 use Rattle.std.specs.Str.{bytes_eq}
 use Rattle.std.specs.Fmt.{digits}
 use Rattle.zk_base.specs.declared.endings.Ending.TheVariants.{Done, Usage, ScriptRefused, NoInput, CaptureRefused, CutShort}
-use Rattle.zk_base.specs.declared.endings.ScriptKind.TheVariants.{BadByte, OpenString, NoTree}
+use Rattle.zk_base.specs.declared.endings.ScriptKind.TheVariants.{BadByte}
 use Rattle.zk_base.specs.declared.network.Side.{Side}
 use Rattle.zk_base.specs.declared.network.Side.TheVariants.{Orig, Resp}
 use Rattle.zk_base.specs.declared.numbers.ConnNo.{ConnNo}
@@ -16,8 +16,6 @@ use Rattle.zk_http.specs.declared.units.UnitKind.{UnitKind}
 use Rattle.zk_http.specs.declared.units.UnitKind.TheVariants as unit
 use Rattle.zk_text.specs.Span.{span_decimal}
 use Rattle.zk_load.specs.Loading.{load_from, loading}
-use Rattle.zk_tree.specs.Opening.{trees}
-use Rattle.zk_parse.specs.Opening.{reading}
 use Rattle.zk_top.specs.Line.{line_of}
 use Rattle.zk_top.specs.Outcome.{outcome}
 use Rattle.zk_traffic.specs.declared.item.What.{What}
@@ -125,26 +123,10 @@ two capture script name = if bytes_eq name (codes "s.zeek") then Some script els
 run : List (List ℕ)
 run = codes "run" ∷ codes "-b" ∷ codes "-r" ∷ codes "c.pcap" ∷ codes "s.zeek" ∷ []
 
-a_declaration_that_does_not_read_is_refused : (outcome run (two header (codes "event zeek_init() { print 1; } if"))).ending ≡ ScriptRefused (codes "s.zeek") 31 NoTree
-unfolding reading trees loading load_from one two run header
-a_declaration_that_does_not_read_is_refused = refl
-
-a_refused_script_is_complained_of : (outcome run (two header (codes "print 1;"))).complained ≡ codes "zeekoff: s.zeek, byte 0: NoTree\n"
-unfolding reading trees loading load_from one two run header digits
-a_refused_script_is_complained_of = refl
-
-a_refused_script_asks_for_no_capture : (outcome run (two header (codes "print 1;"))).asked ≡ codes "s.zeek" ∷ []
-unfolding reading trees loading load_from one two run header
-a_refused_script_asks_for_no_capture = refl
-
 -- Tokens are judged before the tree.
 a_bad_byte_is_refused_at_its_place : (outcome run (two header (codes "print 1; ~"))).ending ≡ ScriptRefused (codes "s.zeek") 9 BadByte
 unfolding loading load_from one two run header
 a_bad_byte_is_refused_at_its_place = refl
-
-a_string_that_is_not_closed_is_refused_at_its_quote : (outcome run (two header (codes "global x = \"a"))).ending ≡ ScriptRefused (codes "s.zeek") 11 OpenString
-unfolding loading load_from one two run header
-a_string_that_is_not_closed_is_refused_at_its_quote = refl
 
 a_great_number_is_complained_of : (outcome run (two header (codes "print 18446744073709551616;"))).complained ≡ codes "zeekoff: s.zeek, byte 6: BigNumber\n"
 unfolding loading load_from one two run header digits

@@ -1,13 +1,11 @@
 -- From what a replay does to what a run reports.
-use Rattle.std.proofs.Common.{◌≡◌, ℕ, Bool, List, Option, Some, refl, sym, ap, ◌∙◌}
-use Rattle.zk_base.specs.declared.endings.Ending.{Ending}
+use Rattle.std.proofs.Common.{◌≡◌, ℕ, Bool, List, Some, refl, sym, ap, ◌∙◌}
 use Rattle.zk_base.specs.declared.endings.Ending.TheVariants as ending
 use Rattle.zk_base.specs.declared.time.Moment.{Moment}
 use Rattle.zk_base.specs.Shelf.{Files, Outside}
 use Rattle.zk_pcap.specs.declared.captures.CaptureEnding.{CaptureEnding}
 use Rattle.zk_pcap.specs.declared.records.Packet.{Packet}
 use Rattle.zk_pcap.specs.NetworkTime.{now as network_time}
-use Rattle.zk_typed.specs.Predefined.{packet_seen}
 use Rattle.zk_typed.specs.Program.{Program}
 use Rattle.zk_typed.specs.Running.{Progress, Goes, Floods, world_in}
 use Rattle.zk_top.specs.declared.capture.CaptureReader.{CaptureReader}
@@ -17,7 +15,7 @@ use Rattle.zk_top.specs.Compiling.{Runs}
 use Rattle.zk_top.specs.Outcome.{end_of_capture, end_of_run, link_in, run_report}
 use Rattle.zk_top.specs.declared.replay.Came.TheVariants.{Through, Flooded}
 use Rattle.zk_top.specs.Logged.{files_of_run}
-use Rattle.zk_top.specs.Printed.{handles, progress_of, with_line_ends}
+use Rattle.zk_top.specs.Printed.{progress_of, with_line_ends}
 use Rattle.zk_top.specs.Reading.{OpensCapture}
 use Rattle.zk_top.specs.Replay.{Plan, came_of, files_of, output_over, progress_over}
 use Rattle.zk_top.proofs.OpenCapture.{opened_link}

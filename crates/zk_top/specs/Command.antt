@@ -1,5 +1,5 @@
 -- The command line: which words are a command, and which word is the first that isn't understood.
-use Rattle.std.specs.Prelude.{◌≡◌, ℕ, ◌+◌, ◌-◌, ◌*◌, ◌<◌, nat_le, take, is_ok, IsTrue, Bool, true, false, not, ◌&&◌, ◌==◌, List, [], ◌∷◌, drop, length, slice_get, codes, Option, Some, None, Result, Ok, Err, if◌then◌else◌}
+use Rattle.std.specs.Prelude.{◌≡◌, ℕ, ◌+◌, ◌-◌, ◌*◌, ◌<◌, ◌≤◌, nat_le, take, is_ok, IsTrue, Bool, true, false, not, ◌&&◌, ◌==◌, List, [], ◌∷◌, drop, length, slice_get, codes, Option, Some, None, Result, Ok, Err, if◌then◌else◌}
 use Rattle.std.specs.Char.{is_ascii_digit}
 use Rattle.std.specs.Option.{is_some, is_none, option_map, option_map_or}
 use Rattle.std.specs.Str.{bytes_eq}
@@ -17,6 +17,8 @@ pub data Command : Type 0 where
   ListItems : (file : List ℕ) → Command
   -- run scripts over a capture
   RunScripts : (settings : Settings) (file : List ℕ) (scripts : List (List ℕ)) → Command
+  -- run the default scripts over a capture that is made by rule, of so many conversations
+  Generate : (start count : ℕ) → Command
   -- say what commands there are
   Help : Command
   -- say the name and the version
@@ -45,6 +47,16 @@ budget_max = 1_000_000_000
 
 abbrev pub buffer_max : ℕ
 buffer_max = 67_108_864
+
+-- the number from 0 to a limit that a word spells in decimal digits, the first of which is 0 in 0 alone
+abbrev pub number_to : ℕ → List ℕ → Option ℕ
+number_to most word = if bytes_eq word (codes "0") then Some 0 else number_in most word
+
+abbrev pub start_max : ℕ
+start_max = 4_294_967_295
+
+abbrev pub count_max : ℕ
+count_max = 100_000
 
 -- Words, one after another ------------------------------------------------------------------------------------
 
@@ -94,6 +106,7 @@ abbrev pub verb : List ℕ → Option Standing
 verb word =
     if bytes_eq word (codes "list") then Some standing.List
     else if bytes_eq word (codes "run") then Some (standing.Run no_options)
+    else if bytes_eq word (codes "gen") then Some standing.Generate
     else if bytes_eq word (codes "--help") then Some standing.Help
     else if bytes_eq word (codes "--version") then Some standing.Version
     else None
@@ -104,6 +117,9 @@ step standing.Nothing number word = verb word
 step standing.List number word = if is_file_name word then Some standing.Listed else None
 step standing.Listed number word = None
 step (standing.Run run) number word = option_map standing.Run (run_on run number word)
+step standing.Generate number word = option_map standing.GenerateFrom (number_to start_max word)
+step (standing.GenerateFrom start) number word = option_map (standing.Generated start) (number_to count_max word)
+step (standing.Generated start count) number word = None
 step standing.Help number word = None
 step standing.Version number word = None
 
@@ -146,16 +162,14 @@ command_of words standing.Nothing = None
 command_of words standing.List = None
 command_of words standing.Listed = option_map ListItems (slice_get words 1)
 command_of words (standing.Run run) = run_of words run run.file
+command_of words standing.Generate = None
+command_of words (standing.GenerateFrom start) = None
+command_of words (standing.Generated start count) = Some (Generate start count)
 command_of words standing.Help = Some Help
 command_of words standing.Version = Some Version
 
--- Until the default scripts are loaded a run has to leave them out.
-abbrev pub is_carried_out : Command → Bool
-is_carried_out (RunScripts settings file scripts) = settings.bare
-is_carried_out other = true
-
 abbrev pub command_or : Option Command → ℕ → Result Command ℕ
-command_or (Some command) number = if is_carried_out command then Ok command else Err number
+command_or (Some command) number = Ok command
 command_or None number = Err number
 
 abbrev pub judged : List (List ℕ) → Result Standing ℕ → Result Command ℕ
@@ -167,10 +181,19 @@ judged words (Ok all) = command_or (command_of words all) (length words)
 abbrev pub understand : List (List ℕ) → Result Command ℕ
 understand words = judged words (stand_from standing.Nothing 0 words)
 
+-- no word spells a greater number of conversations
+abbrev pub IsUnderstood : Command → Type 0
+IsUnderstood (ListItems file) = Unit {0}
+IsUnderstood (RunScripts settings file scripts) = Unit {0}
+IsUnderstood (Generate start count) = count ≤ count_max
+IsUnderstood Help = Unit {0}
+IsUnderstood Version = Unit {0}
+
 -- the command that the code has read
 abbrev pub command_seen : code.Command → Command
 command_seen (variants.List file) = ListItems file.now
 command_seen (variants.Run settings file scripts) = RunScripts settings file.now scripts.now
+command_seen (variants.Generate start count) = Generate start count
 command_seen variants.Help = Help
 command_seen variants.Version = Version
 
@@ -180,7 +203,7 @@ command_seen variants.Version = Version
 abbrev pub begins : List (List ℕ) → Bool
 begins words = is_ok (stand_from standing.Nothing 0 words)
 
--- the words are a whole command, whether or not it is carried out yet
+-- the words are a whole command
 abbrev pub is_whole_at : List (List ℕ) → Result Standing ℕ → Bool
 is_whole_at words (Err number) = false
 is_whole_at words (Ok all) = is_some (command_of words all)

@@ -34,10 +34,10 @@ abbrev pub program_by : Found Scripts → Found Program
 program_by (Accepted scripts) = program_of scripts
 program_by (Refused ending) = Refused ending
 
--- The scripts of these names were read, and the code of their program is found, or the run ends so.
-pub record FindsCode (names : List (List ℕ)) (old : Outside) (found : Found Runnable) (new : Outside) : Type 0 where
+-- Behind some scripts those of these names were read, and the code of their program is found, or the run ends so.
+pub record FindsCode (before : Scripts) (names : List (List ℕ)) (old : Outside) (found : Found Runnable) (new : Outside) : Type 0 where
   pub scripts : Found Scripts
-  pub loads : LoadsAll names old scripts new
+  pub loads : LoadsAll before names old scripts new
   pub code : IsCodeOf found (program_by scripts)
 
 -- where and why scripts are refused, unless memory ran out

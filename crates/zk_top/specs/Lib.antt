@@ -12,4 +12,7 @@ pub mod Parts
 pub mod Reading
 pub mod Listing
 pub mod Writing
+pub mod Summary
+pub mod Sink
+pub mod Generated
 pub mod Replay

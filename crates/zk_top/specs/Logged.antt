@@ -1,11 +1,10 @@
 -- What a run gives out: text on standard output, and rows for its log files (Zeek manual, Logging Framework).
-use Rattle.std.specs.Prelude.{ℕ, List, map, pos, int_lt, if◌then◌else◌}
+use Rattle.std.specs.Prelude.{map, pos, int_lt, if◌then◌else◌}
 use Rattle.zk_base.specs.declared.time.Moment.{Moment}
 use Rattle.zk_base.specs.Shelf.{Files}
 use Rattle.zk_logs.specs.Logs.{Row, log_files}
 use Rattle.zk_typed.specs.Log as log
 use Rattle.zk_typed.specs.Running.{Progress, Goes, Floods, world_in}
-use Rattle.zk_typed.specs.State.{World}
 use Rattle.zk_value.specs.declared.cell.Atom.{Atom}
 use Rattle.zk_value.specs.declared.cell.Atom.TheVariants as atom
 use Rattle.zk_value.specs.declared.cell.Cell.{Cell}

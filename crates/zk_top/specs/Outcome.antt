@@ -1,7 +1,7 @@
 -- What a run of the program comes to, by its words and its inputs.
-use Rattle.std.specs.Prelude.{ℕ, List, [], ◌∷◌, ◌++◌, Option, Some, None, Result, Ok, Err}
+use Rattle.std.specs.Prelude.{ℕ, List, [], ◌∷◌, ◌++◌, codes, length, Option, Some, None, Result, Ok, Err}
 use Rattle.zk_base.specs.declared.endings.Ending.{Ending}
-use Rattle.zk_base.specs.declared.endings.Ending.TheVariants.{Done, Usage, ScriptRefused, NoInput, CaptureRefused, CutShort, Flood}
+use Rattle.zk_base.specs.declared.endings.Ending.TheVariants.{Done, Usage, NoInput, CaptureRefused, CutShort, Flood}
 use Rattle.zk_base.specs.Shelf.{Files}
 use Rattle.zk_pcap.specs.declared.captures.Capture.{Capture}
 use Rattle.zk_pcap.specs.declared.captures.CaptureEnding.{CaptureEnding}
@@ -16,13 +16,16 @@ use Rattle.zk_typed.specs.Running.{Progress, Goes, Floods}
 use Rattle.zk_load.specs.declared.found.Found.{Found}
 use Rattle.zk_load.specs.declared.found.Found.TheVariants.{Accepted, Refused}
 use Rattle.zk_top.specs.About.{help_text, version_text}
-use Rattle.zk_top.specs.Command.{Command, ListItems, RunScripts, Help, Version, understand}
+use Rattle.zk_gen.specs.Capture as gen
+use Rattle.zk_top.specs.Command.{Command, ListItems, RunScripts, Generate, Help, Version, no_options, settings_of, understand}
+use Rattle.zk_top.specs.Compiling.{program_by}
 use Rattle.zk_top.specs.Complaint.{complaint_of}
 use Rattle.zk_top.specs.Line.{capture_lines}
 use Rattle.zk_top.specs.Printed.{logged, progress_of, printed}
-use Rattle.zk_load.specs.Loading.{Loading, Scripts, loading}
+use Rattle.zk_load.specs.Loading.{Scripts, loading}
 use Rattle.zk_top.specs.declared.command.Settings.{Settings}
-use Rattle.zk_top.specs.Script.{program_of}
+use Rattle.zk_top.specs.Script.{default_scripts, program_of, scripts_before}
+use Rattle.zk_top.specs.Summary.{summary_of}
 
 pub record Outcome : Type 0 where
   -- how it ends
@@ -123,15 +126,44 @@ abbrev pub run_of : List ℕ → Settings → List (List ℕ) → Found Scripts 
 run_of file settings asked (Refused ending) input = ending_so ending [] asked
 run_of file settings asked (Accepted scripts) input = running file settings asked (program_of scripts) input
 
+-- a run of the scripts of these names behind those that are read before, or how it ends where one of these is refused
+abbrev pub run_behind : List ℕ → Settings → List (List ℕ) → Files → Found Scripts → Outcome
+run_behind file settings names inputs (Refused ending) = ending_so ending [] []
+run_behind file settings names inputs (Accepted before) = run_of file settings (loading before names inputs).asked (loading before names inputs).found (inputs file)
+
 -- A run of the scripts of these names. The capture is asked for once they are read and checked.
 abbrev pub run_scripts : List ℕ → Settings → List (List ℕ) → Files → Outcome
-run_scripts file settings names inputs = run_of file settings (loading names inputs).asked (loading names inputs).found (inputs file)
+run_scripts file settings names inputs = run_behind file settings names inputs (scripts_before settings.bare)
+
+-- the bytes of a generated capture
+unfoldable pub generated : ℕ → ℕ → List ℕ
+generated start count = gen.capture_of start count
+
+-- the name of a capture that lies in no file
+abbrev pub generated_name : List ℕ
+generated_name = codes "the generated capture"
+
+-- what a run of a program reports over a capture with these bytes: a summary in place of its output
+abbrev pub summary_report : Program → List ℕ → Capture → Report
+summary_report program bytes capture =
+    let progress = progress_of (settings_of no_options) program (link_in (Some bytes)) capture.packets in
+    record { ending = end_of_run generated_name capture.ending progress; said = summary_of (length capture.packets) (length bytes) progress; files = no_files }
+
+-- a run of a program over the capture with these bytes, which lies in no file
+abbrev pub summing_up : List ℕ → Found Program → Outcome
+summing_up bytes (Refused ending) = ending_so ending [] []
+summing_up bytes (Accepted program) = over_capture (summary_report program bytes) [] (opened generated_name (Some bytes))
+
+-- a run of the default scripts over a generated capture
+abbrev pub generating : ℕ → ℕ → Outcome
+generating start count = summing_up (generated start count) (program_by default_scripts)
 
 -- what the words ask for
 abbrev pub outcome_of : Result Command ℕ → Files → Outcome
 outcome_of (Err word) inputs = ending_so (Usage word) [] []
 outcome_of (Ok (ListItems file)) inputs = listing file (inputs file)
 outcome_of (Ok (RunScripts settings file scripts)) inputs = run_scripts file settings scripts inputs
+outcome_of (Ok (Generate start count)) inputs = generating start count
 outcome_of (Ok Help) inputs = ending_so Done help_text []
 outcome_of (Ok Version) inputs = ending_so Done version_text []
 

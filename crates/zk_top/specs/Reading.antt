@@ -47,6 +47,7 @@ pub record IsReading (whole : Option (List ℕ)) (header : Header) (bytes : List
   pub read : HasRead whole bytes now
   pub counted : reader.left + length bytes ≡ 2 ^ 40
   pub read_out : reader.is_read_out ≡ true → (reader.left ≡ 0) ⊎ IfSome (rest_of now) (λ rest. rest ≡ [])
+  pub passed : reader.passed ≡ length packets
 
 -- a capture is being read
 abbrev pub IsUnderWay : CaptureReader → Outside → Type 0

@@ -25,9 +25,12 @@ use Rattle.zk_top.specs.declared.player.Player.{Player}
 use Rattle.zk_top.specs.declared.replay.Came.{Came}
 use Rattle.zk_top.specs.declared.replay.Came.TheVariants.{Through, Flooded}
 use Rattle.zk_top.specs.declared.replay.Replay.{Replay}
+use Rattle.zk_top.specs.declared.summary.RowCounts.{RowCounts}
 use Rattle.zk_top.specs.Logged.{files_of_run}
+use Rattle.zk_top.specs.Summary.{counts_of}
 use Rattle.zk_top.specs.Reading.{IsCapture, IsReading, IsReadThrough, OverCapture}
-use Rattle.zk_top.specs.Writing.{Output, output_of, told_by, HasGiven, GivesSome, GivesAll, GivesPart}
+use Rattle.zk_top.specs.Sink.{Beginning, HasTaken, TakesSome}
+use Rattle.zk_top.specs.Writing.{Output, output_of, told_by, GivesAll, GivesPart}
 
 -- A program that plays ----------------------------------------------------------------------------------------------
 
@@ -39,12 +42,12 @@ abbrev pub output_at : Program → ℕ → Stage → Output
 output_at program budget stage = output_of (told_at program budget stage)
 
 -- The engine stands at this stage and has given these lines and rows, which are said and written or wait.
-pub record Gives (first : Outside) (program : Program) (budget : ℕ) (stage : Stage) (told : Told) (player : Player) (now : Outside) : Type 0 where
+pub record Gives (first : Beginning) (program : Program) (budget : ℕ) (stage : Stage) (told : Told) (player : Player) (now : Outside) : Type 0 where
   pub engine : engine.StandsFor player.engine program budget stage told
-  pub given : HasGiven first (output_of told) player.writer now
+  pub given : HasTaken first (output_of told) player.sink now
 
 -- It has given all.
-pub record Plays (first : Outside) (program : Program) (budget : ℕ) (stage : Stage) (player : Player) (now : Outside) : Type 0 where
+pub record Plays (first : Beginning) (program : Program) (budget : ℕ) (stage : Stage) (player : Player) (now : Outside) : Type 0 where
   pub told : Told
   pub gives : Gives first program budget stage told player now
   pub all : told ≡ told_at program budget stage
@@ -74,25 +77,25 @@ abbrev pub files_of : Plan → List Packet → Files
 files_of plan packets = files_of_run (network_time packets) (progress_over plan packets)
 
 -- Of the items of these packets, and of the end or not, these were given; the program has come to this stage.
-pub record Comes (first : Outside) (plan : Plan) (packets : List Packet) (given : List Item) (ended : Bool) (stage : Stage) (replay : Replay) (now : Outside) : Type 0 where
+pub record Comes (first : Beginning) (plan : Plan) (packets : List Packet) (given : List Item) (ended : Bool) (stage : Stage) (replay : Replay) (now : Outside) : Type 0 where
   pub traffic : traffic.StandsFor replay.traffic plan.options plan.link packets given ended
   pub begins : IsPrefix given (items_in plan packets ended)
   pub plays : Plays first plan.program plan.budget stage replay.player now
 
 -- all items that there are so far were played
-abbrev pub HasPlayed : Outside → Plan → List Packet → Bool → Replay → Outside → Type 0
+abbrev pub HasPlayed : Beginning → Plan → List Packet → Bool → Replay → Outside → Type 0
 HasPlayed first plan packets ended replay now =
     Comes first plan packets (items_in plan packets ended) ended (Begun (items_in plan packets ended)) replay now
 
 -- Over some first items of these packets the run ended in a flood, and what it gave out is said and written or waits.
-pub record HasFlooded (first : Outside) (plan : Plan) (packets : List Packet) (ended : Bool) (moment : Moment) (replay : Replay) (now : Outside) : Type 0 where
+pub record HasFlooded (first : Beginning) (plan : Plan) (packets : List Packet) (ended : Bool) (moment : Moment) (replay : Replay) (now : Outside) : Type 0 where
   pub given : List Item
   pub begins : IsPrefix given (items_in plan packets ended)
   pub floods : Flood moment ≡ end_of (progress_at plan.program plan.budget (Begun given))
-  pub gives : HasGiven first (output_at plan.program plan.budget (Begun given)) replay.player.writer now
+  pub gives : HasTaken first (output_at plan.program plan.budget (Begun given)) replay.player.sink now
 
 -- the items so far were played, or there was a flood
-abbrev pub After : Outside → Plan → List Packet → Bool → ItemEnd → Replay → Outside → Type 0
+abbrev pub After : Beginning → Plan → List Packet → Bool → ItemEnd → Replay → Outside → Type 0
 After first plan packets ended Done replay now = HasPlayed first plan packets ended replay now
 After first plan packets ended (Flood moment) replay now = HasFlooded first plan packets ended moment replay now
 
@@ -107,14 +110,14 @@ time_of (Through last) = last
 time_of (Flooded moment) = moment
 
 -- A run over a whole capture has ended so, and what it gave out is said and written or waits.
-pub record IsOver (first : Outside) (plan : Plan) (packets : List Packet) (last : Moment) (came : Came) (replay : Replay) (now : Outside) : Type 0 where
+pub record IsOver (first : Beginning) (plan : Plan) (packets : List Packet) (last : Moment) (came : Came) (replay : Replay) (now : Outside) : Type 0 where
   pub ends : came ≡ came_of last (run plan.program plan.budget (items_in plan packets true) last)
-  pub gives : HasGiven first (output_of (told_by (world_in (run plan.program plan.budget (items_in plan packets true) last)))) replay.player.writer now
+  pub gives : HasTaken first (output_of (told_by (world_in (run plan.program plan.budget (items_in plan packets true) last)))) replay.player.sink now
 
 -- A capture that is read ---------------------------------------------------------------------------------------------
 
 -- the packets were read to their end and played
-pub record IsThrough (first : Outside) (plan : Plan) (whole : Option (List ℕ)) (header : Header) (last : Moment) (replay : Replay) (reader : CaptureReader) (now : Outside) : Type 0 where
+pub record IsThrough (first : Beginning) (plan : Plan) (whole : Option (List ℕ)) (header : Header) (last : Moment) (replay : Replay) (reader : CaptureReader) (now : Outside) : Type 0 where
   pub bytes : List ℕ
   pub packets : List Packet
   pub reading : IsReading whole header bytes packets reader now
@@ -123,13 +126,13 @@ pub record IsThrough (first : Outside) (plan : Plan) (whole : Option (List ℕ))
   pub played : HasPlayed first plan packets false replay now
 
 -- the run ended in a flood over the first packets of the capture
-pub record IsFlooded (first : Outside) (plan : Plan) (whole : Option (List ℕ)) (moment : Moment) (replay : Replay) (now : Outside) : Type 0 where
+pub record IsFlooded (first : Beginning) (plan : Plan) (whole : Option (List ℕ)) (moment : Moment) (replay : Replay) (now : Outside) : Type 0 where
   pub packets : List Packet
   pub ending : CaptureEnding
   pub all : IsCapture whole packets ending
   pub flooded : HasFlooded first plan packets true moment replay now
 
-abbrev pub HasCome : Outside → Plan → Option (List ℕ) → Header → Came → Replay → CaptureReader → Outside → Type 0
+abbrev pub HasCome : Beginning → Plan → Option (List ℕ) → Header → Came → Replay → CaptureReader → Outside → Type 0
 HasCome first plan whole header (Through last) replay reader now = IsThrough first plan whole header last replay reader now
 HasCome first plan whole header (Flooded moment) replay reader now = IsFlooded first plan whole moment replay now
 
@@ -139,7 +142,7 @@ IsRead (Through last) whole header packets reader now = (bytes : List ℕ) × Is
 IsRead (Flooded moment) whole header packets reader now = Unit {0}
 
 -- The whole run has ended so.
-pub record HasRun (first : Outside) (plan : Plan) (whole : Option (List ℕ)) (header : Header) (came : Came) (replay : Replay) (reader : CaptureReader) (now : Outside) : Type 0 where
+pub record HasRun (first : Beginning) (plan : Plan) (whole : Option (List ℕ)) (header : Header) (came : Came) (replay : Replay) (reader : CaptureReader) (now : Outside) : Type 0 where
   pub packets : List Packet
   pub ending : CaptureEnding
   pub all : IsCapture whole packets ending
@@ -155,9 +158,18 @@ pub record Replays (plan : Plan) (whole : Option (List ℕ)) (header : Header) (
   pub gives : GivesAll (output_over plan packets).text (files_of plan packets) old new
   pub read : IsRead came whole header packets reader new
 
+-- Or it has logged so many rows.
+pub record Counts (plan : Plan) (whole : Option (List ℕ)) (header : Header) (came : Came) (rows : RowCounts) (reader : CaptureReader) (new : Outside) : Type 0 where
+  pub packets : List Packet
+  pub ending : CaptureEnding
+  pub all : IsCapture whole packets ending
+  pub ends : came ≡ came_of (network_time packets) (progress_over plan packets)
+  pub rows_are : rows ≡ counts_of (output_over plan packets).rows
+  pub read : IsRead came whole header packets reader new
+
 -- A run is stopped before its logs are closed.
-abbrev pub StopsOver : Option (List ℕ) → Plan → Outside → Stop → Outside → Type 0
-StopsOver whole plan old stop new = OverCapture whole (λ packets. GivesSome (output_over plan packets) old stop new)
+abbrev pub StopsOver : Option (List ℕ) → Plan → Beginning → Stop → Outside → Type 0
+StopsOver whole plan first stop new = OverCapture whole (λ packets. TakesSome (output_over plan packets) first stop new)
 
 abbrev pub ReplaysPart : Option (List ℕ) → Plan → Outside → Stop → Outside → Type 0
 ReplaysPart whole plan old stop new = OverCapture whole (λ packets. GivesPart (output_over plan packets).text (files_of plan packets) old stop new)

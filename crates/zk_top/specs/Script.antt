@@ -1,5 +1,5 @@
 -- The program of scripts, or the first of the rules that they break.
-use Rattle.std.specs.Prelude.{ℕ, List, [], ◌∷◌, slice_get}
+use Rattle.std.specs.Prelude.{ℕ, Bool, true, false, List, [], ◌∷◌, slice_get}
 use Rattle.std.specs.Option.{option_map_or}
 use Rattle.zk_base.specs.declared.endings.Ending.{Ending}
 use Rattle.zk_base.specs.declared.endings.Ending.TheVariants.{ScriptRefused}
@@ -7,7 +7,8 @@ use Rattle.zk_base.specs.declared.endings.ScriptKind.{ScriptKind}
 use Rattle.zk_base.specs.declared.endings.ScriptKind.TheVariants as kind
 use Rattle.zk_load.specs.declared.found.Found.{Found}
 use Rattle.zk_load.specs.declared.found.Found.TheVariants.{Accepted, Refused}
-use Rattle.zk_load.specs.Loading.{Scripts}
+use Rattle.zk_load.specs.Loading.{Scripts, scripts_in}
+use Rattle.zk_scripts.specs.Texts.{default_texts}
 use Rattle.zk_names.specs.Lent.{files_of}
 use Rattle.zk_typed.specs.declared.refusal.Broken.{Broken}
 use Rattle.zk_typed.specs.declared.rule.Rule.{Rule}
@@ -44,6 +45,15 @@ refused_at scripts refusal = ScriptRefused (name_of scripts refusal.file) refusa
 abbrev pub judged : Scripts → List Broken → Found Program
 judged scripts [] = Accepted (typed_program (files_of scripts))
 judged scripts (one ∷ others) = Refused (refused_at scripts (record { file = one.place.file; place = one.place.byte; kind = kind_of one.rule }))
+
+-- the default scripts, or how a run ends where one is refused
+unfoldable pub default_scripts : Found Scripts
+default_scripts = scripts_in default_texts
+
+-- what is read before the scripts of a run: the default scripts, or nothing where they are left out
+abbrev pub scripts_before : Bool → Found Scripts
+scripts_before true = Accepted []
+scripts_before false = default_scripts
 
 -- the program of scripts, or how a run ends for the first rule that they break
 unfoldable pub program_of : Scripts → Found Program

@@ -31,6 +31,8 @@ pub struct CaptureReader {
     left: usize,
     /// No more bytes that count are there.
     is_read_out: bool,
+    /// How many packets were passed.
+    passed: u64,
 }
 
 impl CaptureReader {
@@ -89,6 +91,7 @@ impl CaptureReader {
             feed,
             left: CAPTURE_MAX - front.len(),
             is_read_out: false,
+            passed: 0,
         })
     }
 
@@ -169,6 +172,15 @@ impl CaptureReader {
             → IsReading whole header bytes (packets ++ packet ∷ []) self.new now }
     {
         self.feed.advance();
+        self.passed = self.passed.saturating_add(1);
+    }
+
+    /// How many packets were passed.
+    pub fn passed(&self) -> u64
+        ensures { (whole : Option (List ℕ)) (header : HeaderData) (bytes : List ℕ) (packets : List PacketData) (now : Outside)
+            → IsReading whole header bytes packets self.now now → result ≡ length packets }
+    {
+        self.passed
     }
 
     /// How the capture ends, of which no other packet follows.

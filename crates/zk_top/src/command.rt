@@ -1,14 +1,24 @@
-ghost use Rattle.std.specs.Prelude.{◌≡◌, ◌<◌, ◌^◌, ◌↔◌, ◌++◌, List, ℕ, IsTrue, Ok, Err, MatchResult};
-ghost use Rattle.zk_top.specs.Command.{IsFirstNotUnderstood, begins, is_whole, is_file_name, number_in, number_from, once, with_option, with_script, with_word, run_on, verb, step, stand_from, settings_of, words_from, run_of, command_of, is_carried_out, understand, command_seen};
+ghost use Rattle.std.specs.Prelude.{◌≡◌, ◌<◌, ◌≤◌, ◌^◌, IfSome, ◌↔◌, ◌++◌, List, ℕ, IsTrue, Ok, Err, MatchResult};
+ghost use Rattle.zk_top.specs.Command.{IsFirstNotUnderstood, begins, is_whole, is_file_name, number_in, number_from, number_to, start_max, count_max, once, with_option, with_script, with_word, run_on, verb, step, stand_from, settings_of, words_from, run_of, command_of, understand, command_seen};
 ghost use Rattle.std.specs.Option.{option_map};
 
 use zk_base::Word;
+use zk_gen::CONVERSATIONS_MAX;
+
+/// The units of a body, where nothing else is told.
+pub const BUDGET: u64 = 1_000_000;
+
+/// The bytes that a stream may hold above its front, where nothing else is told.
+pub const BUFFER: u64 = 1_048_576;
 
 /// The most units that a body may be given.
 const BUDGET_MAX: u64 = 1_000_000_000;
 
 /// The most bytes that a stream may be allowed to hold above its front.
 const BUFFER_MAX: u64 = 67_108_864;
+
+/// The greatest number with which a made capture may start.
+const START_MAX: u32 = u32::MAX;
 
 /// What the command line asks for.
 #[derive(Debug, Drop)]
@@ -22,6 +32,11 @@ pub enum Command<'a> {
         settings: Settings,
         file: &'a [u8],
         scripts: &'a [Word],
+    },
+    /// `gen START COUNT`: the default scripts over a capture that is made by rule.
+    Generate {
+        start: u32,
+        count: u32,
     },
     /// `--help`: what commands there are.
     Help,
@@ -91,6 +106,12 @@ pub enum Standing {
     Listed,
     /// `run` and what stands behind it.
     Run(Run),
+    /// `gen`
+    Generate,
+    /// `gen START`
+    GenerateFrom(u32),
+    /// `gen START COUNT`
+    Generated { start: u32, count: u32 },
     /// `--help`
     Help,
     /// `--version`
@@ -106,18 +127,8 @@ pub fn read_command(words: &[Word]) -> Result<Command<'_>, usize>
 {
     let standing = stand(words)?;
     match command_of(words, standing) {
-        Some(command) if is_carried_out(&command) => Ok(command),
-        _ => Err(words.len()),
-    }
-}
-
-/// Until the default scripts are loaded a run has to leave them out.
-fn is_carried_out(command: &Command<'_>) -> bool
-    ensures { result ≡ is_carried_out (command_seen command.now) }
-{
-    match command {
-        Command::Run { settings, .. } => settings.bare,
-        Command::List { .. } | Command::Help | Command::Version => true,
+        Some(command) => Ok(command),
+        None => Err(words.len()),
     }
 }
 
@@ -143,7 +154,16 @@ fn step(standing: Standing, number: usize, word: &[u8]) -> Option<Standing>
         Standing::Nothing => verb(word),
         Standing::List if is_file_name(word) => Some(Standing::Listed),
         Standing::Run(run) => run_on(run, number, word).map(Standing::Run),
-        Standing::List | Standing::Listed | Standing::Help | Standing::Version => None,
+        Standing::Generate => number_to(START_MAX, word).map(Standing::GenerateFrom),
+        Standing::GenerateFrom(start) => {
+            let count = number_to(CONVERSATIONS_MAX, word)?;
+            Some(Standing::Generated { start, count })
+        }
+        Standing::List
+        | Standing::Listed
+        | Standing::Generated { .. }
+        | Standing::Help
+        | Standing::Version => None,
     }
 }
 
@@ -155,6 +175,8 @@ fn verb(word: &[u8]) -> Option<Standing>
         Some(Standing::List)
     } else if word == b"run".as_slice() {
         Some(Standing::Run(NO_OPTIONS))
+    } else if word == b"gen".as_slice() {
+        Some(Standing::Generate)
     } else if word == b"--help".as_slice() {
         Some(Standing::Help)
     } else if word == b"--version".as_slice() {
@@ -264,10 +286,23 @@ fn is_file_name(word: &[u8]) -> bool
     }
 }
 
+/// The number from 0 to a limit that a word spells in decimal digits, the first of which is 0 in `0`
+/// alone.
+fn number_to(most: u32, word: &[u8]) -> Option<u32>
+    ensures { result ≡ number_to most word.now }
+{
+    if word == b"0".as_slice() {
+        return Some(0);
+    }
+    let number = number_in(u64::from(most), word)?;
+    Some(number as u32)
+}
+
 /// The number from 1 to a limit that a word spells in decimal digits, the first of which is not 0.
 fn number_in(most: u64, word: &[u8]) -> Option<u64>
     requires { most < 2 ^ 32 }
-    ensures { result ≡ number_in most word.now }
+    ensures spelled { result ≡ number_in most word.now }
+    ensures within { IfSome result (λ number. number ≤ most) }
 {
     match word {
         [] | [b'0', ..] => None,
@@ -278,7 +313,8 @@ fn number_in(most: u64, word: &[u8]) -> Option<u64>
 /// The number that digits spell, where it stays within a limit.
 fn digits_in(most: u64, word: &[u8]) -> Option<u64>
     requires { most < 2 ^ 32 }
-    ensures { result ≡ number_from most 0 word.now }
+    ensures spelled { result ≡ number_from most 0 word.now }
+    ensures within { IfSome result (λ number. number ≤ most) }
 {
     let mut number = 0;
     for byte in word {
@@ -298,7 +334,7 @@ fn command_of(words: &[Word], standing: Standing) -> Option<Command<'_>>
     ensures { option_map command_seen result ≡ command_of words.now standing }
 {
     match standing {
-        Standing::Nothing | Standing::List => None,
+        Standing::Nothing | Standing::List | Standing::Generate | Standing::GenerateFrom(_) => None,
         Standing::Listed => {
             let file = words.get(1)?;
             Some(Command::List {
@@ -306,6 +342,7 @@ fn command_of(words: &[Word], standing: Standing) -> Option<Command<'_>>
             })
         }
         Standing::Run(run) => run_of(words, run),
+        Standing::Generated { start, count } => Some(Command::Generate { start, count }),
         Standing::Help => Some(Command::Help),
         Standing::Version => Some(Command::Version),
     }
@@ -336,16 +373,15 @@ fn words_from(words: &[Word], number: Option<usize>) -> &[Word]
     }
 }
 
-/// How scripts are run: 1,000,000 units for a body and 1,048,576 bytes above a front, where nothing
-/// else is told.
+/// How scripts are run.
 fn settings_of(run: Run) -> Settings
     ensures { result ≡ settings_of run }
 {
     Settings {
         check: !run.unchecked,
         bare: run.bare,
-        budget: run.budget.unwrap_or(1_000_000),
-        buffer: run.buffer.unwrap_or(1_048_576),
+        budget: run.budget.unwrap_or(BUDGET),
+        buffer: run.buffer.unwrap_or(BUFFER),
     }
 }
 

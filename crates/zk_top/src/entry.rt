@@ -1,6 +1,6 @@
 ghost use Rattle.std.specs.Prelude.{◌≡◌, ◌≢◌, ◌⊎◌, ◌↔◌, [], List, ℕ, Some, Ok, Err, IfOk, IfErr};
 ghost use Rattle.zk_base.specs.Shelf.{Files, HasRisen, appended};
-ghost use Rattle.zk_top.specs.Command.{understand, command_seen};
+ghost use Rattle.zk_top.specs.Command.{IsUnderstood, understand, command_seen};
 ghost use Rattle.zk_top.specs.Complaint.{complaint_of};
 ghost use Rattle.zk_top.specs.Outcome.{outcome, outcome_of};
 ghost use Rattle.zk_top.specs.Parts.{IsOfCommand, Fulfils, BreaksOff};
@@ -10,6 +10,7 @@ ghost use Rattle.zk_top.specs.Run.{IsNotStopped, IsDone, StaysWithin, SameCompla
 use crate::about::{help, version};
 use crate::command::{Command, read_command};
 use crate::complaint::complain;
+use crate::generated::generate;
 use crate::listing::list;
 use crate::running::run_scripts;
 use std::alloc::Global;
@@ -84,6 +85,7 @@ fn carry_out<S: Shelf>(alloc: Global, words: &[Word], shelf: &mut S) -> Result<E
 
 /// Does what a command asks for, but for the complaint.
 fn perform<S: Shelf>(alloc: Global, command: Command<'_>, shelf: &mut S) -> Result<Ending, Stop>
+    requires { IsUnderstood (command_seen command) }
     ensures done { IfOk result (λ ending. Fulfils (outcome_of (Ok (command_seen command.entry))) [] (S.outside shelf.old) ending (S.outside shelf.new)) }
     ensures command_ends { IfOk result IsOfCommand }
     ensures stopped { IfErr result (λ stop. BreaksOff (outcome_of (Ok (command_seen command.entry))) (S.outside shelf.old) stop (S.outside shelf.new)) }
@@ -95,6 +97,7 @@ fn perform<S: Shelf>(alloc: Global, command: Command<'_>, shelf: &mut S) -> Resu
             file,
             scripts,
         } => run_scripts(alloc, shelf, settings, file, scripts),
+        Command::Generate { start, count } => generate(alloc, shelf, start, count),
         Command::Help => help(shelf),
         Command::Version => version(shelf),
     }

@@ -7,6 +7,7 @@ mod command;
 mod complaint;
 mod entry;
 mod front;
+mod generated;
 mod line;
 mod listing;
 mod output;
@@ -15,11 +16,17 @@ mod replay;
 mod runnable;
 mod running;
 mod scripts;
+mod sink;
+mod summary;
 mod writer;
 
 pub use command::command_line;
 pub use entry::run;
 
+#[cfg(test)]
+mod default_tests;
+#[cfg(test)]
+mod generated_tests;
 #[cfg(test)]
 mod grammar_tests;
 #[cfg(test)]
@@ -28,3 +35,5 @@ mod list_tests;
 mod log_tests;
 #[cfg(test)]
 mod tests;
+#[cfg(test)]
+mod timer_tests;

@@ -4,13 +4,13 @@ use std::test::Fail;
 use zk_base::SureShelf;
 
 /// A DNS query of 33 bytes and its answer of 63.
-const QUERY: &[u8] = b"\
+pub const QUERY: &[u8] = b"\
     \xd4\xc3\xb2\xa1\x02\0\x04\0\0\0\0\0\0\0\0\0\0\0\x04\0\x01\0\0\0\
     \0\xf1Se\0\0\0\0K\0\0\0K\0\0\0\0\0\0\0\0\0\0\0\0\0\0\0\x08\0E\0\0=\0\0\0\0\0\x11\xa6{\n\0\0\x01\n\0\05\x9c@\05\0)\xf2`\x124\x01\0\0\x01\0\0\0\0\0\0\x03www\x07example\x03com\0\0\x01\0\x01\
     \0\xf1Se N\0\0i\0\0\0i\0\0\0\0\0\0\0\0\0\0\0\0\0\0\0\x08\0E\0\0[\0\0\0\0\0\x11\xa6]\n\0\05\n\0\0\x01\05\x9c@\0G\x02*\x124\x81\x80\0\x01\0\x02\0\0\0\0\x03www\x07example\x03com\0\0\x01\0\x01\xc0\x0c\0\x05\0\x01\0\0\x01,\0\x02\xc0\x10\xc0\x10\0\x01\0\x01\0\0\x01,\0\x04]\xb8\xd8\"";
 
 /// A GET, the answer with a body of 2 bytes, and the end of both sides.
-const EXCHANGE: &[u8] = b"\
+pub const EXCHANGE: &[u8] = b"\
     \xd4\xc3\xb2\xa1\x02\0\x04\0\0\0\0\0\0\0\0\0\0\0\x04\0\x01\0\0\0\
     \0\xf1Se\0\0\0\06\0\0\06\0\0\0\0\0\0\0\0\0\0\0\0\0\0\0\x08\0E\0\0(\0\0\0\0\0\x06\xa6\x80\n\0\0\x01\n\0\0P\x9cA\0P\0\0\0d\0\0\0\0P\x02\0\0\xfe\x9c\0\0\
     \0\xf1Se\x10'\0\06\0\0\06\0\0\0\0\0\0\0\0\0\0\0\0\0\0\0\x08\0E\0\0(\0\0\0\0\0\x06\xa6\x80\n\0\0P\n\0\0\x01\0P\x9cA\0\0\x01\xf4\0\0\0eP\x12\0\0\xfc\x97\0\0\
@@ -22,7 +22,7 @@ const EXCHANGE: &[u8] = b"\
 
 /// `QUERY` and `EXCHANGE` merged by time. The datagrams have a VLAN tag, short frames are padded to 60
 /// bytes, the packet of the answer has total length 0, and ARP and IPv6 stand between.
-const MERGED: &[u8] = b"\
+pub const MERGED: &[u8] = b"\
     \xd4\xc3\xb2\xa1\x02\0\x04\0\0\0\0\0\0\0\0\0\0\0\x04\0\x01\0\0\0\
     \0\xf1Se\0\0\0\0O\0\0\0O\0\0\0\0\0\0\0\0\0\0\0\0\0\0\0\x81\0\0\x07\x08\0E\0\0=\0\0\0\0\0\x11\xa6{\n\0\0\x01\n\0\05\x9c@\05\0)\xf2`\x124\x01\0\0\x01\0\0\0\0\0\0\x03www\x07example\x03com\0\0\x01\0\x01\
     \0\xf1Se\0\0\0\0<\0\0\0<\0\0\0\0\0\0\0\0\0\0\0\0\0\0\0\x08\0E\0\0(\0\0\0\0\0\x06\xa6\x80\n\0\0\x01\n\0\0P\x9cA\0P\0\0\0d\0\0\0\0P\x02\0\0\xfe\x9c\0\0\0\0\0\0\0\0\
@@ -56,7 +56,7 @@ const CHUNKS: &[u8] = b"\
     \0\xf1SeP\xc3\0\0N\0\0\0N\0\0\0\0\0\0\0\0\0\0\0\0\0\0\0\x08\0E\0\0@\0\0\0\0\0\x06\xa6h\n\0\0P\n\0\0\x01\0P\x9cA\0\0\x02N\0\0\0\x89P\x11\0\0_\xed\0\0HTTP/1.0 200 OK\r\n\r\nhello";
 
 /// 6 bytes of a body that the client acknowledged were not captured.
-const GAP_IN_BODY: &[u8] = b"\
+pub const GAP_IN_BODY: &[u8] = b"\
     \xd4\xc3\xb2\xa1\x02\0\x04\0\0\0\0\0\0\0\0\0\0\0\x04\0\x01\0\0\0\
     \0\xf1Se\0\0\0\06\0\0\06\0\0\0\0\0\0\0\0\0\0\0\0\0\0\0\x08\0E\0\0(\0\0\0\0\0\x06\xa6\x80\n\0\0\x01\n\0\0P\x9cA\0P\0\0\0d\0\0\0\0P\x02\0\0\xfe\x9c\0\0\
     \0\xf1Se\x10'\0\06\0\0\06\0\0\0\0\0\0\0\0\0\0\0\0\0\0\0\x08\0E\0\0(\0\0\0\0\0\x06\xa6\x80\n\0\0P\n\0\0\x01\0P\x9cA\0\0\x01\xf4\0\0\0eP\x12\0\0\xfc\x97\0\0\

@@ -7,7 +7,7 @@ use zk_base::{Ending, MemShelf, SureShelf};
 const RUN: &[u8] = b"run -b -r c.pcap s.zeek";
 
 /// A script, the name of a file, and what the file holds in the end, if it is there.
-const LOGS: [(&[u8], &[u8], Option<&[u8]>); 5] = [
+const LOGS: [(&[u8], &[u8], Option<&[u8]>); 11] = [
     // A log is created at its first row and closed at the last network time (Zeek manual, Log Files).
     (
         b"module Top; export { redef enum Log::ID += { LOG }; type Info: record { ts: time &log; who: string &log; \
@@ -66,6 +66,72 @@ const LOGS: [(&[u8], &[u8], Option<&[u8]>); 5] = [
             b"#separator \\x09\n#set_separator\t,\n#empty_field\t(empty)\n#unset_field\t-\n#path\tp\n\
                #open\t1970-01-01-00-00-00\n#fields\tn\tm\n#types\tcount\tcount\n7\t8\n7\t8\n#close\t1970-01-01-00-00-25\n",
         ),
+    ),
+    // A fault and a spent budget are told at the byte of what was at fault, also of a body with another behind it.
+    (
+        b"global t: table[count] of count;\nevent zeek_init() { t[1] = 2; print t[5]; }\nevent zeek_init() { print t[1]; }\n",
+        b"reporter.log",
+        Some(
+            b"#separator \\x09\n#set_separator\t,\n#empty_field\t(empty)\n#unset_field\t-\n#path\treporter\n\
+               #open\t1970-01-01-00-00-00\n#fields\tts\tlevel\tmessage\tlocation\n#types\ttime\tenum\tstring\tstring\n\
+               0.000000\tReporter::ERROR\tNoIndex\ts.zeek, byte 63\n#close\t1970-01-01-00-00-25\n",
+        ),
+    ),
+    // Each cell can be told from what it isn't.
+    (
+        b"redef enum Log::ID += { L }; type R: record { n: int &log &optional; s: set[count] &log; a: string &log; b: string &log; \
+          c: string &log; d: string &log; e: string &log; f: string &log; g: string &log; v: vector of string &log; w: set[string] &log; \
+          x: interval &log; y: addr &log; z: subnet &log; p: port &log; q: bool &log; }; \
+          event zeek_init() { Log::create_stream(L, [$columns=R, $path=\"p\"]); Log::write(L, [$s=set(), $a=\"\", $b=\"-\", \
+          $c=\"(empty)\", $d=\"\\t\", $e=\"\\\\\", $f=\"\\xff\", $g=\"#x\", $v=vector(\"a,b\"), $w=set(\"\"), $x=90 sec, \
+          $y=10.0.0.1, $z=10.0.0.0/8, $p=53/udp, $q=T]); }",
+        b"p.log",
+        Some(
+            b"#separator \\x09\n#set_separator\t,\n#empty_field\t(empty)\n#unset_field\t-\n#path\tp\n\
+               #open\t1970-01-01-00-00-00\n#fields\tn\ts\ta\tb\tc\td\te\tf\tg\tv\tw\tx\ty\tz\tp\tq\n\
+               #types\tint\tset[count]\tstring\tstring\tstring\tstring\tstring\tstring\tstring\tvector[string]\tset[string]\t\
+               interval\taddr\tsubnet\tport\tbool\n\
+               -\t(empty)\t(empty)\t\\x2d\t\\x28empty)\t\\x09\t\\x5c\t\\xff\t\\x23x\ta\\x2cb\t\t90.000000\t10.0.0.1\t10.0.0.0/8\t53\tT\n\
+               #close\t1970-01-01-00-00-25\n",
+        ),
+    ),
+    // What a policy hook writes comes before the row that it judges.
+    (
+        b"redef enum Log::ID += { L }; type R: record { n: count &log; }; global again = T; \
+          hook policy(r: R, id: Log::ID, f: Log::Filter) { if ( again ) { again = F; Log::write(L, [$n=2]); } } \
+          event zeek_init() { Log::create_stream(L, [$columns=R, $path=\"p\", $policy=policy]); Log::write(L, [$n=1]); }",
+        b"p.log",
+        Some(
+            b"#separator \\x09\n#set_separator\t,\n#empty_field\t(empty)\n#unset_field\t-\n#path\tp\n\
+               #open\t1970-01-01-00-00-00\n#fields\tn\n#types\tcount\n2\n1\n#close\t1970-01-01-00-00-25\n",
+        ),
+    ),
+    // One that always writes goes too deep, and no row comes of it.
+    (
+        b"redef enum Log::ID += { L }; type R: record { n: count &log; }; \
+          hook policy(r: R, id: Log::ID, f: Log::Filter) { Log::write(L, [$n=2]); } \
+          event zeek_init() { Log::create_stream(L, [$columns=R, $path=\"p\", $policy=policy]); Log::write(L, [$n=1]); }",
+        b"p.log",
+        None,
+    ),
+    // Filters and their columns.
+    (
+        b"redef enum Log::ID += { L }; type R: record { a: count &log; b: string &log; }; \
+          event zeek_init() { print Log::create_stream(L, [$columns=R, $path=\"x\"]), \
+          Log::add_filter(L, [$name=\"f\", $path=\"y\", $include=set(\"b\")]), Log::remove_default_filter(L), \
+          Log::write(L, R($a=1, $b=\"q\")); }",
+        b"y.log",
+        Some(
+            b"#separator \\x09\n#set_separator\t,\n#empty_field\t(empty)\n#unset_field\t-\n#path\ty\n\
+               #open\t1970-01-01-00-00-00\n#fields\tb\n#types\tstring\nq\n#close\t1970-01-01-00-00-25\n",
+        ),
+    ),
+    // A stream whose filter is gone has no file.
+    (
+        b"redef enum Log::ID += { L }; type R: record { n: count &log; }; \
+          event zeek_init() { Log::create_stream(L, [$columns=R, $path=\"x\"]); Log::remove_default_filter(L); Log::write(L, [$n=1]); }",
+        b"x.log",
+        None,
     ),
 ];
 

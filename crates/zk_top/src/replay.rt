@@ -11,11 +11,15 @@ ghost use Rattle.zk_traffic.specs.declared.item.Item.{Item as ItemData};
 ghost use Rattle.zk_typed.specs.Program.{Program};
 ghost use Rattle.zk_typed.specs.Running.{world_in};
 ghost use Rattle.zk_top.specs.Reading.{IsReading, IsUnderWay, SameInput};
-ghost use Rattle.zk_top.specs.Replay.{Plan, Replays, ReplaysPart};
-ghost use Rattle.zk_top.specs.Writing.{GivesSome, IsReady, output_of, told_by};
+ghost use Rattle.zk_top.specs.Replay.{Counts, Plan, Replays, ReplaysPart};
+ghost use Rattle.zk_top.specs.Sink.{Beginning, CanTake, HasTaken, TakesSome};
+ghost use Rattle.zk_top.specs.Writing.{no_output, output_of, told_by};
 
 use crate::capture::{CaptureReader, later};
 use crate::player::Player;
+use crate::sink::Sink;
+use crate::summary::RowCounts;
+use crate::writer::Writer;
 use std::alloc::Global;
 use zk_base::{Mem, Moment, Shelf};
 use zk_events::{ItemEnd, lines_stay};
@@ -57,31 +61,33 @@ impl Came {
 impl Replay {
     ghost use Rattle.zk_top.specs.Replay.{After, Comes, HasCome, HasPlayed, HasRun, IsOver, StopsOver, items_in, output_at};
 
-    /// A replay of a capture with frames of a link type, before its beginning.
+    /// A replay of a capture with frames of a link type, before its beginning, and where its output goes.
     fn new(
         alloc: Global,
         options: Options,
         link: u16,
         code: Code,
         budget: u64,
+        sink: Sink,
     ) -> Result<Replay, Mem>
-        ensures comes { IfOk result (λ replay. (first : Outside) (program : Program) → lower.code_of code ≡ lowered program
-            → Comes first (record { options = options; link = link; program = program; budget = budget }) [] [] false New replay first) }
-        ensures ready { IfOk result (λ replay. (now : Outside) → IsReady replay.player.writer now) }
+        ensures comes { IfOk result (λ replay. (first : Beginning) (program : Program) (now : Outside) → lower.code_of code ≡ lowered program
+            → HasTaken first no_output sink now
+            → Comes first (record { options = options; link = link; program = program; budget = budget }) [] [] false New replay now) }
+        ensures sink { IfOk result (λ replay. replay.player.sink ≡ sink) }
     {
         Ok(Replay {
             traffic: Traffic::new(alloc, options, link)?,
-            player: Player::new(alloc, code, budget)?,
+            player: Player::new(alloc, code, budget, sink)?,
         })
     }
 
     /// Begins the run.
     fn begin<S: Shelf>(&mut self, shelf: &mut S) -> Result<ItemEnd, Stop>
-        requires ready { IsReady self.old.player.writer (S.outside shelf.old) }
-        ensures after { IfOk result (λ end. (first : Outside) (plan : Plan) → Comes first plan [] [] false New self.old (S.outside shelf.old) → After first plan [] false end self.new (S.outside shelf.new)) }
-        ensures ready { OnOk result (IsReady self.new.player.writer (S.outside shelf.new)) }
-        ensures stopped { IfErr result (λ stop. (first : Outside) (plan : Plan) → Comes first plan [] [] false New self.old (S.outside shelf.old)
-            → GivesSome (output_at plan.program plan.budget (Begun [])) first stop (S.outside shelf.new)) }
+        requires ready { CanTake self.old.player.sink (S.outside shelf.old) }
+        ensures after { IfOk result (λ end. (first : Beginning) (plan : Plan) → Comes first plan [] [] false New self.old (S.outside shelf.old) → After first plan [] false end self.new (S.outside shelf.new)) }
+        ensures ready { OnOk result (CanTake self.new.player.sink (S.outside shelf.new)) }
+        ensures stopped { IfErr result (λ stop. (first : Beginning) (plan : Plan) → Comes first plan [] [] false New self.old (S.outside shelf.old)
+            → TakesSome (output_at plan.program plan.budget (Begun [])) first stop (S.outside shelf.new)) }
         ensures input { OnOk result (SameInput (S.outside shelf.old) (S.outside shelf.new)) }
     {
         self.player.start(shelf)
@@ -89,13 +95,13 @@ impl Replay {
 
     /// Plays the items that wait.
     fn take_items<S: Shelf>(&mut self, shelf: &mut S) -> Result<ItemEnd, Stop>
-        requires ready { IsReady self.old.player.writer (S.outside shelf.old) }
-        ensures after { IfOk result (λ end. (first : Outside) (plan : Plan) (packets : List PacketData) (given : List ItemData) (ended : Bool)
+        requires ready { CanTake self.old.player.sink (S.outside shelf.old) }
+        ensures after { IfOk result (λ end. (first : Beginning) (plan : Plan) (packets : List PacketData) (given : List ItemData) (ended : Bool)
             → Comes first plan packets given ended (Begun given) self.old (S.outside shelf.old) → After first plan packets ended end self.new (S.outside shelf.new)) }
-        ensures ready { OnOk result (IsReady self.new.player.writer (S.outside shelf.new)) }
-        ensures stopped { IfErr result (λ stop. (first : Outside) (plan : Plan) (packets : List PacketData) (given : List ItemData) (ended : Bool)
+        ensures ready { OnOk result (CanTake self.new.player.sink (S.outside shelf.new)) }
+        ensures stopped { IfErr result (λ stop. (first : Beginning) (plan : Plan) (packets : List PacketData) (given : List ItemData) (ended : Bool)
             → Comes first plan packets given ended (Begun given) self.old (S.outside shelf.old)
-            → GivesSome (output_at plan.program plan.budget (Begun (items_in plan packets ended))) first stop (S.outside shelf.new)) }
+            → TakesSome (output_at plan.program plan.budget (Begun (items_in plan packets ended))) first stop (S.outside shelf.new)) }
         ensures input { OnOk result (SameInput (S.outside shelf.old) (S.outside shelf.new)) }
     {
         lines_stay();
@@ -115,13 +121,13 @@ impl Replay {
         shelf: &mut S,
         packet: PacketView<'_>,
     ) -> Result<ItemEnd, Stop>
-        requires ready { IsReady self.old.player.writer (S.outside shelf.old) }
+        requires ready { CanTake self.old.player.sink (S.outside shelf.old) }
         requires bounded { IsBounded (packet_of packet) }
-        ensures after { IfOk result (λ end. (first : Outside) (plan : Plan) (packets : List PacketData) → HasPlayed first plan packets false self.old (S.outside shelf.old)
+        ensures after { IfOk result (λ end. (first : Beginning) (plan : Plan) (packets : List PacketData) → HasPlayed first plan packets false self.old (S.outside shelf.old)
             → After first plan (packets ++ packet_of packet.entry ∷ []) false end self.new (S.outside shelf.new)) }
-        ensures ready { OnOk result (IsReady self.new.player.writer (S.outside shelf.new)) }
-        ensures stopped { IfErr result (λ stop. (first : Outside) (plan : Plan) (packets : List PacketData) → HasPlayed first plan packets false self.old (S.outside shelf.old)
-            → GivesSome (output_at plan.program plan.budget (Begun (items_in plan (packets ++ packet_of packet.entry ∷ []) false))) first stop (S.outside shelf.new)) }
+        ensures ready { OnOk result (CanTake self.new.player.sink (S.outside shelf.new)) }
+        ensures stopped { IfErr result (λ stop. (first : Beginning) (plan : Plan) (packets : List PacketData) → HasPlayed first plan packets false self.old (S.outside shelf.old)
+            → TakesSome (output_at plan.program plan.budget (Begun (items_in plan (packets ++ packet_of packet.entry ∷ []) false))) first stop (S.outside shelf.new)) }
         ensures input { OnOk result (SameInput (S.outside shelf.old) (S.outside shelf.new)) }
     {
         items_stay();
@@ -137,14 +143,14 @@ impl Replay {
         chunk: &mut [u8],
         reader: &mut CaptureReader,
     ) -> Result<Came, Stop>
-        requires ready { IsReady self.old.player.writer (S.outside shelf.old) }
+        requires ready { CanTake self.old.player.sink (S.outside shelf.old) }
         requires room { 0 < length chunk.old }
         requires under_way { IsUnderWay reader.old (S.outside shelf.old) }
-        ensures came { IfOk result (λ came. (first : Outside) (plan : Plan) (whole : Option (List ℕ)) (header : HeaderData) (bytes : List ℕ)
+        ensures came { IfOk result (λ came. (first : Beginning) (plan : Plan) (whole : Option (List ℕ)) (header : HeaderData) (bytes : List ℕ)
             → HasPlayed first plan [] false self.old (S.outside shelf.old) → IsReading whole header bytes [] reader.old (S.outside shelf.old)
             → HasCome first plan whole header came self.new reader.new (S.outside shelf.new)) }
-        ensures ready { OnOk result (IsReady self.new.player.writer (S.outside shelf.new)) }
-        ensures stopped { IfErr result (λ stop. (first : Outside) (plan : Plan) (whole : Option (List ℕ)) (header : HeaderData) (bytes : List ℕ)
+        ensures ready { OnOk result (CanTake self.new.player.sink (S.outside shelf.new)) }
+        ensures stopped { IfErr result (λ stop. (first : Beginning) (plan : Plan) (whole : Option (List ℕ)) (header : HeaderData) (bytes : List ℕ)
             → HasPlayed first plan [] false self.old (S.outside shelf.old) → IsReading whole header bytes [] reader.old (S.outside shelf.old)
             → StopsOver whole plan first stop (S.outside shelf.new)) }
     {
@@ -165,12 +171,12 @@ impl Replay {
 
     /// Plays what the end of the capture brings, and ends the run at the last network time.
     fn finish<S: Shelf>(&mut self, shelf: &mut S, last: Moment) -> Result<Came, Stop>
-        requires ready { IsReady self.old.player.writer (S.outside shelf.old) }
-        ensures over { IfOk result (λ came. (first : Outside) (plan : Plan) (packets : List PacketData) → HasPlayed first plan packets false self.old (S.outside shelf.old)
+        requires ready { CanTake self.old.player.sink (S.outside shelf.old) }
+        ensures over { IfOk result (λ came. (first : Beginning) (plan : Plan) (packets : List PacketData) → HasPlayed first plan packets false self.old (S.outside shelf.old)
             → IsOver first plan packets last came self.new (S.outside shelf.new)) }
-        ensures ready { OnOk result (IsReady self.new.player.writer (S.outside shelf.new)) }
-        ensures stopped { IfErr result (λ stop. (first : Outside) (plan : Plan) (packets : List PacketData) → HasPlayed first plan packets false self.old (S.outside shelf.old)
-            → GivesSome (output_of (told_by (world_in (run plan.program plan.budget (items_in plan packets true) last)))) first stop (S.outside shelf.new)) }
+        ensures ready { OnOk result (CanTake self.new.player.sink (S.outside shelf.new)) }
+        ensures stopped { IfErr result (λ stop. (first : Beginning) (plan : Plan) (packets : List PacketData) → HasPlayed first plan packets false self.old (S.outside shelf.old)
+            → TakesSome (output_of (told_by (world_in (run plan.program plan.budget (items_in plan packets true) last)))) first stop (S.outside shelf.new)) }
         ensures input { OnOk result (SameInput (S.outside shelf.old) (S.outside shelf.new)) }
     {
         items_stay();
@@ -184,12 +190,12 @@ impl Replay {
 
     /// Ends the run at the last network time, where all items were played.
     fn end<S: Shelf>(&mut self, shelf: &mut S, last: Moment) -> Result<Came, Stop>
-        requires ready { IsReady self.old.player.writer (S.outside shelf.old) }
-        ensures over { IfOk result (λ came. (first : Outside) (plan : Plan) (packets : List PacketData) → HasPlayed first plan packets true self.old (S.outside shelf.old)
+        requires ready { CanTake self.old.player.sink (S.outside shelf.old) }
+        ensures over { IfOk result (λ came. (first : Beginning) (plan : Plan) (packets : List PacketData) → HasPlayed first plan packets true self.old (S.outside shelf.old)
             → IsOver first plan packets last came self.new (S.outside shelf.new)) }
-        ensures ready { OnOk result (IsReady self.new.player.writer (S.outside shelf.new)) }
-        ensures stopped { IfErr result (λ stop. (first : Outside) (plan : Plan) (packets : List PacketData) → HasPlayed first plan packets true self.old (S.outside shelf.old)
-            → GivesSome (output_of (told_by (world_in (run plan.program plan.budget (items_in plan packets true) last)))) first stop (S.outside shelf.new)) }
+        ensures ready { OnOk result (CanTake self.new.player.sink (S.outside shelf.new)) }
+        ensures stopped { IfErr result (λ stop. (first : Beginning) (plan : Plan) (packets : List PacketData) → HasPlayed first plan packets true self.old (S.outside shelf.old)
+            → TakesSome (output_of (told_by (world_in (run plan.program plan.budget (items_in plan packets true) last)))) first stop (S.outside shelf.new)) }
         ensures input { OnOk result (SameInput (S.outside shelf.old) (S.outside shelf.new)) }
     {
         match self.player.finish(shelf, last)? {
@@ -205,14 +211,14 @@ impl Replay {
         chunk: &mut [u8],
         reader: &mut CaptureReader,
     ) -> Result<Came, Stop>
-        requires ready { IsReady self.old.player.writer (S.outside shelf.old) }
+        requires ready { CanTake self.old.player.sink (S.outside shelf.old) }
         requires room { 0 < length chunk.old }
         requires under_way { IsUnderWay reader.old (S.outside shelf.old) }
-        ensures ran { IfOk result (λ came. (first : Outside) (plan : Plan) (whole : Option (List ℕ)) (header : HeaderData) (bytes : List ℕ)
+        ensures ran { IfOk result (λ came. (first : Beginning) (plan : Plan) (whole : Option (List ℕ)) (header : HeaderData) (bytes : List ℕ)
             → Comes first plan [] [] false New self.old (S.outside shelf.old) → IsReading whole header bytes [] reader.old (S.outside shelf.old)
             → HasRun first plan whole header came self.new reader.new (S.outside shelf.new)) }
-        ensures ready { OnOk result (IsReady self.new.player.writer (S.outside shelf.new)) }
-        ensures stopped { IfErr result (λ stop. (first : Outside) (plan : Plan) (whole : Option (List ℕ)) (header : HeaderData) (bytes : List ℕ)
+        ensures ready { OnOk result (CanTake self.new.player.sink (S.outside shelf.new)) }
+        ensures stopped { IfErr result (λ stop. (first : Beginning) (plan : Plan) (whole : Option (List ℕ)) (header : HeaderData) (bytes : List ℕ)
             → Comes first plan [] [] false New self.old (S.outside shelf.old) → IsReading whole header bytes [] reader.old (S.outside shelf.old)
             → StopsOver whole plan first stop (S.outside shelf.new)) }
     {
@@ -231,14 +237,14 @@ impl Replay {
         chunk: &mut [u8],
         reader: &mut CaptureReader,
     ) -> Result<Came, Stop>
-        requires ready { IsReady self.old.player.writer (S.outside shelf.old) }
+        requires ready { CanTake self.old.player.sink (S.outside shelf.old) }
         requires room { 0 < length chunk.old }
         requires under_way { IsUnderWay reader.old (S.outside shelf.old) }
-        ensures ran { IfOk result (λ came. (first : Outside) (plan : Plan) (whole : Option (List ℕ)) (header : HeaderData) (bytes : List ℕ)
+        ensures ran { IfOk result (λ came. (first : Beginning) (plan : Plan) (whole : Option (List ℕ)) (header : HeaderData) (bytes : List ℕ)
             → HasPlayed first plan [] false self.old (S.outside shelf.old) → IsReading whole header bytes [] reader.old (S.outside shelf.old)
             → HasRun first plan whole header came self.new reader.new (S.outside shelf.new)) }
-        ensures ready { OnOk result (IsReady self.new.player.writer (S.outside shelf.new)) }
-        ensures stopped { IfErr result (λ stop. (first : Outside) (plan : Plan) (whole : Option (List ℕ)) (header : HeaderData) (bytes : List ℕ)
+        ensures ready { OnOk result (CanTake self.new.player.sink (S.outside shelf.new)) }
+        ensures stopped { IfErr result (λ stop. (first : Beginning) (plan : Plan) (whole : Option (List ℕ)) (header : HeaderData) (bytes : List ℕ)
             → HasPlayed first plan [] false self.old (S.outside shelf.old) → IsReading whole header bytes [] reader.old (S.outside shelf.old)
             → StopsOver whole plan first stop (S.outside shelf.new)) }
     {
@@ -247,6 +253,28 @@ impl Replay {
             Came::Flooded(moment) => Ok(Came::Flooded(moment)),
         }
     }
+}
+
+/// Replays a capture to a program, and counts the rows that it logs. Nothing is said or written.
+pub fn count_rows<S: Shelf>(
+    alloc: Global,
+    shelf: &mut S,
+    chunk: &mut [u8],
+    options: Options,
+    code: Code,
+    budget: u64,
+    reader: &mut CaptureReader,
+) -> Result<(Came, RowCounts), Stop>
+    requires room { 0 < length chunk.old }
+    requires under_way { IsUnderWay reader.old (S.outside shelf.old) }
+    ensures { IfOk result (λ counted. (program : Program) (whole : Option (List ℕ)) (header : HeaderData) (bytes : List ℕ) → lower.code_of code ≡ lowered program
+        → IsReading whole header bytes [] reader.old (S.outside shelf.old)
+        → Counts (record { options = options; link = header.link; program = program; budget = budget }) whole header counted.0 counted.1 reader.new (S.outside shelf.new)) }
+{
+    let sink = Sink::Counted(RowCounts::new());
+    let mut replay = Replay::new(alloc, options, reader.link(), code, budget, sink)?;
+    let came = replay.run(shelf, chunk, reader)?;
+    Ok((came, replay.player.sink.rows()))
 }
 
 /// Replays a capture to a program, says what it prints and writes its log files.
@@ -268,8 +296,10 @@ pub fn replay_capture<S: Shelf>(
         → IsReading whole header bytes [] reader.old (S.outside shelf.old)
         → ReplaysPart whole (record { options = options; link = header.link; program = program; budget = budget }) (S.outside shelf.old) stop (S.outside shelf.new)) }
 {
-    let mut replay = Replay::new(alloc, options, reader.link(), code, budget)?;
+    let writer = Writer::new(alloc)?;
+    let sink = Sink::Written(writer);
+    let mut replay = Replay::new(alloc, options, reader.link(), code, budget, sink)?;
     let came = replay.run(shelf, chunk, reader)?;
-    replay.player.writer.close(shelf, came.time())?;
+    replay.player.sink.close(shelf, came.time())?;
     Ok(came)
 }

@@ -1,20 +1,22 @@
 ghost use Rattle.std.specs.Prelude.{◌≡◌, ◌<◌, ◌≤◌, [], ◌∷◌, length, IfOk, IfErr};
 ghost use Rattle.zk_typed.specs.Program.{Program};
 ghost use Rattle.zk_top.specs.Compiling.{Runs};
-ghost use Rattle.zk_top.specs.Outcome.{over_capture, opened, link_in, run_report, run_scripts};
+ghost use Rattle.zk_top.specs.Outcome.{over_capture, opened, link_in, run_behind, run_report, run_scripts};
 ghost use Rattle.zk_top.specs.Parts.{Fulfils, BreaksOff, IsOfCommand};
 
 use crate::capture::{CHUNK, CaptureReader, end_of};
 use crate::command::Settings;
 use crate::replay::{Came, replay_capture};
 use crate::runnable::Runnable;
-use crate::scripts::read_program;
+use crate::scripts::{read_program, scripts_before};
 use std::alloc::Global;
-use zk_base::{Ending, Shelf, Word};
+use zk_base::{Bytes, Ending, Sequence, Shelf, Word};
 use zk_load::{Found, Stop};
 use zk_traffic::Options;
+use zk_tree::Tree;
 
-/// Runs scripts over the capture in a file. The capture is asked for once they are read and checked.
+/// Runs scripts over the capture in a file, behind the default scripts unless they are left out. The
+/// capture is asked for once they are read and checked.
 pub fn run_scripts<S: Shelf>(
     alloc: Global,
     shelf: &mut S,
@@ -26,7 +28,26 @@ pub fn run_scripts<S: Shelf>(
     ensures command { IfOk result IsOfCommand }
     ensures stopped { IfErr result (λ stop. BreaksOff (run_scripts file.now settings scripts.now) (S.outside shelf.old) stop (S.outside shelf.new)) }
 {
-    match read_program(alloc, shelf, scripts)? {
+    match scripts_before(alloc, settings.bare)? {
+        Found::Accepted(before) => run_behind(alloc, shelf, settings, file, before, scripts),
+        Found::Refused(ending) => Ok(ending),
+    }
+}
+
+/// Runs scripts over the capture in a file, behind those that are read before.
+fn run_behind<S: Shelf>(
+    alloc: Global,
+    shelf: &mut S,
+    settings: Settings,
+    file: &[u8],
+    before: Sequence<(Bytes, Tree)>,
+    scripts: &[Word],
+) -> Result<Ending, Stop>
+    ensures done { IfOk result (λ ending. Fulfils (λ inputs. run_behind file.now settings scripts.now inputs (Found.Accepted before)) [] (S.outside shelf.old) ending (S.outside shelf.new)) }
+    ensures command { IfOk result IsOfCommand }
+    ensures stopped { IfErr result (λ stop. BreaksOff (λ inputs. run_behind file.now settings scripts.now inputs (Found.Accepted before)) (S.outside shelf.old) stop (S.outside shelf.new)) }
+{
+    match read_program(alloc, shelf, before, scripts)? {
         Found::Accepted(runnable) => run_program(alloc, shelf, settings, file, runnable),
         Found::Refused(ending) => Ok(ending),
     }

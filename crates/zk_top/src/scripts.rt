@@ -7,32 +7,55 @@ ghost use Rattle.zk_typed.specs.View.{program_of as plain_program};
 ghost use Rattle.zk_typed.specs.declared.refusal.Broken.{Broken};
 ghost use Rattle.zk_check.specs.Faults.{IsFirst};
 ghost use Rattle.zk_load.specs.Loads.{LoadsPart};
-ghost use Rattle.zk_top.specs.Compiling.{FindsCode, IsCodeOf, Runs, refusal_in};
+ghost use Rattle.zk_top.specs.Compiling.{FindsCode, IsCodeOf, Runs, program_by, refusal_in};
 ghost use Rattle.zk_top.specs.Printed.{handles};
-ghost use Rattle.zk_top.specs.Script.{judged, name_of, program_of, refused_at};
+ghost use Rattle.zk_top.specs.Script.{default_scripts, scripts_before, judged, name_of, program_of, refused_at};
 
 use crate::runnable::{Refusal, Runnable};
 use std::alloc::Global;
-use zk_base::{Bytes, Ending, Mem, ScriptKind, Shelf, Word};
+use zk_base::{Bytes, Ending, Mem, ScriptKind, Sequence, Shelf, Word};
 use zk_check::{CheckFault, check};
-use zk_load::{Found, Stop, load_scripts};
+use zk_load::{Found, Stop, load_scripts, read_texts};
 use zk_lower::lower;
 use zk_names::names;
+use zk_scripts::default_scripts;
 use zk_tree::Tree;
 use zk_typed::PACKET_SEEN;
 use zk_typed::script::{Handler, Program};
 
-/// Reads the scripts of these names and what they load, and finds the code of their program, or how a
+/// What is read before the scripts of a run: the default scripts, or nothing where they are left out.
+pub fn scripts_before(alloc: Global, bare: bool) -> Result<Found<Sequence<(Bytes, Tree)>>, Mem>
+    ensures { IfOk result (λ found. found ≡ scripts_before bare) }
+{
+    if bare {
+        Ok(Found::Accepted(Sequence::new(alloc)))
+    } else {
+        read_texts(alloc, default_scripts())
+    }
+}
+
+/// The code of the program of the default scripts, or how a run ends where there is none.
+pub fn default_program(alloc: Global) -> Result<Found<Runnable>, Mem>
+    ensures { IfOk result (λ found. IsCodeOf found (program_by default_scripts)) }
+{
+    match scripts_before(alloc, false)? {
+        Found::Accepted(scripts) => compile(alloc, scripts.as_slice()),
+        Found::Refused(ending) => Ok(Found::Refused(ending)),
+    }
+}
+
+/// Reads the scripts of these names and what they load, behind those that are read before, and finds the code of their program, or how a
 /// run ends where there is none.
 pub fn read_program<S: Shelf>(
     alloc: Global,
     shelf: &mut S,
+    before: Sequence<(Bytes, Tree)>,
     scripts: &[Word],
 ) -> Result<Found<Runnable>, Stop>
-    ensures found { IfOk result (λ found. FindsCode scripts.now (S.outside shelf.old) found (S.outside shelf.new)) }
-    ensures stopped { IfErr result (λ stop. LoadsPart scripts.now (S.outside shelf.old) stop (S.outside shelf.new)) }
+    ensures found { IfOk result (λ found. FindsCode before scripts.now (S.outside shelf.old) found (S.outside shelf.new)) }
+    ensures stopped { IfErr result (λ stop. LoadsPart before scripts.now (S.outside shelf.old) stop (S.outside shelf.new)) }
 {
-    match load_scripts(alloc, shelf, scripts)? {
+    match load_scripts(alloc, shelf, before, scripts)? {
         Found::Accepted(read) => Ok(compile(alloc, read.as_slice())?),
         Found::Refused(ending) => Ok(Found::Refused(ending)),
     }

@@ -4,7 +4,7 @@ use std::test::Fail;
 use zk_base::{Bytes, Ending, Mem, MemShelf, SureShelf, Word};
 
 /// The header of a little-endian microsecond capture of Ethernet frames.
-const HEADER: [u8; 24] = [
+pub const HEADER: [u8; 24] = [
     0xd4, 0xc3, 0xb2, 0xa1, 2, 0, 4, 0, 0, 0, 0, 0, 0, 0, 0, 0, 0, 0, 4, 0, 1, 0, 0, 0,
 ];
 
@@ -64,7 +64,7 @@ const RUN: &[u8] = b"run -b -r c.pcap s.zeek";
 
 /// A command line, the bytes of `c.pcap`, the text of `s.zeek`, the status, and what is said and
 /// complained.
-const ROWS: [(&[u8], &[u8], &[u8], u8, &[u8], &[u8]); 39] = [
+const ROWS: [(&[u8], &[u8], &[u8], u8, &[u8], &[u8]); 43] = [
     (b"list c.pcap", &HEADER, b"", 0, b"", b""),
     (
         b"list c.pcap",
@@ -293,14 +293,40 @@ const ROWS: [(&[u8], &[u8], &[u8], u8, &[u8], &[u8]); 39] = [
         b"",
         b"zeekoff: c.pcap refused at byte 0\n",
     ),
-    // The default scripts have to be left out.
+    // The default scripts say nothing, and a capture without connections makes no log. They are loaded first.
+    (b"run -r c.pcap s.zeek", &HEADER, b"", 0, b"", b""),
     (
         b"run -r c.pcap s.zeek",
         &HEADER,
+        b"module Conn; type Info: record { n: count; };",
+        2,
         b"",
-        1,
+        b"zeekoff: s.zeek, byte 13: Twice\n",
+    ),
+    // Their names count as read, and other scripts under `base/` are files.
+    (
+        b"run -r c.pcap base/dns.zeek base/x.zeek",
+        &HEADER,
         b"",
-        b"zeekoff: word 4 is not understood\n",
+        9,
+        b"",
+        b"zeekoff: no file base/x.zeek\n",
+    ),
+    (
+        b"run -b -r c.pcap base/dns.zeek",
+        &HEADER,
+        b"",
+        9,
+        b"",
+        b"zeekoff: no file base/dns.zeek\n",
+    ),
+    (
+        b"run -r c -C",
+        &HEADER,
+        b"",
+        9,
+        b"",
+        b"zeekoff: no file c\n",
     ),
     (
         b"run -r",

@@ -1,8 +1,13 @@
 use Rattle.std.proofs.Common.{[], IfOk, IfErr, sym, subst}
+use Rattle.zk_top.specs.Command.{command_seen}
 use Rattle.zk_top.specs.Outcome.{outcome_of}
 use Rattle.zk_top.specs.Parts.{BreaksOff, Fulfils}
+use Rattle.zk_top.proofs.CommandLaws.{understood}
 use Rattle.zk_top.proofs.EntryLemmas.{not_understood}
 use Rattle.zk_top.proofs.entry.carry_out.Goals as goal
+
+pub perform-requires : goal.perform-requires
+perform-requires g c = understood c.args.words.now (command_seen c.in-Ok.command) c.in-Ok.ensures
 
 pub returns-in-Ok-clause-stopped : goal.returns-in-Ok-clause-stopped
 returns-in-Ok-clause-stopped g c =

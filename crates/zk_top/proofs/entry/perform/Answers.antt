@@ -11,3 +11,6 @@ returns-in-List-clause-stopped g c = rw c.in-List.is c.list.ensures.stopped
 
 pub returns-in-Run-clause-done : goal.returns-in-Run-clause-done
 returns-in-Run-clause-done g c = rw c.in-Run.is c.run_scripts.ensures.done
+
+pub returns-in-Generate-clause-stopped : goal.returns-in-Generate-clause-stopped
+returns-in-Generate-clause-stopped g c = rw c.in-Generate.is c.generate.ensures.stopped

@@ -1,11 +1,9 @@
-use Rattle.std.proofs.Common.{◌≡◌, ◌≤◌, ◌<◌, ℕ, List, [], ◌∷◌, ◌++◌, true, false, Option, refl, sym, ap, subst, arith, ◌∙◌}
+use Rattle.std.proofs.Common.{[], ◌∷◌, ◌++◌, false, refl, sym, subst, arith}
 use Rattle.std.proofs.lemmas.Result.{err_from_is_err_and, IfErr-weaker}
-use Rattle.zk_pcap.specs.declared.headers.Header.{Header}
 use Rattle.zk_pcap.specs.View.{packet_of}
 use Rattle.zk_load.specs.declared.stop.Stop.TheVariants.{NoMemory}
 use Rattle.zk_top.specs.Line.{capture_lines, lines_of, list_options}
-use Rattle.zk_top.specs.Listing.{HasListed, HasListedAll}
-use Rattle.zk_load.specs.Parts.{DoesAll, DoesPart}
+use Rattle.zk_top.specs.Listing.{HasListed}
 use Rattle.zk_top.proofs.CaptureReading.{reading_on, read_capture, says_part, says_part_next, same_place, later_place}
 use Rattle.zk_load.proofs.Doing.{out_of_memory, does_part_of, prefix_all}
 use Rattle.zk_top.proofs.ItemLemmas.{no_items}

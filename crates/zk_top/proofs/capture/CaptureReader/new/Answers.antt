@@ -16,4 +16,4 @@ returns c whole now read =
     ap (λ rest. take 24 bytes ++ rest) (take_all (length bytes - 24) (drop 24 bytes) (omega (arith, length-drop 24 bytes))) ∙ take-append-drop 24 bytes in
     let short : length (take 24 bytes ++ piece) < 2 ^ 64 = omega (arith, ap length join, c.requires.short) in
     let stands = subst (λ file. StandsFor c.push.new.self c.args.header file []) join (c.in_ok-push.ensures.ok c.args.header (take 24 bytes) [] front short) in
-    reading_begins whole c.args.header bytes _ now c.requires.header refl read stands (omega (arith, c.requires.short)) refl
+    reading_begins whole c.args.header bytes _ now c.requires.header refl read stands (omega (arith, c.requires.short)) refl refl

@@ -14,6 +14,6 @@ returns-clause-goes_on g c whole header bytes packets is =
     let short : length (bytes ++ piece) < 2 ^ 64 = omega (arith, length-append bytes piece, size, is.counted, c.in_ok-n.ensures.most) in (
       bytes ++ piece,
       reading_more whole header bytes piece packets c.args.self.now _ (g.S.Shelf.outside c.args.shelf.now) (g.S.Shelf.outside c.read_some.new.shelf) is
-          (c.in_ok-n.ensures.given whole bytes is.read) (c.in_ok-push.ensures.ok header bytes packets is.stands short) refl (omega (arith, size, c.in_ok-n.ensures.most))
+          (c.in_ok-n.ensures.given whole bytes is.read) (c.in_ok-push.ensures.ok header bytes packets is.stands short) refl refl (omega (arith, size, c.in_ok-n.ensures.most))
           (λ out. elim (c.in_ok-n.ensures.ended (is_none n out)) [ inl none ↦ inl (omega (arith, none)) | inr over ↦ inr over ]),
     )

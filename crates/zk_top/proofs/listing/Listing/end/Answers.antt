@@ -1,11 +1,7 @@
-use Rattle.std.proofs.Common.{ℕ, [], true, false, List, refl, sym, subst, ◌∙◌}
+use Rattle.std.proofs.Common.{[], true, false, subst}
 use Rattle.std.proofs.lemmas.Result.{err_from_is_err_and, IfErr-weaker, on_ok_weaker}
-use Rattle.zk_pcap.specs.declared.records.Packet.{Packet}
-use Rattle.zk_base.specs.Shelf.{Outside}
 use Rattle.zk_top.specs.Line.{capture_lines, lines_of, list_options}
-use Rattle.zk_top.specs.Listing.{HasListed, HasListedAll}
 use Rattle.zk_load.specs.Parts.{DoesAll, DoesPart}
-use Rattle.zk_top.specs.declared.listing.Listing.{Listing}
 use Rattle.zk_load.proofs.Doing.{prefix_all}
 use Rattle.zk_top.proofs.ItemLemmas.{items_end}
 use Rattle.zk_top.proofs.ListingLemmas.{lines_prefix}

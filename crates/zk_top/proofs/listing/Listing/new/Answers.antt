@@ -1,7 +1,6 @@
-use Rattle.std.proofs.Common.{[], refl, sym, subst}
+use Rattle.std.proofs.Common.{[], sym, subst}
 use Rattle.zk_top.specs.Line.{list_options}
 use Rattle.zk_top.specs.Listing.{HasSaid}
-use Rattle.zk_top.proofs.ItemLemmas.{no_items}
 use Rattle.zk_load.proofs.Doing.{prefix_none}
 use Rattle.zk_top.proofs.Said.{said_nothing}
 use Rattle.zk_traffic.specs.Items.{items_of}

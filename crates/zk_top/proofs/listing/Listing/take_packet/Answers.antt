@@ -1,9 +1,7 @@
-use Rattle.std.proofs.Common.{[], ◌∷◌, ◌++◌, false, List, refl, sym, subst, ◌∙◌}
+use Rattle.std.proofs.Common.{[], ◌∷◌, ◌++◌, false}
 use Rattle.std.proofs.lemmas.Result.{err_from_is_err_and, on_ok_weaker, IfErr-weaker}
-use Rattle.zk_base.specs.Shelf.{Outside}
 use Rattle.zk_pcap.specs.View.{packet_of}
 use Rattle.zk_top.specs.Line.{lines_of, list_options}
-use Rattle.zk_top.specs.Listing.{HasListed}
 use Rattle.zk_top.proofs.ItemLemmas.{items_begin, bounded_moment}
 use Rattle.zk_top.proofs.ListingLemmas.{lines_prefix}
 use Rattle.zk_top.proofs.Said.{memory_after}

@@ -4,7 +4,7 @@ use Rattle.zk_events.specs.Run.{Begun, Ended, progress_at}
 use Rattle.zk_typed.specs.Running.{world_in}
 use Rattle.zk_load.specs.declared.stop.Stop.TheVariants.{NoMemory}
 use Rattle.zk_top.specs.Replay.{output_at}
-use Rattle.zk_top.specs.Writing.{GivesSome}
+use Rattle.zk_top.specs.Sink.{TakesSome}
 use Rattle.zk_top.proofs.Playing.{stays_begins, memory_in_play}
 use Rattle.zk_top.proofs.player.Player.finish.Goals as goal
 
@@ -14,7 +14,7 @@ returns-in_err-end-clause-stopped g c =
     let last = c.args.last in
     let p = err_from_is_err_and c.from_residual.result c.from_residual.ensures.1 in
     rw (p.1, p.2) (λ first program budget items plays.
-    subst (λ xs. GivesSome (output_at program budget (Ended xs last)) first NoMemory now) (append-nil items)
+    subst (λ xs. TakesSome (output_at program budget (Ended xs last)) first NoMemory now) (append-nil items)
     (memory_in_play first program budget (Begun items) (Ended (items ++ []) last) c.args.self.now now plays
     (stays_begins (world_in (progress_at program budget (Begun items))) (world_in (progress_at program budget (Ended (items ++ []) last))) (c.lines_stay.ensures.end program budget items [] last))))
 

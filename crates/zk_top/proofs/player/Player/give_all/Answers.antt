@@ -4,7 +4,8 @@ use Rattle.zk_machine.specs.Standing.{with_out}
 use Rattle.zk_events.specs.Run.{progress_at}
 use Rattle.zk_typed.specs.Running.{world_in}
 use Rattle.zk_top.specs.Replay.{output_at}
-use Rattle.zk_top.specs.Writing.{Begins, HasGiven, and_out, output_of}
+use Rattle.zk_top.specs.Sink.{HasTaken}
+use Rattle.zk_top.specs.Writing.{Begins, and_out, output_of}
 use Rattle.zk_top.proofs.Giving.{some_further}
 use Rattle.zk_top.proofs.Playing.{given_begins, told_more, told_same}
 use Rattle.zk_top.proofs.player.Player.give_all.Goals as goal
@@ -19,7 +20,7 @@ returns-in_err-give-clause-stopped g c =
     let stands = c.in-Some.ensures.some program budget stage more far.engine in
     let begins : Begins (and_out (output_of more) out) (output_at program budget stage) =
     subst (λ output. Begins output (output_at program budget stage)) (told_more more out) (given_begins program budget stage (with_out more out) (c.lines_given.ensures _ program budget stage (with_out more out) stands)) in
-    some_further first (and_out (output_of more) out) (output_at program budget stage) c.in_err-give.field-0.0 new begins (c.in_err-give.ensures.stopped first (output_of more) far.given))
+    some_further first.outside (and_out (output_of more) out) (output_at program budget stage) c.in_err-give.field-0.0 new begins (c.in_err-give.ensures.stopped first (output_of more) far.given))
 
 pub outs-preserved : goal.outs-preserved
 outs-preserved g c =
@@ -31,7 +32,7 @@ outs-preserved g c =
             with_out more out,
             record {
               engine = c.in-Some.ensures.some program budget stage more far.engine;
-              given = subst (λ output. HasGiven first output c.give.new.self new) (sym (told_more more out)) (c.in_ok-give.ensures.given first (output_of more) far.given);
+              given = subst (λ output. HasTaken first output c.give.new.self new) (sym (told_more more out)) (c.in_ok-give.ensures.taken first (output_of more) far.given);
             },
           );
       ready = c.in_ok-give.ensures.ready;

@@ -3,8 +3,8 @@ use Rattle.zk_machine.specs.Standing.{nothing}
 use Rattle.zk_top.proofs.player.Player.new.Goals as goal
 
 pub returns-clause-plays : goal.returns-clause-plays
-returns-clause-plays c first program is = record {
+returns-clause-plays c first program now is taken = record {
   told = nothing;
-  gives = record { engine = c.in_ok-new.ensures program is; given = c.in_ok-new-2.ensures.given first };
+  gives = record { engine = c.in_ok-new.ensures program is; given = taken };
   all = refl;
 }

@@ -1,4 +1,4 @@
-use Rattle.std.proofs.Common.{[], refl}
+use Rattle.std.proofs.Common.{[]}
 use Rattle.std.proofs.lemmas.Result.{err_from_is_err_and}
 use Rattle.zk_events.specs.Run.{New, Begun}
 use Rattle.zk_top.proofs.Playing.{given_at_first, memory_in_play}

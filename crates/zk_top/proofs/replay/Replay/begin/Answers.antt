@@ -1,4 +1,3 @@
-use Rattle.std.proofs.Common.{[], false, refl, sym, subst}
 use Rattle.std.proofs.lemmas.Result.{IfErr-weaker}
 use Rattle.zk_top.proofs.Replaying.{begun_after}
 use Rattle.zk_top.proofs.replay.Replay.begin.Goals as goal

@@ -1,4 +1,4 @@
-use Rattle.std.proofs.Common.{true, refl, ◌∙◌, sym, ap}
+use Rattle.std.proofs.Common.{true, sym, ap}
 use Rattle.std.proofs.lemmas.Result.{err_from_is_err_and}
 use Rattle.zk_top.specs.Replay.{items_in}
 use Rattle.zk_top.proofs.Replaying.{came_by, finished_over}

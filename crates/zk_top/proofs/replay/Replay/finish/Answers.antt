@@ -1,10 +1,9 @@
-use Rattle.std.proofs.Common.{[], true, false, refl, subst, ◌∙◌}
+use Rattle.std.proofs.Common.{true, false, subst}
 use Rattle.std.proofs.lemmas.Result.{err_from_is_err_and, IfOk-weaker, IfErr-weaker}
-use Rattle.zk_events.specs.declared.engine.ItemEnd.TheVariants.{Done}
 use Rattle.zk_events.specs.Run.{Begun, Ended}
 use Rattle.zk_top.specs.Replay.{After, items_in, output_at}
 use Rattle.zk_top.proofs.ItemLemmas.{items_end}
-use Rattle.zk_top.proofs.Giving.{given_without_memory}
+use Rattle.zk_top.proofs.Taking.{taken_without_memory}
 use Rattle.zk_top.proofs.Replaying.{comes_given, given_to_end, part_to_end, flood_over}
 use Rattle.zk_load.proofs.Doing.{prefix_all}
 use Rattle.zk_top.proofs.replay.Replay.finish.Goals as goal
@@ -16,7 +15,7 @@ returns-in_err-end-clause-stopped g c =
     rw (p.1, p.2) (λ first plan packets played.
     let given = items_in plan packets false in
     let all = items_in plan packets true in
-    given_without_memory first (output_at plan.program plan.budget (Begun given)) (output_at plan.program plan.budget (Ended all c.args.last)) c.args.self.now.player.writer old
+    taken_without_memory first (output_at plan.program plan.budget (Begun given)) (output_at plan.program plan.budget (Ended all c.args.last)) c.args.self.now.player.sink old
     (comes_given first plan packets given false c.args.self.now old played)
     (given_to_end c.lines_stay.ensures.end plan.program plan.budget given all c.args.last (items_end c.items_stay.ensures plan.options plan.link packets)))
 

@@ -1,10 +1,9 @@
-use Rattle.std.proofs.Common.{[], true, false, refl, sym, subst, ◌∙◌}
+use Rattle.std.proofs.Common.{[], true, false, sym, subst}
 use Rattle.std.proofs.lemmas.Result.{err_from_is_err_and, IfOk-weaker, IfErr-weaker}
-use Rattle.zk_events.specs.declared.engine.ItemEnd.TheVariants.{Done}
 use Rattle.zk_load.specs.Parts.{IsPrefix}
 use Rattle.zk_load.proofs.Doing.{prefix_none}
 use Rattle.zk_top.specs.Replay.{After, HasFlooded, items_in, output_over}
-use Rattle.zk_top.specs.Writing.{GivesSome}
+use Rattle.zk_top.specs.Sink.{TakesSome}
 use Rattle.zk_top.proofs.CaptureReading.{reading_on, capture_begun, over_capture_begun}
 use Rattle.zk_top.proofs.ItemLemmas.{items_begin}
 use Rattle.zk_top.proofs.Replaying.{part_to_end, flood_further, flooded_run}
@@ -17,7 +16,7 @@ returns-in_err-begin-clause-stopped g c =
     let stop = c.in_err-begin.field-0.0 in
     let p = err_from_is_err_and c.from_residual.result c.from_residual.ensures.1 in
     rw (p.1, p.2) (λ first plan whole header bytes comes is.
-    over_capture_begun whole header bytes [] c.args.reader.now old (λ ps. GivesSome (output_over plan ps) first stop new) is (λ others.
+    over_capture_begun whole header bytes [] c.args.reader.now old (λ ps. TakesSome (output_over plan ps) first stop new) is (λ others.
     part_to_end c.lines_stay.ensures.end plan.program plan.budget [] (items_in plan others true) _ first stop new
     (prefix_none (items_in plan others true)) (c.in_err-begin.ensures.stopped first plan comes)))
 

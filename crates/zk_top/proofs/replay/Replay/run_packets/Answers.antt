@@ -1,6 +1,6 @@
-use Rattle.std.proofs.Common.{[], true, false, subst, sym}
-use Rattle.std.proofs.lemmas.Result.{err_from_is_err_and, IfOk-weaker, IfErr-weaker}
-use Rattle.zk_top.specs.Replay.{HasCome, IsThrough, IsFlooded}
+use Rattle.std.proofs.Common.{subst}
+use Rattle.std.proofs.lemmas.Result.{IfOk-weaker, IfErr-weaker}
+use Rattle.zk_top.specs.Replay.{HasCome, IsFlooded}
 use Rattle.zk_top.proofs.Replaying.{flooded_run, part_through, run_finished}
 use Rattle.zk_top.proofs.replay.Replay.run_packets.Goals as goal
 

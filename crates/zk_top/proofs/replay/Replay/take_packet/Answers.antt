@@ -2,9 +2,9 @@ use Rattle.std.proofs.Common.{[], ◌∷◌, ◌++◌, false}
 use Rattle.std.proofs.lemmas.Result.{err_from_is_err_and, IfOk-weaker, IfErr-weaker}
 use Rattle.zk_events.specs.Run.{Begun}
 use Rattle.zk_pcap.specs.View.{packet_of}
-use Rattle.zk_top.specs.Replay.{Comes, items_in, output_at}
+use Rattle.zk_top.specs.Replay.{items_in, output_at}
 use Rattle.zk_top.proofs.ItemLemmas.{items_begin, bounded_moment}
-use Rattle.zk_top.proofs.Giving.{given_without_memory}
+use Rattle.zk_top.proofs.Taking.{taken_without_memory}
 use Rattle.zk_top.proofs.Replaying.{comes_given, given_further}
 use Rattle.zk_top.proofs.replay.Replay.take_packet.Goals as goal
 
@@ -23,7 +23,7 @@ returns-in_err-packet-clause-stopped g c =
     rw (p.1, p.2) (λ first plan packets played.
     let given = items_in plan packets false in
     let all = items_in plan (packets ++ packet ∷ []) false in
-    given_without_memory first (output_at plan.program plan.budget (Begun given)) (output_at plan.program plan.budget (Begun all)) c.args.self.now.player.writer old
+    taken_without_memory first (output_at plan.program plan.budget (Begun given)) (output_at plan.program plan.budget (Begun all)) c.args.self.now.player.sink old
     (comes_given first plan packets given false c.args.self.now old played)
     (given_further c.lines_stay.ensures.items plan.program plan.budget given all (items_begin c.items_stay.ensures plan.options plan.link packets (packet ∷ []) false)))
 

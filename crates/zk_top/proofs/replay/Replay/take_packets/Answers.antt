@@ -1,12 +1,12 @@
-use Rattle.std.proofs.Common.{◌≡◌, [], ◌∷◌, ◌++◌, false, true, refl, sym, subst, ◌∙◌, arith}
+use Rattle.std.proofs.Common.{[], ◌∷◌, ◌++◌, false, true, refl, sym, subst, arith}
 use Rattle.std.proofs.lemmas.Result.{err_from_is_err_and}
 use Rattle.zk_events.specs.Run.{Begun}
 use Rattle.zk_pcap.specs.View.{packet_of}
 use Rattle.zk_load.specs.Parts.{IsPrefix}
 use Rattle.zk_top.specs.Replay.{After, HasFlooded, HasPlayed, items_in, output_at, output_over}
-use Rattle.zk_top.specs.Writing.{GivesSome}
+use Rattle.zk_top.specs.Sink.{TakesSome}
 use Rattle.zk_top.proofs.CaptureReading.{reading_on, capture_begun_next, over_capture_begun, over_capture_next, same_place, later_place}
-use Rattle.zk_top.proofs.Giving.{given_and_stopped, ready_on}
+use Rattle.zk_top.proofs.Taking.{taken_and_stopped, can_take_on}
 use Rattle.zk_top.proofs.ItemLemmas.{items_begin, next_now}
 use Rattle.zk_top.proofs.Replaying.{comes_given, given_to_end, part_to_end, plays_on, flood_further, no_flood}
 use Rattle.zk_top.proofs.replay.Replay.take_packets.Goals as goal
@@ -27,15 +27,15 @@ returns-in_err-fill-clause-stopped g c =
     rw (p.1, p.2) (λ first plan whole header bytes played is.
     let (longer, packets, reading, time, goes) = c.packets.invariant.goes_on whole header bytes is in
     let given = items_in plan packets false in
-    over_capture_begun whole header longer packets c.packets.reader old (λ ps. GivesSome (output_over plan ps) first stop new) reading (λ others.
-    given_and_stopped first (output_at plan.program plan.budget (Begun given)) (output_over plan (packets ++ others)) c.packets.self.player.writer old stop new
+    over_capture_begun whole header longer packets c.packets.reader old (λ ps. TakesSome (output_over plan ps) first stop new) reading (λ others.
+    taken_and_stopped first (output_at plan.program plan.budget (Begun given)) (output_over plan (packets ++ others)) c.packets.self.player.sink old stop new
     (comes_given first plan packets given false c.packets.self old (goes first plan played))
     (given_to_end c.lines_stay.ensures.end plan.program plan.budget given (items_in plan (packets ++ others) true) _
     (items_begin c.items_stay.ensures plan.options plan.link packets others true)) c.in_err-fill.ensures.stopped))
 
 pub take_packet-requires : goal.take_packet-requires
 take_packet-requires g c = record {
-  ready = ready_on c.packets.self.player.writer (g.S.Shelf.outside c.packets.shelf) (g.S.Shelf.outside c.fill.new.shelf) c.in_ok-fill.ensures.read.all.does.outputs_stay c.packets.invariant.ready;
+  ready = can_take_on c.packets.self.player.sink (g.S.Shelf.outside c.packets.shelf) (g.S.Shelf.outside c.fill.new.shelf) c.in_ok-fill.ensures.read.all.does.outputs_stay c.packets.invariant.ready;
   bounded = c.packet-packet.ensures.limits;
 }
 
@@ -55,7 +55,7 @@ returns-in_err-end-clause-stopped g c =
     let given = items_in plan packets false in
     let here : HasPlayed first plan packets false c.packets.self mid = plays_on first plan packets given false (Begun given) c.packets.self old mid (goes first plan played) c.in_ok-fill.ensures.read in
     let more = packets ++ packet ∷ [] in
-    over_capture_next whole header further packets packet c.fill.new.self mid (λ ps. GivesSome (output_over plan ps) first stop new) filled at (λ others.
+    over_capture_next whole header further packets packet c.fill.new.self mid (λ ps. TakesSome (output_over plan ps) first stop new) filled at (λ others.
     part_to_end c.lines_stay.ensures.end plan.program plan.budget (items_in plan more false) (items_in plan (more ++ others) true) _ first stop new
     (items_begin c.items_stay.ensures plan.options plan.link more others true) (c.in_err-end.ensures.stopped first plan packets here)))
 
@@ -142,4 +142,4 @@ returns-clause-came g c first plan whole header bytes played is =
 
 pub returns-clause-ready : goal.returns-clause-ready
 returns-clause-ready g c =
-    ready_on c.packets.self.player.writer (g.S.Shelf.outside c.packets.shelf) (g.S.Shelf.outside c.fill.new.shelf) c.in_ok-fill.ensures.read.all.does.outputs_stay c.packets.invariant.ready
+    can_take_on c.packets.self.player.sink (g.S.Shelf.outside c.packets.shelf) (g.S.Shelf.outside c.fill.new.shelf) c.in_ok-fill.ensures.read.all.does.outputs_stay c.packets.invariant.ready

@@ -1,22 +1,22 @@
-use Rattle.std.proofs.Common.{◌≡◌, ◌+◌, ◌-◌, ◌^◌, ℕ, List, [], false, Option}
+use Rattle.std.proofs.Common.{◌≡◌, ◌-◌, ◌^◌, ℕ, List, [], false, Option}
 use Rattle.zk_base.specs.Shelf.{Outside}
 use Rattle.zk_pcap.specs.declared.headers.Header.{Header}
 use Rattle.zk_pcap.specs.declared.records.Packet.{Packet}
 use Rattle.zk_pcap.specs.NetworkTime.{now as network_time}
 use Rattle.zk_top.specs.Reading.{IsReading, IsUnderWay}
 use Rattle.zk_top.specs.Replay.{HasPlayed, Plan}
-use Rattle.zk_top.specs.Writing.{IsReady}
+use Rattle.zk_top.specs.Sink.{Beginning, CanTake}
 use Rattle.zk_top.proofs.replay.Replay.take_packets.Given as goal
 
 -- the packets so far were played
 abbrev pub invariant-packets : goal.invariant-packets
 invariant-packets g l = record {
   under_way : IsUnderWay l.reader (g.S.Shelf.outside l.shelf);
-  ready : IsReady l.self.player.writer (g.S.Shelf.outside l.shelf);
+  ready : CanTake l.self.player.sink (g.S.Shelf.outside l.shelf);
   goes_on : (whole : Option (List ℕ)) (header : Header) (bytes : List ℕ) → IsReading whole header bytes [] l.initial.reader (g.S.Shelf.outside l.initial.shelf)
       → (longer : List ℕ) × (packets : List Packet) × IsReading whole header longer packets l.reader (g.S.Shelf.outside l.shelf)
       × (l.last ≡ network_time packets)
-      × ((first : Outside) (plan : Plan) → HasPlayed first plan [] false l.initial.self (g.S.Shelf.outside l.initial.shelf) → HasPlayed first plan packets false l.self (g.S.Shelf.outside l.shelf));
+      × ((first : Beginning) (plan : Plan) → HasPlayed first plan [] false l.initial.self (g.S.Shelf.outside l.initial.shelf) → HasPlayed first plan packets false l.self (g.S.Shelf.outside l.shelf));
 }
 
 -- each turn goes behind a packet

@@ -1,4 +1,4 @@
-use Rattle.std.proofs.Common.{◌≡◌, sym, subst, ◌∙◌, [], OnOk, IfErr}
+use Rattle.std.proofs.Common.{sym, subst, [], OnOk, IfErr}
 use Rattle.std.proofs.lemmas.Result.{err_from_is_err_and}
 use Rattle.zk_base.specs.Shelf.{Outside}
 use Rattle.zk_logs.specs.Logs.{log_files}

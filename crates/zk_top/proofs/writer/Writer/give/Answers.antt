@@ -1,4 +1,4 @@
-use Rattle.std.proofs.Common.{◌≡◌, ◌++◌, refl, sym, subst, OnOk, IfErr}
+use Rattle.std.proofs.Common.{◌++◌, refl, sym, subst, OnOk, IfErr}
 use Rattle.zk_value.specs.declared.out.Out.TheVariants as out
 use Rattle.zk_base.specs.Shelf.{Outside}
 use Rattle.zk_top.specs.Line.{line_end}

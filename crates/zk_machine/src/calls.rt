@@ -18,7 +18,6 @@ use crate::frames::{Awaits, Flow, Frame};
 use crate::halt::Halt;
 use crate::objects::UNFIT;
 use crate::running::{Running, behind, cut};
-use crate::state::{handle, handles};
 use std::alloc::Global;
 use std::mem;
 use zk_base::{HookNo, Mem};
@@ -36,7 +35,10 @@ pub fn params(alloc: Global, values: &[Value]) -> Result<Vec<Option<Value>>, Mem
 {
     let mut names = Vec::new(alloc);
     for value in values {
-        names.push(Some(handle(value)?))?;
+        match value {
+            Value::Count(count) => names.push(Some(Value::Count(*count)))?,
+            _ => names.push(Some(value.clone()?))?,
+        }
     }
     Ok(names)
 }

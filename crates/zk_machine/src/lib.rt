@@ -5,6 +5,7 @@ mod agenda;
 mod called;
 mod calls;
 mod copies;
+mod counts;
 mod defaults;
 mod due;
 mod ends;

@@ -9,6 +9,7 @@ ghost use Rattle.zk_value.specs.Plain.{value_of, key_of};
 ghost use Rattle.zk_machine.specs.Comes.{Comes};
 ghost use Rattle.zk_machine.specs.State.{state_of};
 
+use crate::counts::counted;
 use crate::halt::Halt;
 use crate::objects::UNFIT;
 use crate::queued::Queued;
@@ -40,11 +41,15 @@ impl State {
     }
 
     /// An operator that computes (Zeek manual, Operators).
-    fn binary(&self, operator: Binary, operands: &[Value]) -> Result<Value, Halt>
+    #[inline(never)]
+    pub fn binary(&self, operator: Binary, operands: &[Value]) -> Result<Value, Halt>
         ensures { (place : At) → Comes value_of place result (meant.perform place (primitive.Binary operator) (key_of operands.now) (state_of self.now)) (state_of self.now) }
     {
         match operands {
-            [a, b] => Ok(binary(self.world.alloc, operator, a, b)?),
+            [a, b] => match counted(operator, a, b) {
+                Some(count) => Ok(Value::Count(count)),
+                None => Ok(binary(self.world.alloc, operator, a, b)?),
+            },
             [] | [_] | [_, _, _, ..] => Err(UNFIT),
         }
     }

@@ -5,6 +5,7 @@ ghost use Rattle.zk_tree.specs.declared.place.Place.{Place as At};
 ghost use Rattle.zk_typed.specs.Does as does;
 ghost use Rattle.zk_typed.specs.Primitives.{perform, act};
 ghost use Rattle.zk_typed.specs.State as typed;
+ghost use Rattle.zk_typed.specs.declared.script.action.Left.TheVariants as left;
 ghost use Rattle.zk_typed.specs.declared.script.primitive.Primitive.TheVariants as primitive;
 ghost use Rattle.zk_tree.specs.Value as plain;
 ghost use Rattle.zk_value.specs.Plain.{value_of};
@@ -12,13 +13,14 @@ ghost use Rattle.zk_machine.specs.Comes.{Comes};
 ghost use Rattle.zk_machine.specs.Running.{held_of, machine_of, Moves};
 ghost use Rattle.zk_machine.specs.State.{state_of};
 
+use crate::counts::stepped_count;
 use crate::frames::{Frame, Loop};
 use crate::halt::Halt;
 use crate::objects::UNFIT;
 use crate::primitives::compared;
 use crate::state::{State, named};
 use zk_base::Mem;
-use zk_typed::script::{Action, Primitive, Relation};
+use zk_typed::script::{Action, Direction, Left, Primitive, Relation};
 use zk_value::Value;
 
 /// What code runs with: where it is, the operands, loops and waiting bodies, the innermost one last, and the
@@ -118,6 +120,7 @@ impl Running {
     {
         match primitive {
             Primitive::Compare(relation) => self.compare(*relation, count),
+            Primitive::Step { left, by } => self.step_side(*left, *by, count),
             _ => self.perform(primitive, count),
         }
     }
@@ -130,6 +133,36 @@ impl Running {
         cut(&mut self.stack, count);
         self.push(value)?;
         Ok(())
+    }
+
+    /// `++x` or `--x`, whose new value is pushed (Zeek manual, Operators).
+    fn step_side(&mut self, side: Left, by: Direction, count: usize) -> Result<(), Halt>
+        ensures { (place : At) → Moves place result (steps.by (perform place (primitive.Step side by) (steps.operands count (held_of self.old)) (state_of self.old.state)) (steps.push self.old.at (steps.without count (held_of self.old)))) (machine_of self.new) }
+    {
+        match side {
+            Left::Local(number) => self.step_local(number, by, count),
+            _ => self.perform(&Primitive::Step { left: side, by }, count),
+        }
+    }
+
+    /// `++x` or `--x` of a local, whose new value is pushed.
+    fn step_local(&mut self, number: u32, by: Direction, count: usize) -> Result<(), Halt>
+        ensures { (place : At) → Moves place result (steps.by (perform place (primitive.Step (left.Local number) by) (steps.operands count (held_of self.old)) (state_of self.old.state)) (steps.push self.old.at (steps.without count (held_of self.old)))) (machine_of self.new) }
+    {
+        let left = Left::Local(number);
+        if count > 0 {
+            return self.perform(&Primitive::Step { left, by }, count);
+        }
+        let before = named(&self.state.locals, number)?;
+        match stepped_count(by, before) {
+            Some(after) => {
+                self.state.set_count(number, after);
+                self.stack.push(Value::Count(after))?;
+                self.advance()?;
+                Ok(())
+            }
+            None => self.perform(&Primitive::Step { left, by }, count),
+        }
     }
 
     /// Pushes whether a relation holds between the last operands, so many of them.

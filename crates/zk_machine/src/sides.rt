@@ -10,9 +10,10 @@ ghost use Rattle.zk_value.specs.Plain.{value_of, key_of};
 ghost use Rattle.zk_machine.specs.Comes.{Comes};
 ghost use Rattle.zk_machine.specs.State.{state_of};
 
+use crate::counts::counted;
 use crate::halt::Halt;
 use crate::objects::UNFIT;
-use crate::state::{State, handle, named};
+use crate::state::{State, named};
 use zk_builtin::stepped;
 use zk_typed::script::{Binary, Direction, Left};
 use zk_value::Value;
@@ -72,7 +73,7 @@ impl State {
         ensures { (place : At) → Comes (λ _. tt) place result (primitive.act place (action.Assign (left.Local number)) (value_of value.now ∷ []) (state_of self.old)) (state_of self.new) }
     {
         match value {
-            Value::Count(count) => self.set_local(number, Some(Value::Count(*count))),
+            Value::Count(count) => self.set_count(number, *count),
             _ => self.set_local(number, Some(value.clone()?)),
         }
         Ok(())
@@ -82,32 +83,10 @@ impl State {
     pub fn step(&mut self, side: Left, by: Direction, operands: &[Value]) -> Result<Value, Halt>
         ensures { (place : At) → Comes value_of place result (primitive.perform place (one.Step side by) (key_of operands.now) (state_of self.old)) (state_of self.new) }
     {
-        match (side, operands) {
-            (Left::Local(number), []) => self.step_local(number, by),
-            _ => {
-                let before = self.left_value(side, operands)?;
-                let after = stepped(by, &before)?;
-                self.assign(side, operands, after.clone()?)?;
-                Ok(after)
-            }
-        }
-    }
-
-    /// `++x` or `--x` of a local.
-    fn step_local(&mut self, number: u32, by: Direction) -> Result<Value, Halt>
-        ensures { (place : At) → Comes value_of place result (primitive.perform place (one.Step (left.Local number) by) [] (state_of self.old)) (state_of self.new) }
-    {
-        let after = stepped(by, named(&self.locals, number)?)?;
-        match after {
-            Value::Count(count) => {
-                self.set_local(number, Some(Value::Count(count)));
-                Ok(Value::Count(count))
-            }
-            _ => {
-                self.set_local(number, Some(after.clone()?));
-                Ok(after)
-            }
-        }
+        let before = self.left_value(side, operands)?;
+        let after = stepped(by, &before)?;
+        self.assign(side, operands, after.clone()?)?;
+        Ok(after)
     }
 
     /// `left += x;` or `left -= x;` (Zeek manual, Operators).
@@ -122,21 +101,37 @@ impl State {
     {
         match (side, operands) {
             (Left::Local(number), []) => self.update_local(number, by, value),
-            _ => {
-                let before = self.left_value(side, operands)?;
-                let after = self.updated(by, &before, value)?;
-                self.assign(side, operands, after)
-            }
+            _ => self.update_any(side, by, value, operands),
         }
+    }
+
+    /// `left += x;` or `left -= x;` of any left side.
+    #[inline(never)]
+    fn update_any(
+        &mut self,
+        side: Left,
+        by: Binary,
+        value: &Value,
+        operands: &[Value],
+    ) -> Result<(), Halt>
+        ensures { (place : At) → Comes (λ _. tt) place result (primitive.act place (action.Update side by) (value_of value.now ∷ key_of operands.now) (state_of self.old)) (state_of self.new) }
+    {
+        let before = self.left_value(side, operands)?;
+        let after = self.updated(by, &before, value)?;
+        self.assign(side, operands, after)
     }
 
     /// `x += y;` or `x -= y;` of a local.
     fn update_local(&mut self, number: u32, by: Binary, value: &Value) -> Result<(), Halt>
         ensures { (place : At) → Comes (λ _. tt) place result (primitive.act place (action.Update (left.Local number) by) (value_of value.now ∷ []) (state_of self.old)) (state_of self.new) }
     {
-        let before = handle(named(&self.locals, number)?)?;
-        let after = self.updated(by, &before, value)?;
-        self.set_local(number, Some(after));
-        Ok(())
+        let before = named(&self.locals, number)?;
+        match counted(by, before, value) {
+            Some(count) => {
+                self.set_count(number, count);
+                Ok(())
+            }
+            None => self.update_any(Left::Local(number), by, value, &[]),
+        }
     }
 }

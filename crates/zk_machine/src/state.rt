@@ -1,5 +1,6 @@
-ghost use Rattle.std.specs.Prelude.{◌≡◌, ◌==◌, ◌++◌, [], codes, map, slice_set, IfOk, OnOk, if◌then◌else◌};
+ghost use Rattle.std.specs.Prelude.{◌≡◌, ◌==◌, ◌++◌, [], Some, codes, map, slice_set, IfOk, OnOk, if◌then◌else◌};
 ghost use Rattle.zk_tree.specs.declared.place.Place.{Place as At};
+ghost use Rattle.zk_tree.specs.Value as plain;
 ghost use Rattle.zk_typed.specs.Does as does;
 ghost use Rattle.zk_typed.specs.State as typed;
 ghost use Rattle.zk_typed.specs.declared.ends.FaultKind.TheVariants.{Unset};
@@ -42,13 +43,22 @@ pub fn named(values: &[Option<Value>], number: u32) -> Result<&Value, Halt>
 }
 
 /// Gives a name a value, or takes its value away. There is nothing to do where no name has the number.
-#[inline(always)]
 fn set_named(values: &mut Vec<Option<Value>>, number: u32, value: Option<Value>)
     ensures { map field_of values.new.items ≡ slice_set (map field_of values.old.items) number (field_of value) }
 {
     let place = number as usize;
     if place < values.len() {
         values[place] = value;
+    }
+}
+
+/// Gives a name a count as its value. No whole value is copied.
+fn name_count(values: &mut Vec<Option<Value>>, number: u32, count: u64)
+    ensures { map field_of values.new.items ≡ slice_set (map field_of values.old.items) number (Some (plain.Count count)) }
+{
+    let place = number as usize;
+    if place < values.len() {
+        values[place] = Some(Value::Count(count));
     }
 }
 
@@ -74,18 +84,18 @@ impl State {
         Ok(handle(value)?)
     }
 
-    /// Gives a local or a parameter a value, or takes its value away. A count is written anew, since a whole
-    /// value is slow to copy.
-    #[inline(always)]
+    /// Gives a local or a parameter a count as its value.
+    pub fn set_count(&mut self, number: u32, count: u64)
+        ensures { does.set_local number (Some (plain.Count count)) (state_of self.old) ≡ does.Gives tt (state_of self.new) }
+    {
+        name_count(&mut self.locals, number, count);
+    }
+
+    /// Gives a local or a parameter a value, or takes its value away.
     pub fn set_local(&mut self, number: u32, value: Option<Value>)
         ensures { does.set_local number (field_of value) (state_of self.old) ≡ does.Gives tt (state_of self.new) }
     {
-        match value {
-            Some(Value::Count(count)) => {
-                set_named(&mut self.locals, number, Some(Value::Count(count)));
-            }
-            _ => set_named(&mut self.locals, number, value),
-        }
+        set_named(&mut self.locals, number, value);
     }
 
     /// The value of a global or a constant.
@@ -139,7 +149,10 @@ pub fn handles(alloc: Global, values: &[Value]) -> Result<Vec<Value>, Mem>
 {
     let mut copy = Vec::with_capacity(alloc, values.len())?;
     for value in values {
-        copy.push(handle(value)?)?;
+        match value {
+            Value::Count(count) => copy.push(Value::Count(*count))?,
+            _ => copy.push(value.clone()?)?,
+        }
     }
     Ok(copy)
 }

@@ -12,7 +12,7 @@ ghost use Rattle.zk_typed.specs.Program.{Program};
 ghost use Rattle.zk_typed.specs.Running.{world_in};
 ghost use Rattle.zk_top.specs.Reading.{IsReading, IsUnderWay, SameInput};
 ghost use Rattle.zk_top.specs.Replay.{Counts, Plan, Replays, ReplaysPart};
-ghost use Rattle.zk_top.specs.Sink.{Beginning, CanTake, HasTaken, TakesSome};
+ghost use Rattle.zk_top.specs.Sink.{Beginning, CanTake, HasTaken, TakesSome, Written};
 ghost use Rattle.zk_top.specs.Writing.{no_output, output_of, told_by};
 
 use crate::capture::{CaptureReader, later};
@@ -230,6 +230,28 @@ impl Replay {
         }
     }
 
+    /// Runs the program over the packets, says what it prints and writes its log files.
+    fn play<S: Shelf>(
+        &mut self,
+        shelf: &mut S,
+        chunk: &mut [u8],
+        reader: &mut CaptureReader,
+    ) -> Result<Came, Stop>
+        requires ready { CanTake self.old.player.sink (S.outside shelf.old) }
+        requires room { 0 < length chunk.old }
+        requires under_way { IsUnderWay reader.old (S.outside shelf.old) }
+        ensures replays { IfOk result (λ came. (first : Beginning) (plan : Plan) (whole : Option (List ℕ)) (header : HeaderData) (bytes : List ℕ) → first.target ≡ Written
+            → Comes first plan [] [] false New self.old (S.outside shelf.old) → IsReading whole header bytes [] reader.old (S.outside shelf.old)
+            → Replays plan whole header first.outside came reader.new (S.outside shelf.new)) }
+        ensures stopped { IfErr result (λ stop. (first : Beginning) (plan : Plan) (whole : Option (List ℕ)) (header : HeaderData) (bytes : List ℕ) → first.target ≡ Written
+            → Comes first plan [] [] false New self.old (S.outside shelf.old) → IsReading whole header bytes [] reader.old (S.outside shelf.old)
+            → ReplaysPart whole plan first.outside stop (S.outside shelf.new)) }
+    {
+        let came = self.run(shelf, chunk, reader)?;
+        self.player.sink.close(shelf, came.time())?;
+        Ok(came)
+    }
+
     /// Runs the program behind its beginning.
     fn run_packets<S: Shelf>(
         &mut self,
@@ -299,7 +321,5 @@ pub fn replay_capture<S: Shelf>(
     let writer = Writer::new(alloc)?;
     let sink = Sink::Written(writer);
     let mut replay = Replay::new(alloc, options, reader.link(), code, budget, sink)?;
-    let came = replay.run(shelf, chunk, reader)?;
-    replay.player.sink.close(shelf, came.time())?;
-    Ok(came)
+    replay.play(shelf, chunk, reader)
 }

@@ -1,8 +1,7 @@
-//! Values and objects, the code that computes with them, and what it gives out.
+//! Values and objects, and what a program gives out.
 #![tactic(auto)]
 
 mod cell;
-mod code;
 mod key;
 mod laws;
 mod object;
@@ -14,7 +13,6 @@ mod texts;
 mod value;
 
 pub use cell::{Atom, Cell, Column};
-pub use code::{Code, HandlerCode, Operand, Print};
 pub use key::Key;
 pub use laws::{equal_keys, tables_in_their_places};
 pub use object::Object;

@@ -118,3 +118,23 @@ def server(capture):
                      for conn in conns_of(capture) for _, response in conn.exchanges())
     lines = [f"{row}\t{name}" for (_, _, row), (_, name) in zip(rows, answers)]
     return log("http", f"{ALL}{COLUMNS['http']} server:string", rows[0][1], last_moment(capture), lines)
+
+
+def compare(capture):
+    """The lines, sorted."""
+    lines = []
+    for conn in conns_of(capture):
+        (orig, orig_port), (resp, resp_port) = conn.ends
+        ends = f"{address(orig)}:{orig_port}/{conn.proto} > {address(resp)}:{resp_port}/{conn.proto}, "
+        sizes = ", ".join("unknown" if size == "-" else str(size) for size in conn.sizes())
+        lines.append(f"{ends}{conn.state()}, {sizes}, {conn.missed()} missed")
+        for request, response in conn.exchanges():
+            lines += [f"{ends}{', '.join(request.first.split(' ')[:2])}", f"{ends}{response.first.split(' ')[1]}",
+                      f"{ends}request, {request.body} bytes", f"{ends}response, {response.body} bytes"]
+        for _, _, _, message in conn.dns_messages():
+            name, at = plain_logs.name_at(message, 12)
+            number, count = (int.from_bytes(message[place : place + 2], "big") for place in (0, 6))
+            kind = int.from_bytes(message[at : at + 2], "big")
+            lines.append(f"{ends}response, {number}, {message[3] & 15}, {count} answers" if message[2] >> 7
+                         else f"{ends}query, {number}, {name}, {kind}")
+    return text(sorted(lines))

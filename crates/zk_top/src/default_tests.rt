@@ -1,9 +1,7 @@
+use crate::case::{Case, difference};
 use crate::list_tests::{EXCHANGE, GAP_IN_BODY, MERGED, QUERY};
-use crate::run;
-use crate::tests::{inputs, words};
-use std::alloc::Global;
 use std::test::Fail;
-use zk_base::{Mem, SureShelf};
+use zk_gen::capture;
 
 /// The name of each log of the default scripts, and the lines before its rows.
 const CONN: (&[u8], &[u8]) = (
@@ -74,38 +72,52 @@ const ROWS: [(&[u8], [&[u8]; 3]); 4] = [
     ),
 ];
 
-/// Whether a log has these rows, or isn't there where there are none.
-fn is_written(
-    alloc: Global,
-    shelf: &SureShelf,
-    log: (&[u8], &[u8]),
-    rows: &[u8],
-) -> Result<bool, Mem> {
-    let mut text = Vec::from_slice(alloc, log.1)?;
-    text.extend_from_slice(rows)?;
-    text.extend_from_slice(CLOSE)?;
-    match shelf.output(log.0) {
-        Some(found) => Ok(!rows.is_empty() && found == text.as_slice()),
-        None => Ok(rows.is_empty()),
-    }
+/// A log in parts, or none where it has no row.
+fn parts<'a>(log: &'a [&'a [u8]; 3]) -> &'a [&'a [u8]] {
+    if log[1].is_empty() { &[] } else { log }
 }
 
 #[test]
 fn the_default_scripts_write_their_logs(rt: HostRuntime) -> Result<(), Fail> {
     for (n, (capture, [conn, dns, http])) in ROWS.iter().enumerate() {
-        let alloc = rt.alloc();
-        let mut shelf = SureShelf::new(alloc, inputs(alloc, capture, b"")?)?;
-        let ending = run(alloc, &words(alloc, b"run -r c.pcap")?, &mut shelf);
-        assert_eq!(rt; ending.status(), 0, "in row {n}");
-        assert!(rt;
-            is_written(alloc, &shelf, CONN, conn)?,
-            "conn.log in row {n}"
-        );
-        assert!(rt; is_written(alloc, &shelf, DNS, dns)?, "dns.log in row {n}");
-        assert!(rt;
-            is_written(alloc, &shelf, HTTP, http)?,
-            "http.log in row {n}"
-        );
+        let case = Case {
+            line: b"run -r c.pcap",
+            inputs: &[(b"c.pcap", capture)],
+            status: 0,
+            said: b"",
+            complained: b"",
+            files: &[
+                (CONN.0, parts(&[CONN.1, conn, CLOSE])),
+                (DNS.0, parts(&[DNS.1, dns, CLOSE])),
+                (HTTP.0, parts(&[HTTP.1, http, CLOSE])),
+            ],
+        };
+        assert_eq!(rt; difference(rt.alloc(), &case)?, None, "in row {n}");
     }
+    Ok(())
+}
+
+#[test]
+fn an_exchange_cut_byte_by_byte_is_logged_alike(rt: HostRuntime) -> Result<(), Fail> {
+    let alloc = rt.alloc();
+    // Each byte is a segment of its own, most of them twice and in falling order.
+    let bytes = capture(alloc, 2, 1)?;
+    let conn =
+        b"1700000000.000000\tC1\t10.1.0.0\t40001\t10.0.0.80\t80\ttcp\t0.060000\t32\t40\tSF\t0\tShDdFfA\t66\t2703\t81\t3319\n";
+    let http =
+        b"1700000000.020000\tC1\t10.1.0.0\t40001\t10.0.0.80\t80\t1\tGET\ta.test\t/\t1.1\t-\t0\t2\t200\tOK\n";
+    let case = Case {
+        line: b"run -r c.pcap",
+        inputs: &[(b"c.pcap", bytes.as_slice())],
+        status: 0,
+        said: b"",
+        complained: b"",
+        files: &[
+            (CONN.0, &[CONN.1, conn, CLOSE]),
+            (DNS.0, &[]),
+            (HTTP.0, &[HTTP.1, http, CLOSE]),
+        ],
+    };
+    assert_eq!(rt; difference(alloc, &case)?, None);
     Ok(())
 }

@@ -1,7 +1,5 @@
-use crate::run;
-use crate::tests::{inputs, words};
+use crate::case::{Case, difference};
 use std::test::Fail;
-use zk_base::SureShelf;
 
 /// A DNS query of 33 bytes and its answer of 63.
 pub const QUERY: &[u8] = b"\
@@ -216,11 +214,15 @@ const ROWS: [(&[u8], &[u8]); 7] = [
 #[test]
 fn each_capture_is_listed_line_by_line(rt: HostRuntime) -> Result<(), Fail> {
     for (n, (capture, lines)) in ROWS.iter().enumerate() {
-        let alloc = rt.alloc();
-        let mut shelf = SureShelf::new(alloc, inputs(alloc, capture, b"")?)?;
-        let ending = run(alloc, &words(alloc, b"list c.pcap")?, &mut shelf);
-        assert_eq!(rt; shelf.said(), *lines, "in row {n}");
-        assert_eq!(rt; ending.status(), 0, "in row {n}");
+        let case = Case {
+            line: b"list c.pcap",
+            inputs: &[(b"c.pcap", capture)],
+            status: 0,
+            said: lines,
+            complained: b"",
+            files: &[],
+        };
+        assert_eq!(rt; difference(rt.alloc(), &case)?, None, "in row {n}");
     }
     Ok(())
 }

@@ -4,7 +4,7 @@ use std::test::Fail;
 use zk_gen::capture;
 
 /// The name of each log of the default scripts, and the lines before its rows.
-const CONN: (&[u8], &[u8]) = (
+pub const CONN: (&[u8], &[u8]) = (
     b"conn.log",
     b"#separator \\x09\n#set_separator\t,\n#empty_field\t(empty)\n#unset_field\t-\n#path\tconn\n#open\t2023-11-14-22-13-20\n\
           #fields\tts\tuid\tid.orig_h\tid.orig_p\tid.resp_h\tid.resp_p\tproto\tduration\torig_bytes\tresp_bytes\tconn_state\t\
@@ -12,7 +12,7 @@ const CONN: (&[u8], &[u8]) = (
           #types\ttime\tstring\taddr\tport\taddr\tport\tenum\tinterval\tcount\tcount\tstring\tcount\tstring\tcount\tcount\tcount\tcount\n",
 );
 
-const DNS: (&[u8], &[u8]) = (
+pub const DNS: (&[u8], &[u8]) = (
     b"dns.log",
     b"#separator \\x09\n#set_separator\t,\n#empty_field\t(empty)\n#unset_field\t-\n#path\tdns\n#open\t2023-11-14-22-13-20\n\
           #fields\tts\tuid\tid.orig_h\tid.orig_p\tid.resp_h\tid.resp_p\tproto\ttrans_id\tquery\tqclass\tqtype\trcode\tAA\tTC\tRD\tRA\t\
@@ -30,7 +30,7 @@ const HTTP: (&[u8], &[u8]) = (
 );
 
 /// The last line of each.
-const CLOSE: &[u8] = b"#close\t2023-11-14-22-13-20\n";
+pub const CLOSE: &[u8] = b"#close\t2023-11-14-22-13-20\n";
 
 /// A capture, and the rows of the three logs; one without a row has no file.
 const ROWS: [(&[u8], [&[u8]; 3]); 4] = [

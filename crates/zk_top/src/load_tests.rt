@@ -1,10 +1,12 @@
 use crate::case::{Case, difference};
+use crate::default_tests::{CLOSE, CONN, DNS};
+use crate::list_tests::QUERY;
 use crate::log_tests::PREFIX;
-use crate::tests::{DATAGRAM, HEADER};
+use crate::tests::{CUT, DATAGRAM, HEADER};
 use std::test::Fail;
 
 /// Runs of several files.
-const CASES: [Case; 14] = [
+const CASES: [Case; 16] = [
     // A loaded file stands in the place of its first `@load`, once. A name is what the text says: `./c` and `c` are two files.
     Case {
         line: b"run -b -r c.pcap a.zeek s.zeek",
@@ -291,6 +293,75 @@ const CASES: [Case; 14] = [
         said: b"s\n",
         complained: b"",
         files: &[],
+    },
+    // The logs of a capture that is cut are closed behind its whole records.
+    Case {
+        line: b"run -b -r c.pcap s.zeek",
+        inputs: &[
+            (b"c.pcap", &CUT),
+            (
+                b"s.zeek",
+                b"# After a cut the logs of the whole records' items are closed.\nredef enum Log::ID \
+              += { L };\ntype R: record { t: time &log; caplen: count &log; };\n\nevent zeek_init()\n\
+              \t{\n\tLog::create_stream(L, [$columns=R, $path=\"seen\"]);\n\t}\n\nevent packet_seen(t: \
+              time, caplen: count, len: count)\n\t{\n\tLog::write(L, R($t=t, $caplen=caplen));\n\
+              \t}\n",
+            ),
+        ],
+        status: 4,
+        said: b"",
+        complained: b"zeekoff: c.pcap cut at byte 42\n",
+        files: &[(
+            b"seen.log",
+            &[
+                PREFIX,
+                b"#path\tseen\n#open\t1970-01-01-00-00-01\n#fields\tt\tcaplen\n#types\ttime\tcount\n\
+              1.000000\t2\n#close\t1970-01-01-00-00-01\n",
+            ],
+        )],
+    },
+    // Scripts beside the default ones, which come first; priorities go over all files.
+    Case {
+        line: b"run -r c.pcap a.zeek b.zeek",
+        inputs: &[
+            (b"c.pcap", QUERY),
+            (
+                b"a.zeek",
+                b"# The default scripts come first, then each script; priorities go over all files.\n\
+              event connection_state_remove(c: connection) &priority=-5\n\t{\n\tprint \"a\", c$missed_bytes;\n\
+              \t}\n\nevent dns_end(c: connection, msg: dns_msg) &priority=-4\n\t{\n\tprint \"a sees\", \
+              msg$id in c$dns;\n\t}\n",
+            ),
+            (
+                b"b.zeek",
+                b"event connection_state_remove(c: connection)\n\t{\n\tprint \"b\";\n\tc$missed_bytes \
+              += 3;\n\t}\n\nevent dns_end(c: connection, msg: dns_msg) &priority=-5\n\t{\n\tprint \
+              \"b sees\", msg$id in c$dns;\n\t}\n",
+            ),
+        ],
+        status: 0,
+        said: b"a sees, T\nb sees, T\na sees, T\nb sees, F\nb\na, 3\n",
+        complained: b"",
+        files: &[
+            (
+                CONN.0,
+                &[
+                    CONN.1,
+                    b"1700000000.000000\tC1\t10.0.0.1\t40000\t10.0.0.53\t53\tudp\t0.020000\t33\t63\tSF\t\
+                  3\tDd\t1\t61\t1\t91\n",
+                    CLOSE,
+                ],
+            ),
+            (
+                DNS.0,
+                &[
+                    DNS.1,
+                    b"1700000000.000000\tC1\t10.0.0.1\t40000\t10.0.0.53\t53\tudp\t4660\twww.example.com\t\
+                  1\t1\t0\tF\tF\tT\tT\texample.com,93.184.216.34\t300.000000,300.000000\n",
+                    CLOSE,
+                ],
+            ),
+        ],
     },
 ];
 

@@ -39,7 +39,7 @@ const RUN: &[u8] = b"run -b -r c.pcap s.zeek";
 
 /// A command line, the bytes of `c.pcap`, the text of `s.zeek`, the status, and what is said and
 /// complained.
-const ROWS: [(&[u8], &[u8], &[u8], u8, &[u8], &[u8]); 45] = [
+const ROWS: [(&[u8], &[u8], &[u8], u8, &[u8], &[u8]); 48] = [
     (b"list c.pcap", &HEADER, b"", 0, b"", b""),
     (
         b"list c.pcap",
@@ -259,6 +259,30 @@ const ROWS: [(&[u8], &[u8], &[u8], u8, &[u8], &[u8]); 45] = [
         b"",
         b"zeekoff: no file x.pcap\n",
     ),
+    (
+        RUN,
+        &HEADER,
+        b"global x: count = y;",
+        2,
+        b"",
+        b"zeekoff: s.zeek, byte 18: Unknown\n",
+    ),
+    (
+        RUN,
+        &HEADER,
+        b"global x = \"a",
+        2,
+        b"",
+        b"zeekoff: s.zeek, byte 11: OpenString\n",
+    ),
+    (
+        b"run -r c.pcap",
+        b"",
+        b"",
+        3,
+        b"",
+        b"zeekoff: c.pcap refused at byte 0\n",
+    ),
     // A header that is refused is judged before anything runs.
     (
         RUN,
@@ -448,7 +472,7 @@ fn each_run_says_its_lines_and_complains_of_its_ending(rt: HostRuntime) -> Resul
             status: *status,
             said,
             complained,
-            files: &[],
+            files: &[(b"conn.log", &[]), (b"reporter.log", &[])],
         };
         assert_eq!(rt; difference(rt.alloc(), &case)?, None, "in row {n}");
     }

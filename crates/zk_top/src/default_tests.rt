@@ -80,6 +80,9 @@ fn parts<'a>(log: &'a [&'a [u8]; 3]) -> &'a [&'a [u8]] {
 #[test]
 fn the_default_scripts_write_their_logs(rt: HostRuntime) -> Result<(), Fail> {
     for (n, (capture, [conn, dns, http])) in ROWS.iter().enumerate() {
+        let conn = [CONN.1, conn, CLOSE];
+        let dns = [DNS.1, dns, CLOSE];
+        let http = [HTTP.1, http, CLOSE];
         let case = Case {
             line: b"run -r c.pcap",
             inputs: &[(b"c.pcap", capture)],
@@ -87,9 +90,9 @@ fn the_default_scripts_write_their_logs(rt: HostRuntime) -> Result<(), Fail> {
             said: b"",
             complained: b"",
             files: &[
-                (CONN.0, parts(&[CONN.1, conn, CLOSE])),
-                (DNS.0, parts(&[DNS.1, dns, CLOSE])),
-                (HTTP.0, parts(&[HTTP.1, http, CLOSE])),
+                (CONN.0, parts(&conn)),
+                (DNS.0, parts(&dns)),
+                (HTTP.0, parts(&http)),
             ],
         };
         assert_eq!(rt; difference(rt.alloc(), &case)?, None, "in row {n}");

@@ -7,6 +7,7 @@ use std::test::Fail;
 use zk_base::{Mem, MemShelf, SureShelf, Word};
 
 /// A run whose calls of the outside fail, one in each turn.
+#[derive(Clone, Copy)]
 struct Failing<'a> {
     line: &'a [u8],
     inputs: &'a [(&'a [u8], &'a [u8])],
@@ -63,15 +64,19 @@ fn first_otherwise(alloc: Global, row: &Failing) -> Result<Option<u64>, Mem> {
     let words = words(alloc, row.line)?;
     let mut whole = SureShelf::new(alloc, inputs(alloc, row.inputs)?)?;
     let _ = run(alloc, &words, &mut whole);
-    let calls = whole.calls();
-    let mut call = 0;
-    for status in row.statuses {
-        call += 1;
+    for (n, status) in row.statuses.iter().enumerate() {
+        let call = n as u64 + 1;
         if !stops_so(alloc, row, &words, &whole, call, *status)? {
             return Ok(Some(call));
         }
     }
-    Ok(if calls < call { None } else { Some(calls) })
+    let calls = whole.calls();
+    let tried = row.statuses.len() as u64;
+    Ok(if calls.wrapping_add(1) == tried {
+        None
+    } else {
+        Some(calls)
+    })
 }
 
 /// Each packet makes this script print 40 bytes.

@@ -20,8 +20,8 @@ type Row = (
     &'static [(&'static [u8], &'static [&'static [u8]])],
 );
 
-/// Streams, filters, policies and cells.
-const LOGS: [Row; 8] = [
+/// Streams, filters, policies, what is told of a body that is at fault or spent, and the text of cells.
+const LOGS: [Row; 19] = [
     // A log is created at its first row and closed at the last network time (Zeek manual, Log Files).
     (
         RUN,
@@ -150,10 +150,6 @@ const LOGS: [Row; 8] = [
         b"",
         &[(b"x.log", &[])],
     ),
-];
-
-/// What is told of a body that is at fault or spent, writes within a write, columns of each type, and escapes.
-const CELLS: [Row; 11] = [
     // A budget that is spent is told at the statement for which no unit is left.
     (
         b"run -b --budget 8 -r c.pcap s.zeek",
@@ -493,7 +489,7 @@ const CELLS: [Row; 11] = [
 
 #[test]
 fn logs_hold_the_rows_that_scripts_write(rt: HostRuntime) -> Result<(), Fail> {
-    for (n, (line, capture, script, said, files)) in LOGS.iter().chain(CELLS.iter()).enumerate() {
+    for (n, (line, capture, script, said, files)) in LOGS.iter().enumerate() {
         let case = Case {
             line,
             inputs: &[(b"c.pcap", capture), (b"s.zeek", script)],

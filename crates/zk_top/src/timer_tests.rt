@@ -343,16 +343,19 @@ const EXPIRY: [Row; 15] = [
 
 #[test]
 fn timers_and_expiry_keep_to_the_agenda(rt: HostRuntime) -> Result<(), Fail> {
-    for (n, (line, over, script, said)) in AGENDA.iter().chain(EXPIRY.iter()).enumerate() {
-        let case = Case {
-            line,
-            inputs: &[(b"c.pcap", over.bytes()), (b"s.zeek", script)],
-            status: 0,
-            said,
-            complained: b"",
-            files: &[],
-        };
-        assert_eq!(rt; difference(rt.alloc(), &case)?, None, "in row {n}");
+    let tables: [&[Row]; 2] = [&AGENDA, &EXPIRY];
+    for rows in tables {
+        for (n, (line, over, script, said)) in rows.iter().enumerate() {
+            let case = Case {
+                line,
+                inputs: &[(b"c.pcap", over.bytes()), (b"s.zeek", script)],
+                status: 0,
+                said,
+                complained: b"",
+                files: &[],
+            };
+            assert_eq!(rt; difference(rt.alloc(), &case)?, None, "in row {n}");
+        }
     }
     Ok(())
 }

@@ -3,31 +3,25 @@ use crate::list_tests::{EXCHANGE, GAP_IN_BODY, MERGED, QUERY};
 use std::test::Fail;
 use zk_gen::capture;
 
-/// The name of each log of the default scripts, and the lines before its rows.
-pub const CONN: (&[u8], &[u8]) = (
-    b"conn.log",
+/// The lines of each log of the default scripts before its rows.
+pub const CONN: &[u8] =
     b"#separator \\x09\n#set_separator\t,\n#empty_field\t(empty)\n#unset_field\t-\n#path\tconn\n#open\t2023-11-14-22-13-20\n\
           #fields\tts\tuid\tid.orig_h\tid.orig_p\tid.resp_h\tid.resp_p\tproto\tduration\torig_bytes\tresp_bytes\tconn_state\t\
           missed_bytes\thistory\torig_pkts\torig_ip_bytes\tresp_pkts\tresp_ip_bytes\n\
-          #types\ttime\tstring\taddr\tport\taddr\tport\tenum\tinterval\tcount\tcount\tstring\tcount\tstring\tcount\tcount\tcount\tcount\n",
-);
+          #types\ttime\tstring\taddr\tport\taddr\tport\tenum\tinterval\tcount\tcount\tstring\tcount\tstring\tcount\tcount\tcount\tcount\n";
 
-pub const DNS: (&[u8], &[u8]) = (
-    b"dns.log",
+pub const DNS: &[u8] =
     b"#separator \\x09\n#set_separator\t,\n#empty_field\t(empty)\n#unset_field\t-\n#path\tdns\n#open\t2023-11-14-22-13-20\n\
           #fields\tts\tuid\tid.orig_h\tid.orig_p\tid.resp_h\tid.resp_p\tproto\ttrans_id\tquery\tqclass\tqtype\trcode\tAA\tTC\tRD\tRA\t\
           answers\tTTLs\n\
           #types\ttime\tstring\taddr\tport\taddr\tport\tenum\tcount\tstring\tcount\tcount\tcount\tbool\tbool\tbool\tbool\t\
-          vector[string]\tvector[interval]\n",
-);
+          vector[string]\tvector[interval]\n";
 
-const HTTP: (&[u8], &[u8]) = (
-    b"http.log",
+const HTTP: &[u8] =
     b"#separator \\x09\n#set_separator\t,\n#empty_field\t(empty)\n#unset_field\t-\n#path\thttp\n#open\t2023-11-14-22-13-20\n\
           #fields\tts\tuid\tid.orig_h\tid.orig_p\tid.resp_h\tid.resp_p\ttrans_depth\tmethod\thost\turi\tversion\tuser_agent\t\
           request_body_len\tresponse_body_len\tstatus_code\tstatus_msg\n\
-          #types\ttime\tstring\taddr\tport\taddr\tport\tcount\tstring\tstring\tstring\tstring\tstring\tcount\tcount\tcount\tstring\n",
-);
+          #types\ttime\tstring\taddr\tport\taddr\tport\tcount\tstring\tstring\tstring\tstring\tstring\tcount\tcount\tcount\tstring\n";
 
 /// The last line of each.
 pub const CLOSE: &[u8] = b"#close\t2023-11-14-22-13-20\n";
@@ -80,9 +74,9 @@ fn parts<'a>(log: &'a [&'a [u8]; 3]) -> &'a [&'a [u8]] {
 #[test]
 fn the_default_scripts_write_their_logs(rt: HostRuntime) -> Result<(), Fail> {
     for (n, (capture, [conn, dns, http])) in ROWS.iter().enumerate() {
-        let conn = [CONN.1, conn, CLOSE];
-        let dns = [DNS.1, dns, CLOSE];
-        let http = [HTTP.1, http, CLOSE];
+        let conn = [CONN, conn, CLOSE];
+        let dns = [DNS, dns, CLOSE];
+        let http = [HTTP, http, CLOSE];
         let case = Case {
             line: b"run -r c.pcap",
             inputs: &[(b"c.pcap", capture)],
@@ -90,9 +84,9 @@ fn the_default_scripts_write_their_logs(rt: HostRuntime) -> Result<(), Fail> {
             said: b"",
             complained: b"",
             files: &[
-                (CONN.0, parts(&conn)),
-                (DNS.0, parts(&dns)),
-                (HTTP.0, parts(&http)),
+                (b"conn.log", parts(&conn)),
+                (b"dns.log", parts(&dns)),
+                (b"http.log", parts(&http)),
             ],
         };
         assert_eq!(rt; difference(rt.alloc(), &case)?, None, "in row {n}");
@@ -116,9 +110,9 @@ fn an_exchange_cut_byte_by_byte_is_logged_alike(rt: HostRuntime) -> Result<(), F
         said: b"",
         complained: b"",
         files: &[
-            (CONN.0, &[CONN.1, conn, CLOSE]),
-            (DNS.0, &[]),
-            (HTTP.0, &[HTTP.1, http, CLOSE]),
+            (b"conn.log", &[CONN, conn, CLOSE]),
+            (b"dns.log", &[]),
+            (b"http.log", &[HTTP, http, CLOSE]),
         ],
     };
     assert_eq!(rt; difference(alloc, &case)?, None);

@@ -344,18 +344,18 @@ const CASES: [Case; 16] = [
         complained: b"",
         files: &[
             (
-                CONN.0,
+                b"conn.log",
                 &[
-                    CONN.1,
+                    CONN,
                     b"1700000000.000000\tC1\t10.0.0.1\t40000\t10.0.0.53\t53\tudp\t0.020000\t33\t63\tSF\t\
                   3\tDd\t1\t61\t1\t91\n",
                     CLOSE,
                 ],
             ),
             (
-                DNS.0,
+                b"dns.log",
                 &[
-                    DNS.1,
+                    DNS,
                     b"1700000000.000000\tC1\t10.0.0.1\t40000\t10.0.0.53\t53\tudp\t4660\twww.example.com\t\
                   1\t1\t0\tF\tF\tT\tT\texample.com,93.184.216.34\t300.000000,300.000000\n",
                     CLOSE,

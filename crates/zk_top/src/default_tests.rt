@@ -27,7 +27,7 @@ const HTTP: &[u8] =
 pub const CLOSE: &[u8] = b"#close\t2023-11-14-22-13-20\n";
 
 /// A capture, and the rows of the three logs; one without a row has no file.
-const ROWS: [(&[u8], [&[u8]; 3]); 4] = [
+const ROWS: &[(&[u8], [&[u8]; 3])] = &[
     (
         QUERY,
         [

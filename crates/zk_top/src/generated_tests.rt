@@ -2,7 +2,7 @@ use crate::case::{Case, difference};
 use std::test::Fail;
 
 /// A command line, the status, and what is said and complained.
-const ROWS: [(&[u8], u8, &[u8], &[u8]); 12] = [
+const ROWS: &[(&[u8], u8, &[u8], &[u8])] = &[
     (
         b"gen 0 3",
         0,

@@ -74,7 +74,7 @@ const GAP_PAST_BODY: &[u8] = b"\
     \0\xf1SeP\xc3\0\06\0\0\06\0\0\0\0\0\0\0\0\0\0\0\0\0\0\0\x08\0E\0\0(\0\0\0\0\0\x06\xa6\x80\n\0\0\x01\n\0\0P\x9cA\0P\0\0\0\x89\0\0\x02)P\x10\0\0\xfc@\0\0";
 
 /// A capture, and its lines.
-const ROWS: [(&[u8], &[u8]); 7] = [
+const ROWS: &[(&[u8], &[u8])] = &[
     (
         QUERY,
         b"1700000000.000000\tpacket\t1700000000.000000\t75\t75\n\

@@ -6,7 +6,7 @@ use crate::tests::{CUT, DATAGRAM, HEADER};
 use std::test::Fail;
 
 /// Runs of several files.
-const CASES: [Case; 16] = [
+const CASES: &[Case] = &[
     // A loaded file stands in the place of its first `@load`, once. A name is what the text says: `./c` and `c` are two files.
     Case {
         line: b"run -b -r c.pcap a.zeek s.zeek",

@@ -21,7 +21,7 @@ type Row = (
 );
 
 /// Streams, filters, policies, what is told of a body that is at fault or spent, and the text of cells.
-const LOGS: [Row; 19] = [
+const LOGS: &[Row] = &[
     // A log is created at its first row and closed at the last network time (Zeek manual, Log Files).
     (
         RUN,

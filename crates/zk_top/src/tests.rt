@@ -39,7 +39,7 @@ const RUN: &[u8] = b"run -b -r c.pcap s.zeek";
 
 /// A command line, the bytes of `c.pcap`, the text of `s.zeek`, the status, and what is said and
 /// complained.
-const ROWS: [(&[u8], &[u8], &[u8], u8, &[u8], &[u8]); 48] = [
+const ROWS: &[(&[u8], &[u8], &[u8], u8, &[u8], &[u8])] = &[
     (b"list c.pcap", &HEADER, b"", 0, b"", b""),
     (
         b"list c.pcap",
@@ -414,7 +414,7 @@ const ROWS: [(&[u8], &[u8], &[u8], u8, &[u8], &[u8]); 48] = [
 
 /// A command line, the text of `s.zeek`, and what is said over a capture whose one packet, a datagram,
 /// comes at 25 s.
-const PROGRAMS: [(&[u8], &[u8], &[u8]); 7] = [
+const PROGRAMS: &[(&[u8], &[u8], &[u8])] = &[
     // A loop goes over a snapshot. Entries expire at their own moments, and their function may change the table.
     (
         RUN,

@@ -74,7 +74,7 @@ const MANY: &[u8] =
       ( i < 900000 ) { t[i] = i; ++i; } } event zeek_done() { print n, |t|; }";
 
 /// The queue, scheduled events, and the order of turns.
-const AGENDA: [Row; 11] = [
+const AGENDA: &[Row] = &[
     // A scheduled event runs before the first item at or after its due.
     (
         RUN,
@@ -195,7 +195,7 @@ const AGENDA: [Row; 11] = [
 ];
 
 /// Entries that expire.
-const EXPIRY: [Row; 15] = [
+const EXPIRY: &[Row] = &[
     // `&create_expire` counts from insertion: neither an assignment nor a read puts it off.
     (
         RUN,
@@ -343,7 +343,7 @@ const EXPIRY: [Row; 15] = [
 
 #[test]
 fn timers_and_expiry_keep_to_the_agenda(rt: HostRuntime) -> Result<(), Fail> {
-    let tables: [&[Row]; 2] = [&AGENDA, &EXPIRY];
+    let tables: [&[Row]; 2] = [AGENDA, EXPIRY];
     for rows in tables {
         for (n, (line, over, script, said)) in rows.iter().enumerate() {
             let case = Case {

@@ -1,0 +1,6 @@
+//! Tests of the check of scripts: for each rule of names and types, and for each sentence that decides what
+//! breaks it, scripts with what is told of them.
+#![tactic(auto)]
+
+#[cfg(test)]
+mod check;

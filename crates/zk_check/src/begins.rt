@@ -308,12 +308,7 @@ fn local_begun(
 }
 
 /// That no other local has a name.
-fn once(
-    alloc: Global,
-    locals: &[LocalName<'_>],
-    place: Place,
-    name: &Name,
-) -> Result<(), Refusal>
+fn once(alloc: Global, locals: &[LocalName<'_>], place: Place, name: &Name) -> Result<(), Refusal>
     ensures { Tells (λ done. done) result (once name.now (locals_of locals.now) place) }
 {
     match local_named(locals, name.text.as_slice())? {

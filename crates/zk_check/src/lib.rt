@@ -30,5 +30,5 @@ mod turns;
 mod values;
 
 pub use fault::CheckFault;
-pub use reads::blind;
+pub use reads::{PACKET_SEEN, blind};
 pub use scripts::{check, one_program};

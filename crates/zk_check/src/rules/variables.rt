@@ -48,13 +48,13 @@ pub struct Declaration<'a> {
 }
 
 /// The rules that are broken beside what can't be told for a circle.
-fn unmarked(alloc: Global, rules: Items<Broken>) -> Result<Items<Broken>, Mem>
-    ensures { IfOk result (λ others. others ≡ filter (λ one. not (is_mark one)) rules) }
+fn unmarked(alloc: Global, rules: &[Broken]) -> Result<Items<Broken>, Mem>
+    ensures { IfOk result (λ others. others ≡ filter (λ one. not (is_mark one)) rules.now) }
 {
     let mut others = Items::new(alloc);
     for one in rules {
-        if !is_mark(&one) {
-            others.push(one)?;
+        if !is_mark(one) {
+            others.push(*one)?;
         }
     }
     Ok(others)
@@ -71,7 +71,7 @@ fn told(alloc: Global, place: Place, one: Result<Typed, Refusal>) -> Result<Type
             if !is_circular(rules.as_slice()) {
                 return Err(Refusal::Broken(rules));
             }
-            let others = unmarked(alloc, rules)?;
+            let others = unmarked(alloc, rules.as_slice())?;
             if others.is_empty() {
                 Err(Refusal::Broken(one_broken(alloc, Rule::WrongType, place)?))
             } else {

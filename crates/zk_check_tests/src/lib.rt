@@ -3,4 +3,12 @@
 #![tactic(auto)]
 
 #[cfg(test)]
-mod check;
+mod naming;
+#[cfg(test)]
+mod right;
+#[cfg(test)]
+mod tests;
+#[cfg(test)]
+mod typing;
+#[cfg(test)]
+mod using;

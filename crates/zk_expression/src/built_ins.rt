@@ -165,11 +165,7 @@ fn copied(alloc: Global, one: Typed) -> Result<Called, AllocError>
 {
     let Typed { value_type, expr } = one;
     let operands = one_operand(alloc, expr)?;
-    Ok(Called::Gives(applied(
-        value_type,
-        Primitive::BuiltIn(BuiltIn::Copy),
-        operands,
-    )))
+    Ok(Called::Gives(applied(value_type, Primitive::BuiltIn(BuiltIn::Copy), operands)))
 }
 
 /// A call of `fmt` with its text, the verbs of it, and the other arguments.

@@ -57,35 +57,68 @@ fn fault(rule: Rule, place: u64) -> CheckFault {
     }
 }
 
-/// The rules, each with scripts that break it.
-const RULES: [(Rule, &[(&[u8], u64)]); 12] = [
-    (Rule::Unknown, &UNKNOWN),
-    (Rule::Twice, &TWICE),
-    (Rule::WrongType, &WRONG_TYPE),
-    (Rule::Field, &FIELD),
-    (Rule::Recursive, &RECURSIVE),
-    (Rule::NotConst, &NOT_CONST),
-    (Rule::FixedGlobal, &FIXED_GLOBAL),
-    (Rule::Arguments, &ARGUMENTS),
-    (Rule::Return, &RETURN),
-    (Rule::Break, &BREAK),
-    (Rule::Attribute, &ATTRIBUTE),
-    (Rule::Format, &FORMAT),
-];
+/// The number of the first of these scripts that breaks another rule first, or at another place.
+fn told_otherwise(alloc: Global, rule: Rule, rows: &[(&[u8], u64)]) -> Result<Option<usize>, Fail> {
+    for (n, (text, place)) in rows.iter().enumerate() {
+        let found = told(alloc, &[(b"s", text)])?;
+        if found != Some(fault(rule, *place)) {
+            return Ok(Some(n));
+        }
+    }
+    Ok(None)
+}
 
 #[test]
 fn the_first_broken_rule_is_told_at_its_place(rt: HostRuntime) -> Result<(), Fail> {
     let alloc = rt.alloc();
-    for (rule, rows) in &RULES {
-        for (n, (text, place)) in rows.iter().enumerate() {
-            let wanted = Some(fault(*rule, *place));
-            assert_eq!(rt;
-                told(alloc, &[(b"s", text)])?,
-                wanted,
-                "in row {n} of {rule:?}"
-            );
-        }
-    }
+    assert_eq!(rt;
+        told_otherwise(alloc, Rule::Unknown, &UNKNOWN)?,
+        None,
+        "Unknown"
+    );
+    assert_eq!(rt; told_otherwise(alloc, Rule::Twice, &TWICE)?, None, "Twice");
+    assert_eq!(rt;
+        told_otherwise(alloc, Rule::WrongType, &WRONG_TYPE)?,
+        None,
+        "WrongType"
+    );
+    assert_eq!(rt; told_otherwise(alloc, Rule::Field, &FIELD)?, None, "Field");
+    assert_eq!(rt;
+        told_otherwise(alloc, Rule::Recursive, &RECURSIVE)?,
+        None,
+        "Recursive"
+    );
+    assert_eq!(rt;
+        told_otherwise(alloc, Rule::NotConst, &NOT_CONST)?,
+        None,
+        "NotConst"
+    );
+    assert_eq!(rt;
+        told_otherwise(alloc, Rule::FixedGlobal, &FIXED_GLOBAL)?,
+        None,
+        "FixedGlobal"
+    );
+    assert_eq!(rt;
+        told_otherwise(alloc, Rule::Arguments, &ARGUMENTS)?,
+        None,
+        "Arguments"
+    );
+    assert_eq!(rt;
+        told_otherwise(alloc, Rule::Return, &RETURN)?,
+        None,
+        "Return"
+    );
+    assert_eq!(rt; told_otherwise(alloc, Rule::Break, &BREAK)?, None, "Break");
+    assert_eq!(rt;
+        told_otherwise(alloc, Rule::Attribute, &ATTRIBUTE)?,
+        None,
+        "Attribute"
+    );
+    assert_eq!(rt;
+        told_otherwise(alloc, Rule::Format, &FORMAT)?,
+        None,
+        "Format"
+    );
     Ok(())
 }
 

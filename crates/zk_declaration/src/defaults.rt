@@ -1,6 +1,7 @@
 ghost use Rattle.std.specs.Prelude.{◌≡◌, ◌∷◌, [], codes};
 ghost use Rattle.zk_typed.specs.Declarations as spec;
 ghost use Rattle.zk_typed.specs.Errors as errors;
+ghost use Rattle.zk_typed.specs.Predefined.{int};
 ghost use Rattle.zk_typed.specs.Tells.{Tells};
 ghost use Rattle.zk_typed.specs.View.{type_of};
 ghost use Rattle.zk_names.specs.Lent.{home_of};
@@ -80,13 +81,21 @@ impl Ground<'_> {
         }
     }
 
+    /// The value of an attribute where an int is wanted.
+    fn int_typed(&self, home: Home<'_>, value: &Expr) -> Result<DefaultValue, Refusal>
+        requires { IsGround self.now }
+        ensures { Tells (λ made. made) result (spec.default_typed (spec.env_at (scripts_in self.now.names.now) (home_of home.entry)) int value.now) }
+    {
+        self.default_typed(home, &INT, value)
+    }
+
     /// The value of `&priority`: a number with at most one minus sign, in the range of ints.
     #[tactic(auto, using(zk_operator::proofs::BothLaws::passed))]
     fn priority_typed(&self, home: Home<'_>, value: &Expr) -> Result<DefaultValue, Refusal>
         requires { IsGround self.now }
         ensures { Tells (λ made. made) result (errors.priority_typed (spec.env_at (scripts_in self.now.names.now) (home_of home.entry)) value.now) }
     {
-        match self.default_typed(home, &INT, value) {
+        match self.int_typed(home, value) {
             Ok(given) => {
                 if is_int_number(&given) {
                     Ok(given)

@@ -95,7 +95,8 @@ def factor(capture, greatest=6):
     rows = []
     for n in range(greatest + 1):
         divisors = [str(d) for d in range(1, n + 1) if n % d == 0]
-        rows.append("\t".join([str(n), str(math.factorial(n)), ",".join(divisors) or "(empty)", "prime" if len(divisors) == 2 else "-"]))
+        note = "prime" if len(divisors) == 2 else "-"
+        rows.append("\t".join([str(n), str(math.factorial(n)), ",".join(divisors) or "(empty)", note]))
     return log("factor", "num:count factorial:count divisors:set[count] note:string", 0, last_moment(capture), rows)
 
 

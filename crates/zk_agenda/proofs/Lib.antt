@@ -5,9 +5,11 @@ pub mod Dues
 pub mod Steps
 pub mod Primitives
 pub mod Meaning
+pub mod Spared
 pub mod Bodies
 pub mod Worlds
 pub mod Walk
 pub mod Once
 pub mod OnceInRuns
+pub mod TablesStaying
 pub mod InTime

@@ -11,6 +11,7 @@ use Rattle.zk_typed.specs.Running.{Item, Goes, expire_of, run, world_in}
 use Rattle.zk_typed.specs.State.{World}
 use Rattle.zk_typed.specs.World.{Queued}
 use Rattle.zk_agenda.specs.Onward.{Raises}
+use Rattle.zk_agenda.specs.Sparing.{Spares, Expires}
 use Rattle.zk_agenda.specs.Trace.{dispatches, dues, is_scheduled, times}
 
 abbrev pub ItemsGo : List Item → Type 0
@@ -56,6 +57,10 @@ SameTables number (one ∷ others) before after =
 pub record TablesStay (program : Program) : Type 0 where
   pub dispatches : (budget : ℕ) (world : World) (event : Queued) → SameTables 0 program.globals world (dispatch program budget world event)
   pub expiries : (budget number order : ℕ) (world : World) → SameTables 0 program.globals world (expire_of program budget number order world (slice_get program.globals number))
+
+-- So do those of a program of which no body gives them another value.
+abbrev pub SparingTablesStay : Type 0
+SparingTablesStay = (program : Program) → Spares (Expires program) program → TablesStay program
 
 -- Network time never falls from one dispatch to a later one; and of two turns the one that is due earlier comes first.
 pub record IsInTime (program : Program) (budget : ℕ) (items : List Item) (last : Moment) : Type 0 where

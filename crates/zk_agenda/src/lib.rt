@@ -2,7 +2,7 @@
 #![tactic(auto)]
 
 ghost use Rattle.zk_agenda.specs.Bodies.{HandlersGo, InitialsGo, ExpiriesGo};
-ghost use Rattle.zk_agenda.specs.Laws.{DispatchedOnce, TimeRises};
+ghost use Rattle.zk_agenda.specs.Laws.{DispatchedOnce, SparingTablesStay, TimeRises};
 
 /// No body moves network time, begins or ends the end, or takes an event that was scheduled from those that
 /// wait; those that it schedules have the next numbers, are due at network time at the earliest, and are none
@@ -18,6 +18,12 @@ pub fn bodies_go_onward()
 /// waits: what is scheduled once the end has begun is dropped.
 pub fn dispatched_once()
     ensures { DispatchedOnce }
+{}
+
+/// A program of which no statement gives a global whose entries expire another value keeps their tables, over
+/// each dispatch and each turn of an entry.
+pub fn sparing_tables_stay()
+    ensures { SparingTablesStay }
 {}
 
 /// Network time never falls from one dispatch to a later one, and of two turns the one that is due earlier

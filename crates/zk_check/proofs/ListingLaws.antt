@@ -14,7 +14,7 @@ use Rattle.zk_names.specs.declared.home.Stated.{Stated as LentStated}
 use Rattle.zk_names.specs.Lent.{stated_lent, stated_of}
 use Rattle.zk_check.specs.Faults.{head_of}
 use Rattle.zk_check.specs.Listing.{all_rules, path_rules}
-use Rattle.zk_check.proofs.ListLaws.{front_of}
+use Rattle.zk_declaration.proofs.ListLaws.{front_of}
 
 head_more : {A : Type 0} (xs ys : List A) (first : Option A) → first ≡ head_of xs → first ≡ None → head_of (xs ++ ys) ≡ head_of ys
 head_more [] ys first e none = refl

@@ -2,10 +2,10 @@
 use Rattle.std.specs.Prelude.{◌≡◌}
 use Rattle.zk_names.specs.Scripted.{scripts_in}
 use Rattle.zk_check.specs.declared.rules.bodies.Bodied.{Bodied}
-use Rattle.zk_check.specs.Judging.{IsSource, scripts_from}
-use Rattle.zk_check.specs.Uses.{created_in, streams_lent}
-use Rattle.zk_check.specs.Logging.{logs_of}
-use Rattle.zk_check.specs.Valued.{IsValued}
+use Rattle.zk_declaration.specs.Sources.{IsSource, scripts_from}
+use Rattle.zk_declaration.specs.Uses.{created_in, streams_lent}
+use Rattle.zk_declaration.specs.Logging.{logs_of}
+use Rattle.zk_declaration.specs.Valued.{IsValued}
 
 -- it has the types of all globals, the logs and their streams, and its bodies are those of the same scripts
 pub record IsBodied (bodied : Bodied) : Type 0 where

@@ -10,9 +10,9 @@ use Rattle.zk_typed.specs.Program as program
 use Rattle.zk_typed.specs.Programs.{checked_or, first_or, function_in, no_function, stmt_in}
 use Rattle.zk_typed.specs.Resolving.{Scripts, params_of, result_of}
 use Rattle.zk_typed.specs.Statements.{InFunction}
-use Rattle.zk_check.specs.declared.groups.Groups.{Groups}
+use Rattle.zk_declaration.specs.declared.groups.Groups.{Groups}
 use Rattle.zk_check.specs.declared.program.functions.FunctionDecl.{FunctionDecl}
-use Rattle.zk_check.specs.Grouping.{group_at}
+use Rattle.zk_declaration.specs.Grouping.{group_at}
 
 -- the parameters and the result of a body
 abbrev pub signature_in : FunctionDecl → Signature

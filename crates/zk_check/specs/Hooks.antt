@@ -10,9 +10,9 @@ use Rattle.zk_typed.specs.Program as program
 use Rattle.zk_typed.specs.Programs.{checked_or, hook_body_in, priority_of, signature_of, stmt_in}
 use Rattle.zk_typed.specs.Resolving.{Scripts, params_of}
 use Rattle.zk_typed.specs.Statements.{InHook}
-use Rattle.zk_check.specs.declared.groups.Groups.{Groups}
+use Rattle.zk_declaration.specs.declared.groups.Groups.{Groups}
 use Rattle.zk_check.specs.declared.program.hooks.HookDecl.{HookDecl}
-use Rattle.zk_check.specs.Grouping.{group_at}
+use Rattle.zk_declaration.specs.Grouping.{group_at}
 
 -- a body of a hook
 abbrev pub hook_body_typed : Scripts → HookDecl → program.HookBody

@@ -31,7 +31,7 @@ use Rattle.zk_typed.specs.View.{global_of, record_of, stmt_of}
 use Rattle.zk_check.specs.declared.program.Code.{Code}
 use Rattle.zk_check.specs.declared.program.Data.{Data}
 use Rattle.zk_check.specs.declared.program.bodies.Body.{Body}
-use Rattle.zk_check.specs.Logging.{logs_of}
+use Rattle.zk_declaration.specs.Logging.{logs_of}
 
 -- what was checked, where no rule is broken in it
 abbrev pub IsChecked : {A : Type 0} → Result A Refusal → Result (Option A) Mem → Type 0

@@ -2,7 +2,7 @@ ghost use Rattle.std.specs.Prelude.{◌≡◌, ◌++◌, IfOk, OnOk};
 ghost use Rattle.zk_names.specs.Lent.{declared_of};
 ghost use Rattle.zk_names.specs.Scripted.{scripts_in};
 ghost use Rattle.zk_typed.specs.LogCalls.{stream_type};
-ghost use Rattle.zk_check.specs.Logging.{logs_by, logs_of};
+ghost use Rattle.zk_declaration.specs.Logging.{logs_by, logs_of};
 
 use std::alloc::Global;
 use zk_base::{Bytes, Mem, RecordNo};

@@ -4,9 +4,9 @@ ghost use Rattle.zk_names.specs.Lent.{files_of};
 ghost use Rattle.zk_typed.specs.LoadOrder.{File};
 ghost use Rattle.zk_typed.specs.Resolving.{Scripts};
 ghost use Rattle.zk_typed.specs.View.{program_of};
-ghost use Rattle.zk_check.specs.Judging.{IsSource, scripts_from};
+ghost use Rattle.zk_declaration.specs.Sources.{IsSource, scripts_from};
 ghost use Rattle.zk_check.specs.Programming.{IsCode, IsData, file_names, program_in};
-ghost use Rattle.zk_check.specs.Valuing.{IsValues};
+ghost use Rattle.zk_declaration.specs.Valuing.{IsValues};
 
 mod attrs;
 mod bodies;
@@ -24,10 +24,9 @@ use crate::program::functions::all_functions;
 use crate::program::globals::all_globals;
 use crate::program::hooks::all_hooks;
 use crate::program::records::all_records;
-use crate::source::Source;
-use crate::values::Values;
 use std::alloc::Global;
 use zk_base::{Bytes, Mem, Sequence};
+use zk_declaration::{Source, Values};
 use zk_tree::Tree;
 use zk_typed::script::{
     Event, Function, Global as ProgramGlobal, Handler, Hook, Log, Program, RecordType,

@@ -1,16 +1,20 @@
 ghost use Rattle.std.specs.Prelude.{◌≡◌, ◌&&◌};
 ghost use Rattle.std.specs.List.{list_all};
 ghost use Rattle.std.specs.Option.{option_map};
-ghost use Rattle.zk_check.specs.Blocks.{all_stated};
+ghost use Rattle.zk_statement.specs.Blocks.{all_stated};
 ghost use Rattle.zk_check.specs.Givens.{given_of, all_given};
 ghost use Rattle.zk_typed.specs.Blind as spec;
 ghost use Rattle.zk_typed.specs.Forms.{Givens};
 ghost use Rattle.zk_typed.specs.View as view;
 
-use zk_typed::PACKET_SEEN;
+use zk_base::EventNo;
 use zk_typed::script::{
     Action, Expr, FieldNo, Given, Global, Handler, Hook, HookBody, Left, Primitive, Program, Stmt,
 };
+
+/// `packet_seen(t: time, caplen: count, len: count)`, the third of the events that every program has: for
+/// each packet of a capture.
+pub const PACKET_SEEN: EventNo = EventNo(2);
 
 /// Whether a field is marked `&wire`.
 fn is_wire(program: &Program, one: FieldNo) -> bool

@@ -9,26 +9,22 @@ ghost use Rattle.zk_typed.specs.View.{program_of};
 ghost use Rattle.zk_names.specs.Lent.{files_of};
 ghost use Rattle.zk_names.specs.Scripted.{scripts_in};
 ghost use Rattle.zk_expression.specs.Envs.{globals_at};
-ghost use Rattle.zk_check.specs.Judging.{IsSource, scripts_from};
-ghost use Rattle.zk_check.specs.Valuing.{IsValues};
+ghost use Rattle.zk_declaration.specs.Sources.{IsSource, scripts_from};
+ghost use Rattle.zk_declaration.specs.Valuing.{IsValues};
 ghost use Rattle.zk_check.specs.Checking.{IsAccepted};
 ghost use Rattle.zk_check.specs.Faults.{IsFirst, head_of};
-ghost use Rattle.zk_check.specs.Rounds.{IsGlobals};
+ghost use Rattle.zk_declaration.specs.Rounds.{IsGlobals};
 
 use crate::fault::{CheckFault, fault_of};
 use crate::logs::all_logs;
 use crate::program::typed_program;
 use crate::rules::bodies::Bodied;
 use crate::rules::decls::Earlier;
-use crate::rules::ground::Ground;
-use crate::rules::logging::all_streams;
-use crate::rules::rising::depths;
-use crate::rules::rounds::{known_types, told_types};
-use crate::rules::variables::Valued;
-use crate::source::Source;
-use crate::values::{Values, given_values};
 use std::alloc::Global;
 use zk_base::{Bytes, Mem};
+use zk_declaration::{
+    Ground, Source, Valued, Values, all_streams, depths, given_values, known_types, told_types,
+};
 use zk_expression::{GlobalType, Globals};
 use zk_names::{Names, Scripts};
 use zk_tree::Tree;

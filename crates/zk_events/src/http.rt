@@ -169,7 +169,7 @@ fn capitals(alloc: Global, name: &[u8]) -> Result<Value, Mem>
 }
 
 /// The number of the reason of a violation.
-fn reason_number(reason: Reason) -> u64
+pub fn reason_number(reason: Reason) -> u64
     ensures { result ≡ reason_number reason }
 {
     match reason {

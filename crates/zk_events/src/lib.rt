@@ -15,4 +15,6 @@ mod turns;
 mod values;
 
 pub use engine::{Engine, ItemEnd};
+pub use http::reason_number;
 pub use laws::{agenda_holds, lines_given, lines_stay};
+pub use values::state_name;

@@ -29,7 +29,10 @@ impl<F: Fn(Global, &Env<'_>, u64, Wanted<'_>, &Expr) -> Result<Typed, Refusal>> 
         match self.check(Wanted::Nothing, one) {
             Ok(made) => match simple_type(self.alloc, self.env.expr_place(one), &made) {
                 Ok(_) => Ok(made),
-                Err(refusal) => Err(refusal),
+                Err(refusal) => {
+                    drop(made);
+                    Err(refusal)
+                }
             },
             Err(refusal) => Err(refusal),
         }

@@ -37,12 +37,7 @@ impl<F: Fn(Global, &Env<'_>, u64, Wanted<'_>, &Expr) -> Result<Typed, Refusal>> 
     }
 
     /// The right side of an assignment, by what its left side takes.
-    fn right_side(
-        &self,
-        operator: Assigning,
-        side: &Side,
-        right: &Expr,
-    ) -> Result<Typed, Refusal>
+    fn right_side(&self, operator: Assigning, side: &Side, right: &Expr) -> Result<Typed, Refusal>
         requires { Judges self.now.depth (F.pre self.now.part) (F.post self.now.part) }
         ensures { Tells typed_of result (rules.expr_to self.now.depth (env_of self.now.env.now) (rules.option_wanted (rules.assigned_type operator (side_of side.now).type)) right.now) }
     {

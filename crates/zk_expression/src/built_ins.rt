@@ -61,14 +61,18 @@ impl<F: Fn(Global, &Env<'_>, u64, Wanted<'_>, &Expr) -> Result<Typed, Refusal>> 
         requires { Judges self.now.depth (F.pre self.now.part) (F.post self.now.part) }
         ensures { Tells text_view result (making.format_text (rules.expr_to self.now.depth (env_of self.now.env.now)) (env_of self.now.env.now) one.now) }
     {
+        let verbs = literal_verbs(self.alloc, one)?;
         match self.string(one) {
-            Ok(text) => match literal_verbs(self.alloc, one)? {
+            Ok(text) => match verbs {
                 Some(verbs) => Ok((text, verbs)),
-                None => Err(Refusal::Broken(one_broken(
-                    self.alloc,
-                    Rule::Format,
-                    self.env.expr_place(one),
-                )?)),
+                None => {
+                    drop(text);
+                    Err(Refusal::Broken(one_broken(
+                        self.alloc,
+                        Rule::Format,
+                        self.env.expr_place(one),
+                    )?))
+                }
             },
             Err(refusal) => Err(refusal),
         }
@@ -165,11 +169,7 @@ fn copied(alloc: Global, one: Typed) -> Result<Called, AllocError>
 {
     let Typed { value_type, expr } = one;
     let operands = one_operand(alloc, expr)?;
-    Ok(Called::Gives(applied(
-        value_type,
-        Primitive::BuiltIn(BuiltIn::Copy),
-        operands,
-    )))
+    Ok(Called::Gives(applied(value_type, Primitive::BuiltIn(BuiltIn::Copy), operands)))
 }
 
 /// A call of `fmt` with its text, the verbs of it, and the other arguments.
@@ -184,6 +184,7 @@ fn formatted(
 {
     let (text, verbs) = text;
     if !verbs_take(verbs.as_slice(), &others) {
+        drop(text);
         return Err(broken(alloc, Rule::Format, place));
     }
     let operands = operands_behind(alloc, text.expr, others)?;
@@ -209,6 +210,7 @@ impl<F: Fn(Global, &Env<'_>, u64, Wanted<'_>, &Expr) -> Result<Typed, Refusal>> 
                 if others.is_empty() {
                     Ok(copied(self.alloc, one)?)
                 } else {
+                    drop(one);
                     Err(Refusal::Broken(one_broken(self.alloc, Rule::Arguments, place)?))
                 }
             }

@@ -246,11 +246,10 @@ impl<F: Fn(Global, &Env<'_>, u64, Wanted<'_>, &Expr) -> Result<Typed, Refusal>> 
     {
         match self.call_of(name, items) {
             Ok(Called::Gives(one)) => Ok(one),
-            Ok(Called::Performs { .. }) => Err(Refusal::Broken(one_broken(
-                self.alloc,
-                Rule::WrongType,
-                place,
-            )?)),
+            Ok(Called::Performs { args, .. }) => {
+                drop(args);
+                Err(Refusal::Broken(one_broken(self.alloc, Rule::WrongType, place)?))
+            }
             Err(refusal) => Err(refusal),
         }
     }

@@ -43,6 +43,8 @@ impl<F: Fn(Global, &Env<'_>, u64, Wanted<'_>, &Expr) -> Result<Typed, Refusal>> 
                 if same_type(&first.value_type, &second.value_type) {
                     Ok((first, second))
                 } else {
+                    drop(first);
+                    drop(second);
                     Err(Refusal::Broken(one_broken(
                         self.alloc,
                         Rule::WrongType,

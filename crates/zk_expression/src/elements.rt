@@ -109,7 +109,10 @@ fn element_of(
             let operands = operands_behind(alloc, table, keys)?;
             Ok(applied(value_type, Primitive::Element, operands))
         }
-        Err(refusal) => Err(refusal),
+        Err(refusal) => {
+            drop(table);
+            Err(refusal)
+        }
     }
 }
 
@@ -127,7 +130,10 @@ fn item_of(
             let operands = operands_behind(alloc, vector, index)?;
             Ok(applied(value_type, Primitive::Item, operands))
         }
-        Err(refusal) => Err(refusal),
+        Err(refusal) => {
+            drop(vector);
+            Err(refusal)
+        }
     }
 }
 
@@ -154,6 +160,7 @@ pub fn element(
             item_of(alloc, item.into_inner(), expr, fitting)
         }
         ValueType::Simple(_) | ValueType::Record(_) | ValueType::Set { .. } => {
+            drop(expr);
             Err(broken(alloc, Rule::WrongType, place))
         }
     }

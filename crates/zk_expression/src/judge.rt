@@ -13,11 +13,12 @@ ghost use Rattle.zk_expression.specs.Judging.{Judges};
 ghost use Rattle.zk_expression.specs.Parts.{then_broken};
 
 use crate::env::Env;
+use crate::refused::wrong;
 use std::alloc::Global;
 use zk_operator::{Typed, Wanted, with_part};
 use zk_tree::{Expr, Item};
+use zk_typed::Refusal;
 use zk_typed::script::{SimpleType, ValueType};
-use zk_typed::{Refusal, Rule, one_broken};
 
 /// What checks the parts of an expression.
 #[derive(Clone, Copy)]
@@ -57,19 +58,13 @@ impl<F: Fn(Global, &Env<'_>, u64, Wanted<'_>, &Expr) -> Result<Typed, Refusal>> 
     }
 
     /// An item that names a field where a value is to stand.
-    #[tactic(auto, using(crate::proofs::Steps::passed))]
+    #[tactic(auto, using(crate::proofs::Refusals::refused))]
     pub fn named_item(&self, place: u64, value: &Expr) -> Result<Typed, Refusal>
         requires { Judges self.now.depth (F.pre self.now.part) (F.post self.now.part) }
         ensures { Tells typed_of result (then_broken (rules.expr_to self.now.depth (env_of self.now.env.now) spec.Nothing value.now) rule.WrongType (spec.at (env_of self.now.env.now) place)) }
     {
-        match self.check(Wanted::Nothing, value) {
-            Ok(_) => Err(Refusal::Broken(one_broken(
-                self.alloc,
-                Rule::WrongType,
-                self.env.at(place),
-            )?)),
-            Err(refusal) => Err(refusal),
-        }
+        let judged = self.check(Wanted::Nothing, value);
+        Err(wrong(self.alloc, judged, self.env.at(place)))
     }
 
     /// An argument where a type is wanted.

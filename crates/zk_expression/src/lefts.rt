@@ -140,7 +140,10 @@ fn element_side(alloc: Global, place: Place, one: Typed) -> Result<Side, Refusal
             Primitive::Item => Ok(side(Left::Item, operands, value_type)),
             _ => Err(broken(alloc, Rule::WrongType, place)),
         },
-        _ => Err(broken(alloc, Rule::WrongType, place)),
+        _ => {
+            drop(expr);
+            Err(broken(alloc, Rule::WrongType, place))
+        }
     }
 }
 

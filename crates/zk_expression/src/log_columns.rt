@@ -88,7 +88,10 @@ impl<F: Fn(Global, &Env<'_>, u64, Wanted<'_>, &Expr) -> Result<Typed, Refusal>> 
     {
         let wanted = string_set(self.alloc)?;
         match self.check(Wanted::Type(&wanted), one) {
-            Ok(_) => names_text(self.alloc, self.env.expr_place(one), one),
+            Ok(judged) => {
+                drop(judged);
+                names_text(self.alloc, self.env.expr_place(one), one)
+            }
             Err(refusal) => Err(refusal),
         }
     }

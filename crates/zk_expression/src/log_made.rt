@@ -153,8 +153,8 @@ pub fn row_written(
 ) -> Result<Typed, Mem>
     ensures { IfOk result (λ made. typed_of made ≡ written_row (env_of env.now) (declared_of word.now) (typed_of row)) }
 {
-    let log = log_no(env, word)?;
     let row = Boxed::new(alloc, row.expr)?;
+    let log = log_no(env, word)?;
     Ok(Typed {
         value_type: ValueType::Simple(SimpleType::Bool),
         expr: TypedExpr::Write { log, row },

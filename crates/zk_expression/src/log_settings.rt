@@ -81,7 +81,10 @@ impl<F: Fn(Global, &Env<'_>, u64, Wanted<'_>, &Expr) -> Result<Typed, Refusal>> 
         ensures { Tells (λ path. path) result (logs.path_literal (rules.expr_to self.now.depth (env_of self.now.env.now)) (env_of self.now.env.now) one.now) }
     {
         match self.string(one) {
-            Ok(_) => path_text(self.alloc, self.env.expr_place(one), one),
+            Ok(judged) => {
+                drop(judged);
+                path_text(self.alloc, self.env.expr_place(one), one)
+            }
             Err(refusal) => Err(refusal),
         }
     }

@@ -25,7 +25,10 @@ fn as_keys(
     let mut others = types;
     for one in keys {
         match others.split_first() {
-            None => return Ok(None),
+            None => {
+                drop(one);
+                return Ok(None);
+            }
             Some((key, rest)) => {
                 let wanted = ValueType::Simple(*key);
                 match fits(alloc, &wanted, one)? {
@@ -85,6 +88,7 @@ fn one_in(
     if is_one(wanted, &keys) {
         Ok(Some(with_last(alloc, primitive, keys, right)?))
     } else {
+        drop(right);
         Ok(None)
     }
 }
@@ -95,9 +99,16 @@ fn in_form(alloc: Global, keys: Vec<Typed>, right: Typed) -> Result<Option<Expr>
 {
     match &right.value_type {
         ValueType::Table { keys: types, .. } | ValueType::Set { keys: types } => {
-            match as_keys(alloc, types.as_slice(), keys)? {
-                None => Ok(None),
-                Some(fitting) => Ok(Some(with_last(alloc, Primitive::HasKey, fitting, right)?)),
+            match as_keys(alloc, types.as_slice(), keys) {
+                Ok(Some(fitting)) => Ok(Some(with_last(alloc, Primitive::HasKey, fitting, right)?)),
+                Ok(None) => {
+                    drop(right);
+                    Ok(None)
+                }
+                Err(error) => {
+                    drop(right);
+                    Err(error)
+                }
             }
         }
         ValueType::Simple(SimpleType::String) => {
@@ -109,7 +120,10 @@ fn in_form(alloc: Global, keys: Vec<Typed>, right: Typed) -> Result<Option<Expr>
         ValueType::Vector { .. } => {
             one_in(alloc, Primitive::HasIndex, SimpleType::Count, keys, right)
         }
-        ValueType::Simple(_) | ValueType::Record(_) => Ok(None),
+        ValueType::Simple(_) | ValueType::Record(_) => {
+            drop(right);
+            Ok(None)
+        }
     }
 }
 

@@ -50,7 +50,10 @@ impl<F: Fn(Global, &Env<'_>, u64, Wanted<'_>, &Expr) -> Result<Typed, Refusal>> 
                 let operands = one_operand(self.alloc, one.expr)?;
                 Ok(applied(value_type, Primitive::Field(field), operands))
             }
-            Err(refusal) => Err(refusal),
+            Err(refusal) => {
+                drop(one);
+                Err(refusal)
+            }
         }
     }
 
@@ -65,7 +68,10 @@ impl<F: Fn(Global, &Env<'_>, u64, Wanted<'_>, &Expr) -> Result<Typed, Refusal>> 
                 let truth = ValueType::Simple(SimpleType::Bool);
                 Ok(applied(truth, Primitive::HasField(field), operands))
             }
-            Err(refusal) => Err(refusal),
+            Err(refusal) => {
+                drop(one);
+                Err(refusal)
+            }
         }
     }
 

@@ -20,7 +20,7 @@ ghost use Rattle.zk_expression.specs.Records.{given_of, all_given_of, known_give
 use crate::env::Env;
 use crate::fields::{Read, field_named, wire_read};
 use crate::judge::Judge;
-use crate::refused::{unclear, wrong};
+use crate::refused::{refused, unclear, wrong};
 use sqlite_items::Items;
 use std::alloc::{AllocError, Global};
 use std::collections::BTreeSet;
@@ -56,7 +56,7 @@ impl<F: Fn(Global, &Env<'_>, u64, Wanted<'_>, &Expr) -> Result<Typed, Refusal>> 
     }
 
     /// A value for what its name was found to name.
-    #[tactic(auto, using(crate::proofs::Steps::passed))]
+    #[tactic(auto, using(crate::proofs::Steps::passed, crate::proofs::Refusals::refused))]
     fn given_value(
         &self,
         place: u64,
@@ -67,14 +67,10 @@ impl<F: Fn(Global, &Env<'_>, u64, Wanted<'_>, &Expr) -> Result<Typed, Refusal>> 
         ensures { Tells given_of result (field_given (rules.expr_to self.now.depth (env_of self.now.env.now)) (env_of self.now.env.now) place value.now (option_map field_found found.entry)) }
     {
         match found {
-            None => match self.check(Wanted::Nothing, value) {
-                Ok(_) => Err(Refusal::Broken(one_broken(
-                    self.alloc,
-                    Rule::Field,
-                    self.env.at(place),
-                )?)),
-                Err(refusal) => Err(refusal),
-            },
+            None => {
+                let judged = self.check(Wanted::Nothing, value);
+                Err(refused(self.alloc, judged, Rule::Field, self.env.at(place)))
+            }
             Some((number, field)) => match self.field_value(&field.field_type, value) {
                 Ok(value) => Ok(GivenField {
                     number,

@@ -17,9 +17,7 @@ use zk_typed::script::{BuiltIn, SimpleType, ValueType};
 pub fn alone(alloc: Global, one: Typed) -> Result<Vec<Typed>, AllocError>
     ensures { IfOk result (λ all. typed_all all.items ≡ typed_of one ∷ []) }
 {
-    let mut all = Vec::new(alloc);
-    all.push(one)?;
-    Ok(all)
+    Ok(Vec::from_array(alloc, [one])?)
 }
 
 /// Each of some types without parts.

@@ -15,6 +15,3 @@ pub use loading::load_scripts;
 pub use reading::read_input;
 pub use stop::{Stop, written};
 pub use texts::read_texts;
-
-#[cfg(test)]
-mod tests;

@@ -1,5 +1,5 @@
 -- The module in a name, as far as it was read from behind.
-use Rattle.std.proofs.Common.{◌≡◌, ℕ, zero, suc, ◌+◌, ◌-◌, ◌<◌, ◌≤◌, Bool, true, false, List, [], ◌∷◌, ◌++◌, length, take, drop, get_or, codes, nat_eq, Option, Some, None, refl, ap, sym, subst, ◌∙◌, arith, add-one, append-nil, drop-cons, if◌then◌else◌}
+use Rattle.std.proofs.Common.{◌≡◌, ℕ, zero, suc, ◌+◌, ◌-◌, ◌<◌, ◌≤◌, Bool, true, false, List, [], ◌∷◌, ◌++◌, length, take, drop, get_or, codes, nat_eq, Option, Some, None, ap, sym, subst, ◌∙◌, arith, add-one, append-nil, drop-cons, if◌then◌else◌}
 use Rattle.std.proofs.Math.ListN.{drop_of_length-le}
 use Rattle.std.specs.List.{starts_with}
 use Rattle.std.specs.Option.{option_map}
@@ -18,7 +18,9 @@ abbrev pub IsRead : List ℕ → ℕ → Type 0
 IsRead name at = module_in (drop at name) ≡ None
 
 pub read_none : (name : List ℕ) → IsRead name (length name)
-read_none name = ap module_in (drop_of_length-le name search)
+read_none name =
+    let all : length name ≤ length name = omega arith in
+    ap module_in (drop_of_length-le name all)
 
 opened : (name : List ℕ) (at : ℕ) → at < length name → drop at name ≡ get_or name at 0 ∷ drop (at + 1) name
 opened name at within = rw add-one (drop-cons name at 0 within)

@@ -1,4 +1,4 @@
-ghost use Rattle.std.specs.Prelude.{[], Ok};
+ghost use Rattle.std.specs.Prelude.{◌≡◌, [], Ok};
 ghost use Rattle.zk_typed.specs.Declarations as spec;
 ghost use Rattle.zk_typed.specs.LoadOrder.{Home};
 ghost use Rattle.zk_typed.specs.Tells.{Tells};

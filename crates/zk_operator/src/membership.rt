@@ -79,6 +79,7 @@ pub fn size_typed(alloc: Global, place: Place, one: Typed) -> Result<Typed, Refu
     ensures { Tells typed_of result (rules.size_typed place (typed_of one)) }
 {
     if !has_size(&one.value_type) {
+        drop(one);
         return Err(Refusal::Broken(one_broken(alloc, Rule::WrongType, place)?));
     }
     let operands = one_operand(alloc, one.expr)?;

@@ -1,7 +1,8 @@
-ghost use Rattle.std.specs.Prelude.{◌≡◌, ◌∷◌, [], IfOk};
+ghost use Rattle.std.specs.Prelude.{◌≡◌, ◌&&◌, ◌∷◌, [], IfOk, if◌then◌else◌};
 ghost use Rattle.std.specs.Option.{option_map};
 ghost use Rattle.zk_typed.specs.declared.rule.Rule.TheVariants as rule;
 ghost use Rattle.zk_typed.specs.Forms as form;
+ghost use Rattle.zk_typed.specs.Operations as operations;
 ghost use Rattle.zk_typed.specs.Predefined as type;
 ghost use Rattle.zk_typed.specs.Tells.{Tells};
 ghost use Rattle.zk_typed.specs.Typing as spec;
@@ -46,18 +47,16 @@ pub const BOOL: ValueType = ValueType::Simple(SimpleType::Bool);
 pub fn one_operand(alloc: Global, one: Expr) -> Result<Items<Expr>, AllocError>
     ensures { IfOk result (λ all. all ≡ one ∷ []) }
 {
-    let mut all = Items::new(alloc);
-    all.push(one)?;
-    Ok(all)
+    let all = Vec::from_array(alloc, [one])?;
+    Ok(Items::from_vec(all))
 }
 
 /// Two operands.
 pub fn two_operands(alloc: Global, one: Expr, other: Expr) -> Result<Items<Expr>, AllocError>
     ensures { IfOk result (λ all. all ≡ one ∷ other ∷ []) }
 {
-    let mut all = one_operand(alloc, one)?;
-    all.push(other)?;
-    Ok(all)
+    let all = Vec::from_array(alloc, [one, other])?;
+    Ok(Items::from_vec(all))
 }
 
 /// What a primitive makes of operands.
@@ -96,6 +95,7 @@ pub fn fits(alloc: Global, wanted: &ValueType, one: Typed) -> Result<Option<Type
     if same_type(wanted, &INT) && same_type(&one.value_type, &COUNT) {
         return Ok(Some(to_int(alloc, one)?));
     }
+    drop(one);
     Ok(None)
 }
 
@@ -127,15 +127,41 @@ pub fn simple_type(alloc: Global, place: Place, one: &Typed) -> Result<SimpleTyp
     }
 }
 
+/// A value, or a count as an int.
+fn converted(alloc: Global, converts: bool, one: Typed) -> Result<Typed, AllocError>
+    ensures { IfOk result (λ made. typed_of made ≡ (if converts then spec.to_int (typed_of one) else typed_of one)) }
+{
+    if converts {
+        to_int(alloc, one)
+    } else {
+        Ok(one)
+    }
+}
+
+/// Whether two values have these types.
+fn are(a: &ValueType, first: &ValueType, b: &ValueType, second: &ValueType) -> bool
+    ensures { result ≡ (operations.same_type (type_of a.now) (type_of first.now) && operations.same_type (type_of b.now) (type_of second.now)) }
+{
+    same_type(a, first) && same_type(b, second)
+}
+
 /// Two operands, a count beside an int as an int.
 pub fn beside(alloc: Global, a: Typed, b: Typed) -> Result<(Typed, Typed), AllocError>
     ensures { IfOk result (λ pair. pair_of pair ≡ spec.beside (typed_of a) (typed_of b)) }
 {
-    if same_type(&a.value_type, &COUNT) && same_type(&b.value_type, &INT) {
-        return Ok((to_int(alloc, a)?, b));
+    let first = are(&a.value_type, &COUNT, &b.value_type, &INT);
+    let second = !first && are(&a.value_type, &INT, &b.value_type, &COUNT);
+    match converted(alloc, first, a) {
+        Ok(a) => match converted(alloc, second, b) {
+            Ok(b) => Ok((a, b)),
+            Err(error) => {
+                drop(a);
+                Err(error)
+            }
+        },
+        Err(error) => {
+            drop(b);
+            Err(error)
+        }
     }
-    if same_type(&a.value_type, &INT) && same_type(&b.value_type, &COUNT) {
-        return Ok((a, to_int(alloc, b)?));
-    }
-    Ok((a, b))
 }

@@ -65,6 +65,8 @@ pub fn arithmetic(
             } else {
                 first
             };
+            drop(a);
+            drop(b);
             Err(Refusal::Broken(one_broken(alloc, Rule::WrongType, place)?))
         }
     }
@@ -113,10 +115,38 @@ pub fn related(
     ensures { Tells typed_of result (spec.related relation first second (typed_of a, typed_of b)) }
 {
     match unrelated(relation, first, second, &a.value_type, &b.value_type) {
-        Some(place) => Err(Refusal::Broken(one_broken(alloc, Rule::WrongType, place)?)),
+        Some(place) => {
+            drop(a);
+            drop(b);
+            Err(Refusal::Broken(one_broken(alloc, Rule::WrongType, place)?))
+        }
         None => {
             let made = compared(alloc, relation, a, b)?;
             Ok(made)
+        }
+    }
+}
+
+/// An operand in a box of its own.
+fn boxed(alloc: Global, one: Typed) -> Result<Boxed<Expr>, AllocError>
+    ensures { IfOk result (λ made. made ≡ one.expr) }
+{
+    Boxed::new(alloc, one.expr)
+}
+
+/// Two operands, each in a box of its own.
+fn boxed_pair(
+    alloc: Global,
+    one: Typed,
+    other: Typed,
+) -> Result<(Boxed<Expr>, Boxed<Expr>), AllocError>
+    ensures { IfOk result (λ made. (made.0 ≡ one.expr) × (made.1 ≡ other.expr)) }
+{
+    match boxed(alloc, one) {
+        Ok(one) => Ok((one, boxed(alloc, other)?)),
+        Err(error) => {
+            drop(other);
+            Err(error)
         }
     }
 }
@@ -125,8 +155,7 @@ pub fn related(
 pub fn truths(alloc: Global, level: Level, a: Typed, b: Typed) -> Result<Typed, AllocError>
     ensures { IfOk result (λ made. typed_of made ≡ spec.truths level (typed_of a) (typed_of b)) }
 {
-    let a = Boxed::new(alloc, a.expr)?;
-    let b = Boxed::new(alloc, b.expr)?;
+    let (a, b) = boxed_pair(alloc, a, b)?;
     let value_type = ValueType::Simple(SimpleType::Bool);
     match level {
         Level::Or => Ok(Typed {
@@ -145,13 +174,19 @@ pub fn choice(alloc: Global, test: Typed, a: Typed, b: Typed) -> Result<Typed, A
     ensures { IfOk result (λ made. typed_of made ≡ spec.typed (type_of a.value_type) (form.Choice (expr_of test.expr) (expr_of a.expr) (expr_of b.expr))) }
 {
     let Typed { value_type, expr } = a;
-    let test = Boxed::new(alloc, test.expr)?;
-    let yes = Boxed::new(alloc, expr)?;
-    let no = Boxed::new(alloc, b.expr)?;
-    Ok(Typed {
-        value_type,
-        expr: Expr::Choice { test, yes, no },
-    })
+    match boxed_pair(alloc, test, b) {
+        Ok((test, no)) => {
+            let yes = Boxed::new(alloc, expr)?;
+            Ok(Typed {
+                value_type,
+                expr: Expr::Choice { test, yes, no },
+            })
+        }
+        Err(error) => {
+            drop(expr);
+            Err(error)
+        }
+    }
 }
 
 /// `!a` of a truth value.
@@ -219,6 +254,9 @@ pub fn negative(alloc: Global, place: Place, one: Typed) -> Result<Typed, Refusa
                 operands,
             ))
         }
-        None => Err(Refusal::Broken(one_broken(alloc, Rule::WrongType, place)?)),
+        None => {
+            drop(one);
+            Err(Refusal::Broken(one_broken(alloc, Rule::WrongType, place)?))
+        }
     }
 }

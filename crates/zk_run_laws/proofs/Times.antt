@@ -15,6 +15,7 @@ use Rattle.zk_traffic.specs.declared.item.Item.{Item}
 use Rattle.zk_traffic.specs.Items.{items_of}
 use Rattle.zk_tree.specs.Table.{last_moment}
 use Rattle.zk_typed.specs.Program.{Program}
+use Rattle.zk_sound.specs.Laws.{TypedTablesStay}
 use Rattle.zk_run_laws.specs.Laws.{CapturesRunInTime, ItemsInOrder}
 
 -- items as a run takes them have their own moments
@@ -41,7 +42,7 @@ time-within top start (p ∷ packets) first within each =
 packet-within : (p : Packet) → IsWithinLimits p → p.moment.0 ≤ℤ last_moment
 packet-within p within = rw within.moment.2 (let small = within.moment.1 in omega (arith, ints, small))
 
-pub captures_run_in_time : MomentsRise → TimeNeverFalls → CapturesRunInTime
-captures_run_in_time rise never program budget options link records stay within =
-    never program budget (items_of options link records true) (now records) stay (items_in_order rise program budget options link records true)
+pub captures_run_in_time : MomentsRise → TimeNeverFalls → TypedTablesStay → CapturesRunInTime
+captures_run_in_time rise never stay files program budget options link records typed within =
+    never program budget (items_of options link records true) (now records) (stay files program typed) (items_in_order rise program budget options link records true)
     (time-within last_moment (record { 0 = pos 0 }) records (omega (arith, ints)) within packet-within)

@@ -8,8 +8,6 @@ ghost use Rattle.zk_scripts.specs.Texts.{default_texts};
 mod conn;
 mod dns;
 mod http;
-#[cfg(test)]
-mod tests;
 
 /// The default scripts, each with its name and its text, in load order. No memory is taken.
 pub fn default_scripts() -> &'static [(&'static [u8], &'static [u8])]

@@ -1,5 +1,5 @@
 -- Calls that the rules make have types: of functions, of hooks, of built-in functions and of the log framework.
-use Rattle.std.proofs.Common.{◌≡◌, ℕ, ◌==◌, length, Bool, true, false, List, [], ◌∷◌, Option, Some, None, Ok, Err, refl, sym, ap, subst, ◌∙◌}
+use Rattle.std.proofs.Common.{◌≡◌, ℕ, ◌==◌, length, Bool, true, false, List, [], ◌∷◌, Option, Some, None, Ok, refl, sym, ap, subst, ◌∙◌}
 use Rattle.std.specs.Prelude.{if◌then◌else◌, codes}
 use Rattle.std.specs.List.{AllByRecursion}
 use Rattle.zk_base.specs.declared.numbers.RecordNo.{RecordNo}
@@ -32,7 +32,7 @@ use Rattle.zk_sound.specs.Having.{IsSimple, BuiltInTakes}
 use Rattle.zk_sound.specs.Agreeing.{FunctionAgrees, EnvAgrees}
 use Rattle.zk_sound.proofs.Checks.{Sound, sound_bind, sound_after, never_ok, sound_require, sound_both, sound_each, sound_any, sound_is, sound_more}
 use Rattle.zk_sound.proofs.Formed.{types_of, IsForm, Formed, ChecksWell, have_forms, applied, at_type, printable_sound, item_sound, items_sound}
-use Rattle.zk_sound.proofs.Constructed.{AreForms, arguments_sound, given_arguments, each_argument, FieldAt, field_sound, element_sound, record_sound}
+use Rattle.zk_sound.proofs.Constructed.{AreForms, arguments_sound, given_arguments, FieldAt, field_sound, element_sound, record_sound}
 
 -- a text that stands in a script is a string
 abbrev pub TextsWell : Check → Type 0

@@ -277,6 +277,14 @@ in_brackets check env keys one (Some items) = each_key check env (at env items.0
 abbrev pub MembersWell : Members → Type 1
 MembersWell members = (P : List Typed → Type 0) (judge : Expr → Checked (List Typed)) → ((one : Expr) → Sound P (judge one)) → Sound (AllByRecursion P) (members judge)
 
+-- items do so
+pub members_in_well : (check : Check) (env : Env) (items : List Item) → MembersWell (members_in check env items)
+members_in_well check env items P judge h = sound_each P (on_item check env judge) (λ item. by item (out-Item item) refl) items
+  where
+    by : (item : Item) (f : Item-F Expr Item Part Link) → out-Item item ≡ f → Sound P (on_item check env judge item)
+    by item (written.Value one) is = rw is (h one)
+    by item (written.Item::Field place name one) is = rw is (never_ok P (check Nothing one) rule.WrongType (at env place))
+
 module _ (program : Program) (names : Names) (check : Check) (well : ChecksWell program names check) (env : Env) where
   pub members_well : (items : List Item) → MembersWell (members_in check env items)
   members_well items P judge h = sound_each P (on_item check env judge) (item_sound program names check env P judge h) items

@@ -55,16 +55,16 @@ abbrev pub ChecksWell : Program → Names → Check → Type 0
 ChecksWell program names check = (wanted : Wanted) (one : Expr) → Sound (Formed program names wanted) (check wanted one)
 
 -- `in` with its right operand of a type
-abbrev in_two : Primitive → Typed → ValueType → List Typed → Option form.Expr
+abbrev pub in_two : Primitive → Typed → ValueType → List Typed → Option form.Expr
 in_two one right wanted (left ∷ []) = if same_type left.type wanted then Some (apply one (left ∷ right ∷ [])) else None
 in_two one right wanted other = None
 
 -- the test of keys in a container
-abbrev KeyForm : Typed → Option (List Typed) → Option form.Expr
+abbrev pub KeyForm : Typed → Option (List Typed) → Option form.Expr
 KeyForm right None = None
 KeyForm right (Some fitting) = Some (apply primitive.HasKey (fitting ++ right ∷ []))
 
-abbrev told_form : List Typed → Typed → ValueType → Option form.Expr
+abbrev pub told_form : List Typed → Typed → ValueType → Option form.Expr
 told_form keys right (Table types item) = KeyForm right (as_keys types keys)
 told_form keys right (Set types) = KeyForm right (as_keys types keys)
 told_form keys right (Simple simple.String) = in_two primitive.HasText right type.string keys
@@ -72,7 +72,7 @@ told_form keys right (Simple simple.Subnet) = in_two primitive.HasAddress right 
 told_form keys right (Vector item) = in_two primitive.HasIndex right type.count keys
 told_form keys right other = None
 
-as_told : (keys : List Typed) (right : Typed) → in_form keys right ≡ told_form keys right right.type
+pub as_told : (keys : List Typed) (right : Typed) → in_form keys right ≡ told_form keys right right.type
 as_told [] right = by right.type refl
   where
     by : (of : ValueType) → right.type ≡ of → in_form [] right ≡ told_form [] right right.type

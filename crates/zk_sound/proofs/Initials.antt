@@ -31,7 +31,7 @@ use Rattle.zk_typed.specs.declared.script.types.SimpleType.{SimpleType}
 use Rattle.zk_typed.specs.declared.script.types.SimpleType.TheVariants as simple
 use Rattle.zk_typed.specs.Checked.{Checked}
 use Rattle.zk_typed.specs.Columns.{record_fields}
-use Rattle.zk_typed.specs.Declarations.{variables, global_type, env_at, literal_of, minus_operand, literal_default, negative_default, empty_container, container_default, default_typed, values_of, is_set}
+use Rattle.zk_typed.specs.Declarations.{variables, global_type, env_at, literal_of, minus_operand, literal_default, negative_default, empty_container, container_default, constant_typed, values_of, is_set}
 use Rattle.zk_typed.specs.Declaring.{scripts_of}
 use Rattle.zk_typed.specs.Errors.{body_context, redef_wants}
 use Rattle.zk_typed.specs.Forms as form
@@ -125,22 +125,22 @@ made_fits place (Vector item) container.Vector = tt
 made_fits place of one = tt
 
 -- the value of a `&default` is of the type that it was checked against
-pub default_sound : (env : Env) (of : ValueType) (e : Expr) → Sound (DefaultFits of) (default_typed env of e)
+pub default_sound : (env : Env) (of : ValueType) (e : Expr) → Sound (DefaultFits of) (constant_typed env of e)
 default_sound env of e = by (literal_of e) refl
   where
-    made : (found : Option Container) → empty_container e ≡ found → literal_of e ≡ None → minus_operand e ≡ None → Sound (DefaultFits of) (default_typed env of e)
+    made : (found : Option Container) → empty_container e ≡ found → literal_of e ≡ None → minus_operand e ≡ None → Sound (DefaultFits of) (constant_typed env of e)
     made None is none minus = rw (none, minus, is) tt
     made (Some one) is none minus = rw (none, minus, is) (made_fits (expr_place env e) of one)
 
-    negative : (operand : Expr) (found : Option (value.Literal × SimpleType)) → literal_of operand ≡ found → literal_of e ≡ None → minus_operand e ≡ Some operand → Sound (DefaultFits of) (default_typed env of e)
+    negative : (operand : Expr) (found : Option (value.Literal × SimpleType)) → literal_of operand ≡ found → literal_of e ≡ None → minus_operand e ≡ Some operand → Sound (DefaultFits of) (constant_typed env of e)
     negative operand None is none minus = rw (none, minus, is) tt
     negative operand (Some one) is none minus = rw (none, minus, is) (negative_fits (expr_place env e) of one (literal_kind operand one is))
 
-    minus : (found : Option Expr) → minus_operand e ≡ found → literal_of e ≡ None → Sound (DefaultFits of) (default_typed env of e)
+    minus : (found : Option Expr) → minus_operand e ≡ found → literal_of e ≡ None → Sound (DefaultFits of) (constant_typed env of e)
     minus None is none = made (empty_container e) refl none is
     minus (Some operand) is none = negative operand (literal_of operand) refl none is
 
-    by : (found : Option (value.Literal × SimpleType)) → literal_of e ≡ found → Sound (DefaultFits of) (default_typed env of e)
+    by : (found : Option (value.Literal × SimpleType)) → literal_of e ≡ found → Sound (DefaultFits of) (constant_typed env of e)
     by None is = minus (minus_operand e) refl is
     by (Some one) is = rw is (literal_fits (expr_place env e) of one (literal_kind e one is))
 
@@ -169,7 +169,7 @@ field_well scripts field = by field.default refl
 
     by : (default : Option Expr) → field.default ≡ default → FieldBegins (field_of scripts field)
     by None is = rw is (given field.optional)
-    by (Some one) is = rw is (checked_begins of (default_typed (env_at scripts field.home) of one) (default_sound (env_at scripts field.home) of one))
+    by (Some one) is = rw is (checked_begins of (constant_typed (env_at scripts field.home) of one) (default_sound (env_at scripts field.home) of one))
 
 fields_well : (scripts : Scripts) (fields : List FieldInfo) → AllByRecursion FieldBegins (map (field_of scripts) fields)
 fields_well scripts [] = tt
@@ -300,7 +300,7 @@ module _ (program : Program) (scripts : Scripts) (agrees : Agrees program script
     where
       by : (found : Option Expr) → attr_value (codes "default") attrs ≡ found → MayBegin item (default_of scripts home of attrs)
       by None e = rw e tt
-      by (Some one) e = rw (e, is) (checked_begins item (default_typed (env_at scripts home) item one) (default_sound (env_at scripts home) item one))
+      by (Some one) e = rw (e, is) (checked_begins item (constant_typed (env_at scripts home) item one) (default_sound (env_at scripts home) item one))
 
   initial_fits : (expiry : Option Expiry) (default : Option DefaultValue) (of : ValueType) (first : Option form.Expr) → ((keys : List SimpleType) (item : ValueType) → of ≡ Table keys item → MayBegin item default) → (InitialLogsFit program first → InitialFits program of first)
       → InitialLogsFit program (option_map (shaped expiry default) first) → InitialFits program of (option_map (shaped expiry default) first)

@@ -23,6 +23,7 @@ pub mod Stated
 mod Rows
 pub mod Composed
 pub mod Shown
+pub mod Among
 pub mod Names
 pub mod Told
 pub mod Heads
@@ -30,4 +31,10 @@ pub mod Programs
 pub mod Initials
 pub mod Numbers
 pub mod Once
+pub mod Apart
+pub mod Words
 pub mod Whole
+pub mod SparedForms
+pub mod SparedCalls
+pub mod SparedStmts
+pub mod Variables

@@ -25,7 +25,7 @@ use Rattle.zk_typed.specs.Names.{Declared, Meant, KnownType, WrittenType, Word, 
 use Rattle.zk_typed.specs.Predefined as type
 use Rattle.zk_typed.specs.Program.{Program}
 use Rattle.zk_typed.specs.Programs.{numbers_from, checked_or, record_of, field_of, typed_program, Typed}
-use Rattle.zk_typed.specs.Resolving.{Scripts, FieldInfo, place_in, as_key, unless_deep, named_type, leads, is_deep, type_to, type_of, is_that, written_field, type_named, own_fields, added_fields, fields_of}
+use Rattle.zk_typed.specs.Resolving.{Scripts, FieldInfo, place_in, as_key, unless_deep, named_type, leads, is_deep, next_text, followed_to, followed, known_type, formed, behind_names, type_to, is_that, written_field, type_named, own_fields, added_fields, fields_of}
 use Rattle.zk_typed.specs.declared.script.types.SimpleType.{SimpleType}
 use Rattle.zk_tree.specs.Places.{type_place}
 use Rattle.zk_typed.specs.Types.{ValueType, Record, Table, Set, Vector}
@@ -35,6 +35,7 @@ use Rattle.zk_sound.proofs.Checks.{Sound, sound_bind, sound_any}
 use Rattle.zk_sound.proofs.Growth.{all_map}
 use Rattle.zk_sound.proofs.Names.{OutrightAre, BodiesAre, all_by_each, all_unless, found_among, names_all}
 use Rattle.zk_sound.proofs.Objects.{got_map}
+use Rattle.zk_sound.proofs.Told.{next_is}
 
 -- Places in lists ----------------------------------------------------------------------------------------------------
 
@@ -153,27 +154,68 @@ module _ (scripts : Scripts) where
       of_meant meant one h = tt
 
   module _ (names : AllByRecursion NameIsBelow scripts.names) where
-    deeper_below : (depth : ℕ) → ((home : Home) (tree : «Type») → HasNode scripts.nodes home tree → Sound IsBelow (type_to depth scripts home tree)) → (home : Home) (tree : «Type») → HasNode scripts.nodes home tree → Sound IsBelow (type_to (suc depth) scripts home tree)
-    unfolding IsBelow HasNode count
-    deeper_below depth below home tree stands = by (out-Type tree) refl
+    -- a type by its parts
+    formed_below : (check : Home → «Type» → Checked ValueType) → (home : Home) (tree : «Type») → HasNode scripts.nodes home tree → Sound IsBelow (formed check scripts home tree)
+    unfolding IsBelow HasNode count NameIsBelow
+    formed_below check home tree stands = by (out-Type tree) refl
       where
         key : «Type» → Checked SimpleType
-        key one = type_to depth scripts home one >>= as_key (place_in home (type_place one))
+        key one = check home one >>= as_key (place_in home (type_place one))
 
-        by : (form : Type-F «Type» Field Param) → out-Type tree ≡ form → Sound IsBelow (type_to (suc depth) scripts home tree)
-        by (written.Named name) is = rw is (named_below (type_to depth scripts) below _ (look_up scripts.names home.module_name name.text) (found_among NameIsBelow scripts.names names home.module_name name.text))
+        known : (place : Place) (found : Option Declared) → ((one : Declared) → found ≡ Some one → NameIsBelow one) → Sound IsBelow (known_type place found)
+        known place None names = tt
+        known place (Some one) names = of_meant one.meant one (λ of is. (names one refl).0 of is)
+          where
+            of_meant : (meant : Meant) (one : Declared) → ((of : ValueType) → meant ≡ KnownType of → IsBelow of) → Sound IsBelow (known_type place (Some (record one { meant = meant })))
+            of_meant (KnownType of) one h = h of refl
+            of_meant (WrittenType home tree) one h = tt
+            of_meant meant one h = tt
+
+        by : (form : Type-F «Type» Field Param) → out-Type tree ≡ form → Sound IsBelow (formed check scripts home tree)
+        by (written.Named name) is = rw is (known (place_in home name.place) (look_up scripts.names home.module_name name.text) (found_among NameIsBelow scripts.names names home.module_name name.text))
         by (written.Record place fields) is = let less = counted_less (is_at home.file place) (filter is_record scripts.nodes) (stands place fields is) in rw is (omega (arith, less))
-        by (written.Table place keys value) is = rw is (sound_bind (λ parts. Unit {0}) IsBelow (both (each key keys) (type_to depth scripts home value)) (λ parts. Ok (Table parts.0 parts.1)) (sound_any (both (each key keys) (type_to depth scripts home value))) (λ parts any. tt))
+        by (written.Table place keys value) is = rw is (sound_bind (λ parts. Unit {0}) IsBelow (both (each key keys) (check home value)) (λ parts. Ok (Table parts.0 parts.1)) (sound_any (both (each key keys) (check home value))) (λ parts any. tt))
         by (written.Set place keys) is = rw is (sound_bind (λ parts. Unit {0}) IsBelow (each key keys) (λ parts. Ok (Set parts)) (sound_any (each key keys)) (λ parts any. tt))
-        by (written.Vector place item) is = rw is (sound_bind (λ part. Unit {0}) IsBelow (type_to depth scripts home item) (λ part. Ok (Vector part)) (sound_any (type_to depth scripts home item)) (λ part any. tt))
+        by (written.Vector place item) is = rw is (sound_bind (λ part. Unit {0}) IsBelow (check home item) (λ part. Ok (Vector part)) (sound_any (check home item)) (λ part any. tt))
         by form is = rw is tt
+
+    -- what a text is followed to stands in the texts too
+    followed_stands : (most : ℕ) (home : Home) (tree : «Type») (end : Home × «Type») → HasNode scripts.nodes home tree → followed_to most scripts home tree ≡ Some end → HasNode scripts.nodes end.0 end.1
+    unfolding NameIsBelow
+    followed_stands zero home tree end stands is = absurd cc
+    followed_stands (suc most) home tree end stands is = by (next_text scripts home tree) refl (λ home tree stands is. followed_stands most home tree end stands is)
+      where
+        by : (next : Option (Home × «Type»)) → next_text scripts home tree ≡ next → ((home : Home) (tree : «Type») → HasNode scripts.nodes home tree → followed_to most scripts home tree ≡ Some end → HasNode scripts.nodes end.0 end.1) → HasNode scripts.nodes end.0 end.1
+        by None e later =
+            let here : Some (home, tree) ≡ Some end = rw e at is in
+            let same : (home, tree) ≡ end = cc in
+            subst (λ (pair : Home × «Type»). HasNode scripts.nodes pair.0 pair.1) same stands
+        by (Some next) e later = later next.0 next.1 (next_stands next e) (rw e at is)
+          where
+            next_stands : (next : Home × «Type») → next_text scripts home tree ≡ Some next → HasNode scripts.nodes next.0 next.1
+            next_stands next e = let step = next_is scripts home tree next e in
+                (found_among NameIsBelow scripts.names names home.module_name step.name.text step.one step.found).1 next.0 next.1 step.means
+
+    behind_below : (check : Home → «Type» → Checked ValueType) → (home : Home) (tree : «Type») → HasNode scripts.nodes home tree → Sound IsBelow (behind_names check scripts home tree)
+    behind_below check home tree stands = by (followed scripts home tree) refl
+      where
+        by : (end : Option (Home × «Type»)) → followed scripts home tree ≡ end → Sound IsBelow (behind_names check scripts home tree)
+        by None is = rw is tt
+        by (Some end) is = rw is (formed_below check end.0 end.1 (followed_stands (suc (length scripts.names)) home tree end stands is))
+
+    deeper_below : (depth : ℕ) (home : Home) (tree : «Type») → HasNode scripts.nodes home tree → Sound IsBelow (type_to (suc depth) scripts home tree)
+    deeper_below depth home tree stands = by (out-Type tree) refl
+      where
+        by : (form : Type-F «Type» Field Param) → out-Type tree ≡ form → Sound IsBelow (type_to (suc depth) scripts home tree)
+        by (written.Named name) is = rw is (named_below (behind_names (type_to depth scripts) scripts) (behind_below (type_to depth scripts)) _ (look_up scripts.names home.module_name name.text) (found_among NameIsBelow scripts.names names home.module_name name.text))
+        by form is = rw is (formed_below (type_to depth scripts) home tree stands)
 
     types_below : (depth : ℕ) (home : Home) (tree : «Type») → HasNode scripts.nodes home tree → Sound IsBelow (type_to depth scripts home tree)
     types_below zero home tree stands = tt
-    types_below (suc depth) home tree stands = deeper_below depth (types_below depth) home tree stands
+    types_below (suc depth) home tree stands = deeper_below depth home tree stands
 
     type_named_below : (home : Home) (name : Name) → Sound IsBelow (type_named scripts home name)
-    type_named_below home name = named_below (type_of scripts) (types_below 200) _ (look_up scripts.names home.module_name name.text) (found_among NameIsBelow scripts.names names home.module_name name.text)
+    type_named_below home name = named_below (behind_names (type_to 199 scripts) scripts) (behind_below (type_to 199 scripts)) _ (look_up scripts.names home.module_name name.text) (found_among NameIsBelow scripts.names names home.module_name name.text)
 
     -- no `redef record` adds to a record type past all
     not_that : (number : ℕ) (m : Checked ValueType) → Sound IsBelow m → count ≤ number → is_that number m ≡ false

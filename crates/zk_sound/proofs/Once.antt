@@ -25,16 +25,12 @@ use Rattle.zk_sound.specs.Agreeing.{NamesAgree, AreApart}
 use Rattle.zk_sound.specs.Having.{MayGive}
 use Rattle.zk_sound.specs.Holding.{is_word}
 use Rattle.zk_sound.specs.Telling.{IsDeclared, BodyIsDeclared}
+use Rattle.zk_sound.proofs.Among.{Among}
 use Rattle.zk_sound.proofs.Growth.{all_append}
 use Rattle.zk_sound.proofs.Heads.{bodies_declared}
 use Rattle.zk_sound.proofs.Objects.{got_map}
 
--- one of a list
-abbrev Among : Declared → List Declared → Type 0
-Among one [] = ⊥
-Among one (other ∷ others) = (other ≡ one) ⊎ Among one others
-
-apart_filter : (test : Declared → Bool) (names : List Declared) → AreApart names → AreApart (filter test names)
+pub apart_filter : (test : Declared → Bool) (names : List Declared) → AreApart names → AreApart (filter test names)
 apart_filter test [] h = tt
 apart_filter test (one ∷ names) h = by (test one) (apart_filter test names h.1)
   where
@@ -50,7 +46,7 @@ apart_filter test (one ∷ names) h = by (test one) (apart_filter test names h.1
     by true rest = (fewer names h.0, rest)
     by false rest = rest
 
-among_filter : (test : Declared → Bool) (names : List Declared) (one : Declared) → Among one names → test one ≡ true → Among one (filter test names)
+pub among_filter : (test : Declared → Bool) (names : List Declared) (one : Declared) → Among one names → test one ≡ true → Among one (filter test names)
 among_filter test [] one h e = absurd h
 among_filter test (other ∷ names) one (inl is) e = by (test other) (ap test is ∙ e)
   where
@@ -85,7 +81,7 @@ one_named (x ∷ names) apart a b (inr h) (inl k) e = absurd (never_among a x na
 one_named (x ∷ names) apart a b (inr h) (inr k) e = one_named names apart.1 a b h k e
 
 -- so it is found where it is counted to
-counted_at : (names : List Declared) → AreApart names → (one : Declared) → Among one names → slice_get names (count_before (λ other. bytes_eq other.name one.name) names) ≡ Some one
+pub counted_at : (names : List Declared) → AreApart names → (one : Declared) → Among one names → slice_get names (count_before (λ other. bytes_eq other.name one.name) names) ≡ Some one
 counted_at [] apart one h = absurd h
 counted_at (x ∷ names) apart one h = by (bytes_eq x.name one.name) refl (counted_at names apart.1 one) h
   where

@@ -1,5 +1,5 @@
 -- A typed program that says what its scripts say is one whose bodies, values and fields have the types of their places.
-use Rattle.std.proofs.Common.{◌≡◌, ℕ, zero, suc, ◌+◌, Bool, true, false, List, [], ◌∷◌, ◌++◌, length, map, filter, flat_map, Some, None, Ok, refl, sym, ap, subst, ◌∙◌, arith, append_assoc, bytes_eq}
+use Rattle.std.proofs.Common.{◌≡◌, ◌==◌, ℕ, zero, suc, ◌+◌, Bool, true, false, List, [], ◌∷◌, ◌++◌, length, map, filter, flat_map, Some, None, Ok, refl, sym, ap, subst, ◌∙◌, arith, append_assoc, bytes_eq}
 use Rattle.std.specs.Prelude.{if◌then◌else◌, slice_get}
 use Rattle.std.specs.List.{AllByRecursion}
 use Rattle.std.specs.Option.{option_map}
@@ -9,7 +9,7 @@ use Rattle.zk_tree.specs.declared.decl.BodyKind.TheVariants as body
 use Rattle.zk_tree.specs.declared.decl.Decl.{Decl, out-Decl}
 use Rattle.zk_tree.specs.declared.decl.Decl.TheOpen.{Decl-F}
 use Rattle.zk_tree.specs.declared.decl.Decl.TheOpen as decl
-use Rattle.zk_typed.specs.Declaring.{predefined_names, with_words, by_body, in_no_module, with_bodies, scripts_of_stated, scripts_of}
+use Rattle.zk_typed.specs.Declaring.{predefined_names, with_words, round_of, in_round, scripts_of_stated, scripts_of}
 use Rattle.zk_typed.specs.Errors.{errors, kind_of, body_made, within_of}
 use Rattle.zk_typed.specs.LoadOrder.{File, Stated, load_order}
 use Rattle.zk_typed.specs.Names.{Declared, Meant, Hook, Signature, look_up, count_before}
@@ -19,19 +19,22 @@ use Rattle.zk_typed.specs.Programs.{numbers_from, record_of, event_of, hook_body
 use Rattle.zk_typed.specs.Resolving.{Scripts}
 use Rattle.zk_typed.specs.Types.{ValueType}
 use Rattle.zk_typed.specs.Typing.{is_event, is_hook, number_among}
-use Rattle.zk_sound.specs.Agreeing.{Agrees, StmtLogsFit, SaysItsScripts}
+use Rattle.zk_sound.specs.Agreeing.{Agrees, AreApart, BodyBegins, IsWritten, StmtLogsFit, SaysItsScripts}
 use Rattle.zk_sound.specs.Having.{FilterTypes, ExpiryTakes, ValuesFit, GlobalFits, HookBodyFits, HookFits, ProgramFits}
 use Rattle.zk_sound.specs.Holding.{field_types}
 use Rattle.zk_sound.specs.Telling.{IsDeclared, BodyIsDeclared}
 use Rattle.zk_sound.specs.Worlds.{global_names, hook_params, event_params}
 use Rattle.zk_sound.specs.Worlds as worlds
-use Rattle.zk_sound.proofs.Growth.{all_append}
+use Rattle.zk_sound.proofs.Apart.{declared_once}
+use Rattle.zk_sound.proofs.Growth.{all_append, all_map}
 use Rattle.zk_sound.proofs.Heads.{bodies_declared}
 use Rattle.zk_sound.proofs.Initials.{fields_begin, values_fit}
+use Rattle.zk_sound.proofs.Names.{BodiesAre, all_by_each, behind_all}
 use Rattle.zk_sound.proofs.Numbers.{fields_of_files}
 use Rattle.zk_sound.proofs.Objects.{got_map}
 use Rattle.zk_sound.proofs.Once.{names_agree_by, hooks_once_by}
 use Rattle.zk_sound.proofs.Programs.{globals_are, stated_fits, functions_fit, handlers_fit}
+use Rattle.zk_sound.proofs.Words.{words_are, logs_are}
 use Rattle.zk_sound.proofs.Written.{all_met}
 
 -- What every program has ---------------------------------------------------------------------------------------------
@@ -42,24 +45,23 @@ record_seven scripts count = let same : 8 + count ≡ suc (suc (suc (suc (suc (s
 filter_types : (files : List File) → FilterTypes (field_types (typed_program files) filter_record)
 filter_types files = rw (record_seven (scripts_of files) _) (_, refl)
 
-bodies_behind : (names : List Declared) (stated : List Stated) → (more : List Declared) × (with_bodies names stated ≡ names ++ more)
-bodies_behind names [] = ([], append_nil names)
-  where
-    append_nil : (xs : List Declared) → xs ≡ xs ++ []
-    append_nil [] = refl
-    append_nil (x ∷ xs) = ap (λ (ys : List Declared). x ∷ ys) (append_nil xs)
-bodies_behind names (one ∷ stated) =
-    let (more, is) = bodies_behind (names ++ by_body names one.home (out-Decl one.decl)) stated in
-    (by_body names one.home (out-Decl one.decl) ++ more, is ∙ append_assoc names (by_body names one.home (out-Decl one.decl)) more)
-
 -- the predefined names stand first
 names_behind : (stated : List Stated) → (more : List Declared) × ((scripts_of_stated stated).names ≡ predefined_names ++ more)
 names_behind stated =
     let known : Scripts = record { stated = stated; nodes = Rattle.zk_typed.specs.Names.all_nodes stated; names = predefined_names ++ flat_map Rattle.zk_typed.specs.Declaring.outright_of stated } in
     let words = flat_map (with_words known) stated in
-    let (first, one) = bodies_behind (predefined_names ++ words) (filter in_no_module stated) in
-    let (second, two) = bodies_behind (with_bodies (predefined_names ++ words) (filter in_no_module stated)) (filter (λ one. Rattle.std.specs.Prelude.not (in_no_module one)) stated) in
-    (words ++ (first ++ second), two ∙ ap (λ (names : List Declared). names ++ second) one ∙ append_assoc (predefined_names ++ words) first second ∙ append_assoc predefined_names words (first ++ second))
+    let (first, one) = round_behind stated (predefined_names ++ words) 0 in
+    let (second, two) = round_behind stated (in_round stated (predefined_names ++ words) 0) 1 in
+    let (third, three) = round_behind stated (in_round stated (in_round stated (predefined_names ++ words) 0) 1) 2 in (
+      words ++ (first ++ (second ++ third)),
+      three ∙ (ap (λ (names : List Declared). names ++ third) two ∙ (ap (λ (names : List Declared). (names ++ second) ++ third) one
+          ∙ (append_assoc ((predefined_names ++ words) ++ first) second third ∙ (append_assoc (predefined_names ++ words) first (second ++ third) ∙ append_assoc predefined_names words (first ++ (second ++ third)))))),
+    )
+  where
+    round_behind : (stated : List Stated) (names : List Declared) (round : ℕ) → (more : List Declared) × (in_round stated names round ≡ names ++ more)
+    round_behind stated names round =
+        let (more, is, all) = behind_all (λ one. Unit {0}) names (filter (λ one. round_of one == round) stated) (all_by_each (BodiesAre (λ one. Unit {0})) (λ one names. all_by_each (λ one. Unit {0}) (λ one. tt) _) _) in
+        (more, is)
 
 first_events : (scripts : Scripts) (names more : List Declared) → names ≡ predefined_names ++ more
     → (option_map (λ one. one.params) (slice_get (map (event_of scripts) (filter is_event names)) 0) ≡ Some []) × (option_map (λ one. one.params) (slice_get (map (event_of scripts) (filter is_event names)) 1) ≡ Some [])
@@ -125,12 +127,15 @@ module _ (program : Program) (scripts : Scripts) (agrees : Agrees program script
         hooks_from all ones (λ number other is. there (suc number) other is) logs.1,
       )
 
+once_of : (files : List File) → errors files ≡ [] → SaysItsScripts (typed_program files) (scripts_of files) → AreApart (scripts_of files).names
+once_of files right says = declared_once files right (all_map IsWritten (λ one. BodyBegins (out-Decl one.decl)) (λ one h. h.body) (load_order files) says.written)
+
 agrees_whole : (files : List File) → errors files ≡ [] → SaysItsScripts (typed_program files) (scripts_of files) → Agrees (typed_program files) (scripts_of files)
-agrees_whole files right says = record { fields = fields_of_files files; names = names_agree_by files right says.once says.words }
+agrees_whole files right says = record { fields = fields_of_files files; names = names_agree_by files right (once_of files right says) (words_are files says.written) }
 
 hooks_of_files : (files : List File) → errors files ≡ [] → SaysItsScripts (typed_program files) (scripts_of files) → AllByRecursion (HookFits (typed_program files)) (typed_program files).hooks
 hooks_of_files files right says = hooks_from (typed_program files) (scripts_of files) (agrees_whole files right says) says (globals_are (scripts_of files)) (bodies_declared files right) (filter is_hook (scripts_of files).names)
-    (λ number one is. (number, hooks_once_by files right says.once number one is, ap (option_map (λ hook. hook.params)) (got_map (hook_of (scripts_of files)) (filter is_hook (scripts_of files).names) number ∙ ap (option_map (hook_of (scripts_of files))) is))) says.hooks
+    (λ number one is. (number, hooks_once_by files right (once_of files right says) number one is, ap (option_map (λ hook. hook.params)) (got_map (hook_of (scripts_of files)) (filter is_hook (scripts_of files).names) number ∙ ap (option_map (hook_of (scripts_of files))) is))) says.hooks
 
 -- The whole program --------------------------------------------------------------------------------------------------
 
@@ -144,7 +149,7 @@ whole_of_files files right says =
     record {
       fields = fields_begin files (typed_program files) typed;
       columns = says.columns;
-      logs = says.logs;
+      logs = logs_are files says.written;
       filter = filter_types files;
       begins = (events_of_files files).0;
       ends = (events_of_files files).1;

@@ -1,14 +1,19 @@
 -- Programs that say what their scripts say: the types of fields, of functions, hooks and events, of globals and of logs.
-use Rattle.std.specs.Prelude.{◌≡◌, ◌≢◌, ℕ, true, List, [], ◌∷◌, Option, Some, None, Ok, slice_get}
-use Rattle.std.specs.List.{AllByRecursion}
+use Rattle.std.specs.Prelude.{◌≡◌, ◌≢◌, ℕ, ◌==◌, nat_eq, nat_le, Bool, true, false, ◌&&◌, ◌||◌, codes, List, [], ◌∷◌, Option, Some, None, Ok, slice_get}
+use Rattle.std.specs.List.{AllByRecursion, list_all, starts_with}
 use Rattle.zk_base.specs.declared.numbers.RecordNo.{RecordNo}
+use Rattle.zk_tree.specs.declared.decl.Decl.{Decl, out-Decl}
+use Rattle.zk_tree.specs.declared.decl.Decl.TheOpen.{Decl-F}
+use Rattle.zk_tree.specs.declared.decl.Decl.TheOpen as decl
+use Rattle.zk_tree.specs.declared.name.Name.{Name}
 use Rattle.zk_typed.specs.declared.script.primitive.Primitive.{Primitive}
 use Rattle.zk_typed.specs.declared.script.primitive.Primitive.TheVariants as primitive
 use Rattle.zk_typed.specs.Columns.{record_fields}
 use Rattle.zk_typed.specs.Forms as form
 use Rattle.zk_typed.specs.Forms.{Expr, Exprs, Givens, Stmt, Stmts}
 use Rattle.zk_typed.specs.LogCalls.{is_log_word, stream_type}
-use Rattle.zk_typed.specs.Names.{Declared, Word, Event, Hook, Function, Signature, look_up}
+use Rattle.zk_typed.specs.LoadOrder.{Home, Stated}
+use Rattle.zk_typed.specs.Names.{Declared, Word, Event, Hook, Function, Signature, Node, RecordNode, EnumNode, whole_name, look_up, decl_nodes}
 use Rattle.zk_typed.specs.Program.{Program, Global, Function as Body}
 use Rattle.zk_typed.specs.Resolving.{Scripts, FieldInfo, fields_of, params_of, result_of}
 use Rattle.zk_typed.specs.Statements.{Context, Within, InFunction}
@@ -16,7 +21,7 @@ use Rattle.zk_typed.specs.Types.{ValueType}
 use Rattle.zk_typed.specs.Typing.{Env, LocalName, Wanted, Nothing, Wants, Unclear, number_among, is_event, is_hook, is_function}
 use Rattle.zk_sound.specs.Holding.{is_word}
 use Rattle.zk_sound.specs.Worlds.{Names, type_of, global_names, field_type, hook_params, event_params, row_type}
-use Rattle.zk_sound.specs.Having.{CallTakes, MayGive, LogCallFits, ExpiryTakes, FieldLogs, WordFits}
+use Rattle.zk_sound.specs.Having.{CallTakes, MayGive, LogCallFits, ExpiryTakes, FieldLogs}
 
 -- a function of a program is called with arguments of these types, and gives a value of a type, or none
 pub record FunctionAgrees (program : Program) (number : ℕ) (params : List ValueType) (gives : Option ValueType) : Type 0 where
@@ -135,6 +140,40 @@ pub record StandsIn (program : Program) (gives : Option ValueType) (context : Co
   pub globals : (number : ℕ) (of : ValueType) → context.global_type number ≡ Ok of → type_of (global_names program) number ≡ Some of
   pub within : WithinGives context.within gives
 
+-- Names as they are written ----------------------------------------------------------------------------------------
+
+-- a byte that stands in a name, which may be one of a module
+abbrev pub in_names : ℕ → Bool
+in_names byte = (nat_le 97 byte && nat_le byte 122) || (nat_le 65 byte && nat_le byte 90) || (nat_le 48 byte && nat_le byte 57) || byte == 95 || byte == 58
+
+abbrev pub is_name : List ℕ → Bool
+is_name [] = false
+is_name (byte ∷ bytes) = list_all in_names (byte ∷ bytes)
+
+-- the name of a body doesn't begin with the colon of a module
+abbrev pub BodyBegins : Decl-F Decl → Type 0
+BodyBegins (decl.Body place kind name params attrs block) = starts_with nat_eq name.text (codes ":") ≡ false
+BodyBegins other = Unit {0}
+
+abbrev pub AreNames : Home → List Name → Type 0
+AreNames home words = AllByRecursion (λ word. is_name (whole_name home.module_name word.text) ≡ true) words
+
+abbrev pub WordsAreNames : Node → Type 0
+WordsAreNames (RecordNode home place fields) = Unit {0}
+WordsAreNames (EnumNode home place words) = AreNames home words
+
+-- the words of enums, and those that are added to one
+abbrev pub AddedAreNames : Home → Decl-F Decl → Type 0
+AddedAreNames home (decl.RedefEnum place name words comma) = AreNames home words
+AddedAreNames home other = Unit {0}
+
+-- The names of a declaration are names, as they are wherever a script was read: letters, digits, `_`, and `::` behind a module
+-- (Zeek manual, Script Reference, identifiers).
+pub record IsWritten (one : Stated) : Type 0 where
+  pub body : BodyBegins (out-Decl one.decl)
+  pub words : AllByRecursion WordsAreNames (decl_nodes one.home (out-Decl one.decl))
+  pub added : AddedAreNames one.home (out-Decl one.decl)
+
 -- Whole programs ---------------------------------------------------------------------------------------------------
 
 -- names differ from one another
@@ -142,15 +181,13 @@ abbrev pub AreApart : List Declared → Type 0
 AreApart [] = Unit {0}
 AreApart (one ∷ others) = AllByRecursion (λ other. one.name ≢ other.name) others × AreApart others
 
--- A program says what its scripts say: each name is declared once, what its bodies and values say of logs fits, an expiry
--- function takes its table, a logged field is of a type that columns have, and the texts of its words stand for themselves.
+-- A program says what its scripts say: its names are written as names, what its bodies and values say of logs fits, an expiry
+-- function takes its table, and a logged field is of a type that columns have.
 pub record SaysItsScripts (program : Program) (scripts : Scripts) : Type 0 where
-  pub once : AreApart scripts.names
-  pub words : (module_name name : List ℕ) (one : Declared) (number : ℕ) → look_up scripts.names module_name name ≡ Some one → one.meant ≡ Word number → is_word one.name ≡ true
+  pub written : AllByRecursion IsWritten scripts.stated
   pub functions : AllByRecursion (λ one. StmtLogsFit program one.body) program.functions
   pub hooks : AllByRecursion (λ hook. AllByRecursion (λ one. StmtLogsFit program one.body) hook.bodies) program.hooks
   pub handlers : AllByRecursion (λ one. StmtLogsFit program one.body) program.handlers
   pub values : AllByRecursion (ValuesLogFit program) program.globals
   pub expiry : AllByRecursion (λ one. ExpiryTakes program one.global_type one.expire_func) program.globals
   pub columns : (number : RecordNo) → AllByRecursion FieldLogs (record_fields program number)
-  pub logs : AllByRecursion WordFits program.logs

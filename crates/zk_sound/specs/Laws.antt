@@ -1,9 +1,11 @@
 -- The laws: what typed programs promise of their values.
-use Rattle.std.specs.Prelude.{◌≡◌, ◌≢◌, ℕ, List, [], map, Err, Option, Some, Ok, slice_get}
+use Rattle.std.specs.Prelude.{◌≡◌, ◌≢◌, ◌≤ℤ◌, ℕ, pos, List, [], map, Err, Option, Some, Ok, slice_get}
 use Rattle.std.specs.List.{AllByRecursion}
+use Rattle.zk_agenda.specs.Laws.{AreInOrder, IsInTime, ItemsGo, TablesStay}
 use Rattle.zk_base.specs.declared.time.Moment.{Moment}
 use Rattle.zk_tree.specs.declared.expr.Expr.{Expr as Written}
 use Rattle.zk_tree.specs.declared.place.Place.{Place}
+use Rattle.zk_tree.specs.Table.{last_moment}
 use Rattle.zk_tree.specs.Value.{Value}
 use Rattle.zk_tree.specs.declared.stmt.Block.{Block}
 use Rattle.zk_typed.specs.declared.script.action.Action.{Action}
@@ -160,6 +162,15 @@ TypedHandlersKeepTypes = (files : List File) (program : Program) (kinds : Kinds)
 abbrev pub TypedRunsKeepTypes : Type 0
 TypedRunsKeepTypes = (files : List File) (program : Program) (budget : ℕ) (items : List Item) (last : Moment) → TypedProgram files program → SaysItsScripts program (scripts_of files) →
     AllByRecursion (RaisesFit program) items → (kinds : Kinds) × WorldFits program kinds (world_in (run program budget items last))
+
+-- Nor does a body of a typed program give a global whose entries expire another value, so these keep their tables.
+abbrev pub TypedTablesStay : Type 0
+TypedTablesStay = (files : List File) (program : Program) → TypedProgram files program → TablesStay program
+
+-- So network time never falls over a run of a typed program, and of two turns the one that is due earlier comes first.
+abbrev pub TypedTimesRise : Type 0
+TypedTimesRise = (files : List File) (program : Program) (budget : ℕ) (items : List Item) (last : Moment) → TypedProgram files program → ItemsGo items
+    → AreInOrder (record { 0 = pos 0 }) items last → last.0 ≤ℤ last_moment → IsInTime program budget items last
 
 -- Rows -------------------------------------------------------------------------------------------------------------
 

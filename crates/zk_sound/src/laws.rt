@@ -1,6 +1,7 @@
 // What typed programs promise of their values.
-ghost use Rattle.zk_sound.specs.Laws.{PrimitivesTakeTypes, ActionsTakeTypes, ExpressionsKeepTypes, StatementsKeepTypes, HandlersKeepTypes, InitialsKeepTypes, ExpiriesKeepTypes, RunsKeepTypes, RulesGiveForms, RulesGiveStatements, ValuesHaveTypes, RunsWriteRowsThatFit, ShownRowsFit, TextsTellRows, TypesAreTold, HeadsAreKnown, BodiesAreDeclared, TypedFunctionsFit, TypedHandlersFit, TypedValuesFit, TypedFieldsAgree, TypedFieldsBegin, TypedProgramsFit, TypedHandlersKeepTypes, TypedRunsKeepTypes};
+ghost use Rattle.zk_sound.specs.Laws.{PrimitivesTakeTypes, ActionsTakeTypes, ExpressionsKeepTypes, StatementsKeepTypes, HandlersKeepTypes, InitialsKeepTypes, ExpiriesKeepTypes, RunsKeepTypes, RulesGiveForms, RulesGiveStatements, ValuesHaveTypes, RunsWriteRowsThatFit, ShownRowsFit, TextsTellRows, TypesAreTold, HeadsAreKnown, BodiesAreDeclared, TypedFunctionsFit, TypedHandlersFit, TypedValuesFit, TypedFieldsAgree, TypedFieldsBegin, TypedProgramsFit, TypedHandlersKeepTypes, TypedRunsKeepTypes, TypedTablesStay, TypedTimesRise};
 
+use zk_agenda::{sparing_tables_stay, time_rises};
 use zk_ascii::equal_texts;
 
 /// No operation meets a value of another type: with operands of the types that it takes, in a world that is of
@@ -74,3 +75,14 @@ pub fn typed_programs_keep_types()
     ensures handlers { TypedHandlersKeepTypes }
     ensures runs { TypedRunsKeepTypes }
 {}
+
+/// A typed program gives no global whose entries expire another value, so that these keep their tables; and so
+/// network time never falls over its run, and of two turns the one that is due earlier comes first. There is
+/// nothing to run.
+pub fn typed_tables_stay()
+    ensures tables { TypedTablesStay }
+    ensures times { TypedTimesRise }
+{
+    sparing_tables_stay();
+    time_rises();
+}

@@ -5,5 +5,6 @@ mod laws;
 
 pub use laws::{
     bodies_keep_types, broken_is_told, forms_keep_types, operations_take_types,
-    rows_fit_their_columns, typed_bodies_fit, typed_programs_keep_types, values_have_types,
+    rows_fit_their_columns, typed_bodies_fit, typed_programs_keep_types, typed_tables_stay,
+    values_have_types,
 };

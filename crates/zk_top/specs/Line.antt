@@ -4,11 +4,9 @@ use Rattle.std.specs.List.{flat_map}
 use Rattle.zk_base.specs.declared.network.Side.{Side}
 use Rattle.zk_base.specs.declared.network.Side.TheVariants as side
 use Rattle.zk_base.specs.declared.numbers.ConnNo.{ConnNo}
-use Rattle.zk_conn.specs.declared.facts.ConnState.{ConnState}
-use Rattle.zk_conn.specs.declared.facts.ConnState.TheVariants as state
 use Rattle.zk_conn.specs.declared.facts.Facts.{Facts}
-use Rattle.zk_http.specs.declared.units.Reason.{Reason}
-use Rattle.zk_http.specs.declared.units.Reason.TheVariants as reason
+use Rattle.zk_events.specs.Facts.{state_name}
+use Rattle.zk_events.specs.Http.{reason_number}
 use Rattle.zk_http.specs.declared.units.UnitKind.{UnitKind}
 use Rattle.zk_http.specs.declared.units.UnitKind.TheVariants as unit
 use Rattle.zk_pcap.specs.declared.records.Packet.{Packet}
@@ -32,22 +30,6 @@ abbrev pub side_name : Side → List ℕ
 side_name side.Orig = codes "orig"
 side_name side.Resp = codes "resp"
 
--- the names of Zeek for the states of connections
-abbrev pub state_name : ConnState → List ℕ
-state_name state.S0 = codes "S0"
-state_name state.S1 = codes "S1"
-state_name state.S2 = codes "S2"
-state_name state.S3 = codes "S3"
-state_name state.SF = codes "SF"
-state_name state.REJ = codes "REJ"
-state_name state.RSTO = codes "RSTO"
-state_name state.RSTR = codes "RSTR"
-state_name state.RSTOS0 = codes "RSTOS0"
-state_name state.RSTRH = codes "RSTRH"
-state_name state.SH = codes "SH"
-state_name state.SHR = codes "SHR"
-state_name state.OTH = codes "OTH"
-
 -- what happens to a connection, and its number
 abbrev pub conn_fields : List ℕ → ConnNo → List ℕ
 conn_fields name conn = field name ++ field (decimal conn.0)
@@ -57,17 +39,6 @@ abbrev pub ends_fields : Facts → List ℕ
 ends_fields facts =
     field (proto_name facts.proto) ++ field (addr_text facts.orig_h) ++ field (decimal facts.orig_p)
     ++ field (addr_text facts.resp_h) ++ field (decimal facts.resp_p)
-
--- the number of the reason of a violation
-abbrev pub reason_number : Reason → ℕ
-reason_number reason.HeadTooLong = 1
-reason_number reason.HeadBad = 2
-reason_number reason.TooManyHeaders = 3
-reason_number reason.LengthBad = 4
-reason_number reason.CodingBad = 5
-reason_number reason.ChunkBad = 6
-reason_number reason.Unpaired = 7
-reason_number reason.Gap = 8
 
 -- what a unit of HTTP is and the place where it stands; behind it the length of a body, or the reason of a violation
 abbrev pub unit_fields : ℕ → UnitKind → List ℕ

@@ -1,10 +1,8 @@
-use crate::run;
-use crate::tests::words;
+use crate::case::{Case, difference};
 use std::test::Fail;
-use zk_base::SureShelf;
 
 /// A command line, the status, and what is said and complained.
-const ROWS: [(&[u8], u8, &[u8], &[u8]); 11] = [
+const ROWS: &[(&[u8], u8, &[u8], &[u8])] = &[
     (
         b"gen 0 3",
         0,
@@ -30,6 +28,12 @@ const ROWS: [(&[u8], u8, &[u8], &[u8]); 11] = [
         b"",
     ),
     (
+        b"gen 0 3000",
+        0,
+        b"packets 156000\nbytes 11206024\nconn 3000\ndns 1000\nhttp 2000\n",
+        b"",
+    ),
+    (
         b"gen 0 100001",
         1,
         b"",
@@ -51,13 +55,15 @@ const ROWS: [(&[u8], u8, &[u8], &[u8]); 11] = [
 #[test]
 fn a_generated_capture_is_summed_up(rt: HostRuntime) -> Result<(), Fail> {
     for (n, (line, status, said, complained)) in ROWS.iter().enumerate() {
-        let alloc = rt.alloc();
-        let mut shelf = SureShelf::new(alloc, Vec::new(alloc))?;
-        let ending = run(alloc, &words(alloc, line)?, &mut shelf);
-        assert_eq!(rt; ending.status(), *status, "in row {n}");
-        assert_eq!(rt; shelf.said(), *said, "in row {n}");
-        assert_eq!(rt; shelf.complained(), *complained, "in row {n}");
-        assert_eq!(rt; shelf.output(b"conn.log"), None, "in row {n}");
+        let case = Case {
+            line,
+            inputs: &[],
+            status: *status,
+            said,
+            complained,
+            files: &[(b"conn.log", &[])],
+        };
+        assert_eq!(rt; difference(rt.alloc(), &case)?, None, "in row {n}");
     }
     Ok(())
 }

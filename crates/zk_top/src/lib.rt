@@ -24,13 +24,19 @@ pub use command::command_line;
 pub use entry::run;
 
 #[cfg(test)]
+mod case;
+#[cfg(test)]
 mod default_tests;
+#[cfg(test)]
+mod failing_tests;
 #[cfg(test)]
 mod generated_tests;
 #[cfg(test)]
 mod grammar_tests;
 #[cfg(test)]
 mod list_tests;
+#[cfg(test)]
+mod load_tests;
 #[cfg(test)]
 mod log_tests;
 #[cfg(test)]

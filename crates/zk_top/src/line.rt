@@ -1,13 +1,15 @@
 ghost use Rattle.std.specs.Prelude.{◌≡◌, ◌++◌, codes, decimal, OnOk};
+ghost use Rattle.zk_events.specs.Facts.{state_name};
 ghost use Rattle.zk_text.specs.Address.{addr_text};
 ghost use Rattle.zk_text.specs.Span.{span_decimal};
-ghost use Rattle.zk_top.specs.Line.{conn_fields, ends_fields, field, fields_of, line_of, message_fields, reason_number, side_name, state_name, unit_fields};
+ghost use Rattle.zk_top.specs.Line.{conn_fields, ends_fields, field, fields_of, line_of, message_fields, side_name, unit_fields};
 ghost use Rattle.zk_traffic.specs.declared.item.What.TheVariants.{Seen, Opened};
 
 use std::alloc::AllocError;
 use zk_base::{Addr, ConnNo, Moment, Side};
 use zk_conn::{ConnState, Facts};
-use zk_http::{Reason, Unit, UnitKind};
+use zk_events::{reason_number, state_name};
+use zk_http::{Unit, UnitKind};
 use zk_text::{ADDR_TEXT_MAX, addr_text, proto_name};
 use zk_traffic::{Item, What};
 use zk_value::{push_count, push_span};
@@ -217,42 +219,5 @@ fn side_name(side: Side) -> &'static [u8]
     match side {
         Side::Orig => b"orig",
         Side::Resp => b"resp",
-    }
-}
-
-/// The number of a violation's reason.
-fn reason_number(reason: Reason) -> u64
-    ensures { result ≡ reason_number reason }
-{
-    match reason {
-        Reason::HeadTooLong => 1,
-        Reason::HeadBad => 2,
-        Reason::TooManyHeaders => 3,
-        Reason::LengthBad => 4,
-        Reason::CodingBad => 5,
-        Reason::ChunkBad => 6,
-        Reason::Unpaired => 7,
-        Reason::Gap => 8,
-    }
-}
-
-/// The name that Zeek has for a state.
-fn state_name(state: ConnState) -> &'static [u8]
-    ensures { result.now ≡ state_name state }
-{
-    match state {
-        ConnState::S0 => b"S0",
-        ConnState::S1 => b"S1",
-        ConnState::S2 => b"S2",
-        ConnState::S3 => b"S3",
-        ConnState::SF => b"SF",
-        ConnState::REJ => b"REJ",
-        ConnState::RSTO => b"RSTO",
-        ConnState::RSTR => b"RSTR",
-        ConnState::RSTOS0 => b"RSTOS0",
-        ConnState::RSTRH => b"RSTRH",
-        ConnState::SH => b"SH",
-        ConnState::SHR => b"SHR",
-        ConnState::OTH => b"OTH",
     }
 }

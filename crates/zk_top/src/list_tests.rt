@@ -1,7 +1,5 @@
-use crate::run;
-use crate::tests::{inputs, words};
+use crate::case::{Case, difference};
 use std::test::Fail;
-use zk_base::SureShelf;
 
 /// A DNS query of 33 bytes and its answer of 63.
 pub const QUERY: &[u8] = b"\
@@ -76,7 +74,7 @@ const GAP_PAST_BODY: &[u8] = b"\
     \0\xf1SeP\xc3\0\06\0\0\06\0\0\0\0\0\0\0\0\0\0\0\0\0\0\0\x08\0E\0\0(\0\0\0\0\0\x06\xa6\x80\n\0\0\x01\n\0\0P\x9cA\0P\0\0\0\x89\0\0\x02)P\x10\0\0\xfc@\0\0";
 
 /// A capture, and its lines.
-const ROWS: [(&[u8], &[u8]); 7] = [
+const ROWS: &[(&[u8], &[u8])] = &[
     (
         QUERY,
         b"1700000000.000000\tpacket\t1700000000.000000\t75\t75\n\
@@ -216,11 +214,15 @@ const ROWS: [(&[u8], &[u8]); 7] = [
 #[test]
 fn each_capture_is_listed_line_by_line(rt: HostRuntime) -> Result<(), Fail> {
     for (n, (capture, lines)) in ROWS.iter().enumerate() {
-        let alloc = rt.alloc();
-        let mut shelf = SureShelf::new(alloc, inputs(alloc, capture, b"")?)?;
-        let ending = run(alloc, &words(alloc, b"list c.pcap")?, &mut shelf);
-        assert_eq!(rt; shelf.said(), *lines, "in row {n}");
-        assert_eq!(rt; ending.status(), 0, "in row {n}");
+        let case = Case {
+            line: b"list c.pcap",
+            inputs: &[(b"c.pcap", capture)],
+            status: 0,
+            said: lines,
+            complained: b"",
+            files: &[],
+        };
+        assert_eq!(rt; difference(rt.alloc(), &case)?, None, "in row {n}");
     }
     Ok(())
 }

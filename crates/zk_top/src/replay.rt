@@ -12,7 +12,7 @@ ghost use Rattle.zk_typed.specs.Program.{Program};
 ghost use Rattle.zk_typed.specs.Running.{world_in};
 ghost use Rattle.zk_top.specs.Reading.{IsReading, IsUnderWay, SameInput};
 ghost use Rattle.zk_top.specs.Replay.{Counts, Plan, Replays, ReplaysPart};
-ghost use Rattle.zk_top.specs.Sink.{Beginning, CanTake, HasTaken, TakesSome, Written};
+ghost use Rattle.zk_top.specs.Sink.{Beginning, CanTake, Counted, HasTaken, TakesSome, Written};
 ghost use Rattle.zk_top.specs.Writing.{no_output, output_of, told_by};
 
 use crate::capture::{CaptureReader, later};
@@ -252,6 +252,24 @@ impl Replay {
         Ok(came)
     }
 
+    /// Runs the program over the packets, and counts the rows that it logs.
+    fn count<S: Shelf>(
+        &mut self,
+        shelf: &mut S,
+        chunk: &mut [u8],
+        reader: &mut CaptureReader,
+    ) -> Result<(Came, RowCounts), Stop>
+        requires ready { CanTake self.old.player.sink (S.outside shelf.old) }
+        requires room { 0 < length chunk.old }
+        requires under_way { IsUnderWay reader.old (S.outside shelf.old) }
+        ensures { IfOk result (λ counted. (first : Beginning) (plan : Plan) (whole : Option (List ℕ)) (header : HeaderData) (bytes : List ℕ) → first.target ≡ Counted
+            → Comes first plan [] [] false New self.old (S.outside shelf.old) → IsReading whole header bytes [] reader.old (S.outside shelf.old)
+            → Counts plan whole header counted.0 counted.1 reader.new (S.outside shelf.new)) }
+    {
+        let came = self.run(shelf, chunk, reader)?;
+        Ok((came, self.player.sink.rows()))
+    }
+
     /// Runs the program behind its beginning.
     fn run_packets<S: Shelf>(
         &mut self,
@@ -295,8 +313,7 @@ pub fn count_rows<S: Shelf>(
 {
     let sink = Sink::Counted(RowCounts::new());
     let mut replay = Replay::new(alloc, options, reader.link(), code, budget, sink)?;
-    let came = replay.run(shelf, chunk, reader)?;
-    Ok((came, replay.player.sink.rows()))
+    replay.count(shelf, chunk, reader)
 }
 
 /// Replays a capture to a program, says what it prints and writes its log files.

@@ -14,13 +14,12 @@ ghost use Rattle.zk_top.specs.Script.{default_scripts, scripts_before, judged, n
 use crate::runnable::{Refusal, Runnable};
 use std::alloc::Global;
 use zk_base::{Bytes, Ending, Mem, ScriptKind, Sequence, Shelf, Word};
-use zk_check::{CheckFault, check};
+use zk_check::{CheckFault, PACKET_SEEN, check};
 use zk_load::{Found, Stop, load_scripts, read_texts};
 use zk_lower::lower;
 use zk_names::names;
 use zk_scripts::default_scripts;
 use zk_tree::Tree;
-use zk_typed::PACKET_SEEN;
 use zk_typed::script::{Handler, Program};
 
 /// What is read before the scripts of a run: the default scripts, or nothing where they are left out.

@@ -1,7 +1,5 @@
-use crate::run;
-use std::alloc::Global;
+use crate::case::{Case, difference};
 use std::test::Fail;
-use zk_base::{Bytes, Ending, Mem, MemShelf, SureShelf, Word};
 
 /// The header of a little-endian microsecond capture of Ethernet frames.
 pub const HEADER: [u8; 24] = [
@@ -9,7 +7,7 @@ pub const HEADER: [u8; 24] = [
 ];
 
 /// The same with a record of 2 bytes at 1 s, and 3 bytes of the next.
-const CUT: [u8; 45] = [
+pub const CUT: [u8; 45] = [
     0xd4, 0xc3, 0xb2, 0xa1, 2, 0, 4, 0, 0, 0, 0, 0, 0, 0, 0, 0, 0, 0, 4, 0, 1, 0, 0, 0, 1, 0, 0, 0,
     0, 0, 0, 0, 2, 0, 0, 0, 2, 0, 0, 0, 0xff, 0xff, 2, 0, 0,
 ];
@@ -36,35 +34,12 @@ pub const DATAGRAM: [u8; 83] = [
     0x48, 0x93, 0x78,
 ];
 
-/// The words of a command line, joined by blanks.
-pub fn words(alloc: Global, line: &[u8]) -> Result<Vec<Word>, Mem> {
-    let mut words = Vec::new(alloc);
-    for word in line.split(|byte| *byte == b' ') {
-        words.push(Word::from(Bytes::copy_of(alloc, word)?))?;
-    }
-    Ok(words)
-}
-
-/// Two inputs, `c.pcap` and `s.zeek`, with these bytes.
-pub fn inputs(alloc: Global, capture: &[u8], script: &[u8]) -> Result<Vec<(Bytes, Bytes)>, Mem> {
-    let mut inputs = Vec::new(alloc);
-    inputs.push((
-        Bytes::copy_of(alloc, b"c.pcap")?,
-        Bytes::copy_of(alloc, capture)?,
-    ))?;
-    inputs.push((
-        Bytes::copy_of(alloc, b"s.zeek")?,
-        Bytes::copy_of(alloc, script)?,
-    ))?;
-    Ok(inputs)
-}
-
 /// The words of a run of `s.zeek` over `c.pcap`.
 const RUN: &[u8] = b"run -b -r c.pcap s.zeek";
 
 /// A command line, the bytes of `c.pcap`, the text of `s.zeek`, the status, and what is said and
 /// complained.
-const ROWS: [(&[u8], &[u8], &[u8], u8, &[u8], &[u8]); 43] = [
+const ROWS: &[(&[u8], &[u8], &[u8], u8, &[u8], &[u8])] = &[
     (b"list c.pcap", &HEADER, b"", 0, b"", b""),
     (
         b"list c.pcap",
@@ -284,6 +259,30 @@ const ROWS: [(&[u8], &[u8], &[u8], u8, &[u8], &[u8]); 43] = [
         b"",
         b"zeekoff: no file x.pcap\n",
     ),
+    (
+        RUN,
+        &HEADER,
+        b"global x: count = y;",
+        2,
+        b"",
+        b"zeekoff: s.zeek, byte 18: Unknown\n",
+    ),
+    (
+        RUN,
+        &HEADER,
+        b"global x = \"a",
+        2,
+        b"",
+        b"zeekoff: s.zeek, byte 11: OpenString\n",
+    ),
+    (
+        b"run -r c.pcap",
+        b"",
+        b"",
+        3,
+        b"",
+        b"zeekoff: c.pcap refused at byte 0\n",
+    ),
     // A header that is refused is judged before anything runs.
     (
         RUN,
@@ -394,11 +393,28 @@ const ROWS: [(&[u8], &[u8], &[u8], u8, &[u8], &[u8]); 43] = [
         b"",
         b"zeekoff: no file t.zeek\n",
     ),
+    // A handler that raises its own event is a flood.
+    (
+        RUN,
+        &HEADER,
+        b"event e() { event e(); } event zeek_init() { event e(); }",
+        8,
+        b"",
+        b"zeekoff: flood at 0.000000\n",
+    ),
+    (
+        b"",
+        &HEADER,
+        b"",
+        1,
+        b"",
+        b"zeekoff: word 0 is not understood\n",
+    ),
 ];
 
 /// A command line, the text of `s.zeek`, and what is said over a capture whose one packet, a datagram,
 /// comes at 25 s.
-const PROGRAMS: [(&[u8], &[u8], &[u8]); 7] = [
+const PROGRAMS: &[(&[u8], &[u8], &[u8])] = &[
     // A loop goes over a snapshot. Entries expire at their own moments, and their function may change the table.
     (
         RUN,
@@ -450,39 +466,31 @@ const PROGRAMS: [(&[u8], &[u8], &[u8]); 7] = [
 #[test]
 fn each_run_says_its_lines_and_complains_of_its_ending(rt: HostRuntime) -> Result<(), Fail> {
     for (n, (line, capture, script, status, said, complained)) in ROWS.iter().enumerate() {
-        let alloc = rt.alloc();
-        let files = inputs(alloc, capture, script)?;
-        let mut shelf = SureShelf::new(alloc, files)?;
-        let ending = run(alloc, &words(alloc, line)?, &mut shelf);
-        assert_eq!(rt; ending.status(), *status, "in row {n}");
-        assert_eq!(rt; shelf.said(), *said, "in row {n}");
-        assert_eq!(rt; shelf.complained(), *complained, "in row {n}");
+        let case = Case {
+            line,
+            inputs: &[(b"c.pcap", capture), (b"s.zeek", script)],
+            status: *status,
+            said,
+            complained,
+            files: &[(b"conn.log", &[]), (b"reporter.log", &[])],
+        };
+        assert_eq!(rt; difference(rt.alloc(), &case)?, None, "in row {n}");
     }
-    Ok(())
-}
-
-#[test]
-fn a_handler_that_raises_its_own_event_is_a_flood(rt: HostRuntime) -> Result<(), Fail> {
-    let alloc = rt.alloc();
-    let script = b"event e() { event e(); } event zeek_init() { event e(); }";
-    let mut shelf = SureShelf::new(alloc, inputs(alloc, &HEADER, script)?)?;
-    let ending = run(alloc, &words(alloc, RUN)?, &mut shelf);
-    assert_eq!(rt; ending.status(), 8);
-    assert_eq!(rt;
-        shelf.complained(),
-        b"zeekoff: flood at 0.000000\n".as_slice()
-    );
     Ok(())
 }
 
 #[test]
 fn programs_print_what_they_mean(rt: HostRuntime) -> Result<(), Fail> {
     for (n, (line, script, said)) in PROGRAMS.iter().enumerate() {
-        let alloc = rt.alloc();
-        let mut shelf = SureShelf::new(alloc, inputs(alloc, &DATAGRAM, script)?)?;
-        let ending = run(alloc, &words(alloc, line)?, &mut shelf);
-        assert_eq!(rt; ending.status(), 0, "in row {n}");
-        assert_eq!(rt; shelf.said(), *said, "in row {n}");
+        let case = Case {
+            line,
+            inputs: &[(b"c.pcap", &DATAGRAM), (b"s.zeek", script)],
+            status: 0,
+            said,
+            complained: b"",
+            files: &[],
+        };
+        assert_eq!(rt; difference(rt.alloc(), &case)?, None, "in row {n}");
     }
     Ok(())
 }
@@ -490,70 +498,21 @@ fn programs_print_what_they_mean(rt: HostRuntime) -> Result<(), Fail> {
 #[test]
 fn a_script_may_have_a_mebibyte_and_no_byte_more(rt: HostRuntime) -> Result<(), Fail> {
     let alloc = rt.alloc();
-    let rows = [
-        (1_048_576, 0, ""),
-        (1_048_577, 2, "zeekoff: s.zeek, byte 1048576: TooLarge\n"),
+    let rows: [(usize, u8, &[u8]); 2] = [
+        (1_048_576, 0, b""),
+        (1_048_577, 2, b"zeekoff: s.zeek, byte 1048576: TooLarge\n"),
     ];
     for (len, status, complained) in rows {
         let blanks = vec![in alloc; b' '; len]?;
-        let mut shelf = SureShelf::new(alloc, inputs(alloc, &HEADER, &blanks)?)?;
-        let ending = run(alloc, &words(alloc, RUN)?, &mut shelf);
-        assert_eq!(rt; ending.status(), status, "at {len} bytes");
-        assert_eq!(rt; shelf.complained(), complained.as_bytes(), "at {len} bytes");
-    }
-    Ok(())
-}
-
-/// Enough records for several pieces of output.
-const MANY: usize = 5000;
-
-/// Each packet makes this script print 40 bytes.
-const WIDE: &[u8] =
-    b"event packet_seen(t: time, caplen: count, len: count) { print \"0123456789012345678901234567890123456789\"; }";
-
-#[test]
-fn a_run_over_a_failing_shelf_stops_with_the_fault_of_the_failed_call(
-    rt: HostRuntime,
-) -> Result<(), Fail> {
-    let alloc = rt.alloc();
-    let mut many = Vec::from_slice(alloc, &HEADER)?;
-    for _ in 0..MANY {
-        many.extend_from_slice(&[0; 16])?;
-    }
-    let rows: [(&[u8], &[u8], &[u8]); 4] = [
-        // a start, and then a piece at a time is read, and said; a script is started and read twice before
-        (b"list c.pcap", &many, &[5, 5, 6, 5, 6, 5, 6, 0]),
-        (RUN, &many, &[5, 5, 5, 5, 5, 6, 6, 5, 6, 5, 6, 0]),
-        // a piece, and then the complaint
-        (b"list c.pcap", &CUT, &[5, 5, 5, 6, 6, 4]),
-        // nothing is said or complained
-        (b"list c.pcap", &HEADER, &[5, 5, 5, 0]),
-    ];
-    for (line, capture, statuses) in rows {
-        let line = words(alloc, line)?;
-        let mut sure = SureShelf::new(alloc, inputs(alloc, capture, WIDE)?)?;
-        let whole = run(alloc, &line, &mut sure).status();
-        let all = sure.said().len() + sure.complained().len();
-        for (n, status) in statuses.iter().enumerate() {
-            let call = n as u64 + 1;
-            let mut fails = Vec::new(alloc);
-            fails.push(call)?;
-            let mut shelf = MemShelf::new(alloc, inputs(alloc, capture, WIDE)?, fails)?;
-            let ending = run(alloc, &line, &mut shelf);
-            assert_eq!(rt; ending.status(), *status, "call {call} fails");
-            assert!(rt; sure.said().starts_with(shelf.said()), "call {call} fails");
-            assert!(rt;
-                shelf.complained().is_empty() || shelf.said() == sure.said(),
-                "call {call} fails"
-            );
-            let written = shelf.said().len() + shelf.complained().len();
-            assert!(rt;
-                *status != 5 || shelf.complained().is_empty(),
-                "call {call} fails"
-            );
-            assert!(rt; *status != 6 || written < all, "call {call} fails");
-        }
-        assert_eq!(rt; statuses.last(), Some(&whole));
+        let case = Case {
+            line: RUN,
+            inputs: &[(b"c.pcap", &HEADER), (b"s.zeek", &blanks)],
+            status,
+            said: b"",
+            complained,
+            files: &[],
+        };
+        assert_eq!(rt; difference(alloc, &case)?, None, "at {len} bytes");
     }
     Ok(())
 }

@@ -1,8 +1,7 @@
+use crate::case::{Case, difference};
 use crate::list_tests::GAP_IN_BODY;
-use crate::run;
-use crate::tests::{DATAGRAM, HEADER, inputs, words};
+use crate::tests::{DATAGRAM, HEADER};
 use std::test::Fail;
-use zk_base::SureShelf;
 
 /// A request whose head comes in pieces, the first of them twice.
 const SPLIT_HEAD: &[u8] = b"\
@@ -14,7 +13,7 @@ const SPLIT_HEAD: &[u8] = b"\
     \x03\0\0\0\0\0\0\0@\0\0\0@\0\0\0\0\0\0\0\0\0\0\0\0\0\0\0\x08\0E\0\02\0\0\0\0\0\x06\xa6v\n\0\0\x01\n\0\0P\x9cA\0P\0\0\0m\0\0\x01\xf5P\x10\0\00\xc0\0\0TP/1.1\r\n\r\n";
 
 /// A datagram of another port at each second from 1 s to 12 s.
-const EACH_SECOND: &[u8] = b"\
+pub const EACH_SECOND: &[u8] = b"\
     \xd4\xc3\xb2\xa1\x02\0\x04\0\0\0\0\0\0\0\0\0\0\0\x04\0\x01\0\0\0\
     \x01\0\0\0\0\0\0\0+\0\0\0+\0\0\0\0\0\0\0\0\0\0\0\0\0\0\0\x08\0E\0\0\x1d\0\0\0\0\0\x11\xa6\x80\n\0\0\x01\n\0\0P\x03\xe9'\x0f\0\x09H\x93x\
     \x02\0\0\0\0\0\0\0+\0\0\0+\0\0\0\0\0\0\0\0\0\0\0\0\0\0\0\x08\0E\0\0\x1d\0\0\0\0\0\x11\xa6\x80\n\0\0\x01\n\0\0P\x03\xea'\x0f\0\x09H\x92x\
@@ -68,8 +67,14 @@ impl Over {
 /// The words, the capture, the text of `s.zeek`, and what is said.
 type Row = (&'static [u8], Over, &'static [u8], &'static [u8]);
 
+/// A table with many entries, and a function that counts those that expire.
+const MANY: &[u8] =
+    b"global t: table[count] of count &create_expire=1 sec &expire_func=gone; global n = 0; function gone(t: \
+      table[count] of count, k: count): interval { ++n; return 0 sec; } event zeek_init() { local i = 0; while \
+      ( i < 900000 ) { t[i] = i; ++i; } } event zeek_done() { print n, |t|; }";
+
 /// The queue, scheduled events, and the order of turns.
-const AGENDA: [Row; 11] = [
+const AGENDA: &[Row] = &[
     // A scheduled event runs before the first item at or after its due.
     (
         RUN,
@@ -190,7 +195,7 @@ const AGENDA: [Row; 11] = [
 ];
 
 /// Entries that expire.
-const EXPIRY: [Row; 13] = [
+const EXPIRY: &[Row] = &[
     // `&create_expire` counts from insertion: neither an assignment nor a read puts it off.
     (
         RUN,
@@ -331,39 +336,26 @@ const EXPIRY: [Row; 13] = [
           u[7], v[2]; }",
         b"2, 2.000000\n0, 1, 0, 1, 9, 9\n",
     ),
+    // 900,000 entries that are due at one moment go one by one; without an item nothing expires.
+    (LARGE, Over::Datagram, MANY, b"900000, 0\n"),
+    (LARGE, Over::Header, MANY, b"0, 900000\n"),
 ];
 
 #[test]
 fn timers_and_expiry_keep_to_the_agenda(rt: HostRuntime) -> Result<(), Fail> {
-    let alloc = rt.alloc();
-    let tables: [&[Row]; 2] = [&AGENDA, &EXPIRY];
+    let tables: [&[Row]; 2] = [AGENDA, EXPIRY];
     for rows in tables {
         for (n, (line, over, script, said)) in rows.iter().enumerate() {
-            let mut shelf = SureShelf::new(alloc, inputs(alloc, over.bytes(), script)?)?;
-            let ending = run(alloc, &words(alloc, line)?, &mut shelf);
-            assert_eq!(rt; ending.status(), 0, "in row {n}");
-            assert_eq!(rt; shelf.said(), *said, "in row {n}");
+            let case = Case {
+                line,
+                inputs: &[(b"c.pcap", over.bytes()), (b"s.zeek", script)],
+                status: 0,
+                said,
+                complained: b"",
+                files: &[],
+            };
+            assert_eq!(rt; difference(rt.alloc(), &case)?, None, "in row {n}");
         }
-    }
-    Ok(())
-}
-
-/// 900,000 entries that are due at one moment.
-const MANY: &[u8] =
-    b"global t: table[count] of count &create_expire=1 sec &expire_func=gone; global n = 0; function gone(t: \
-      table[count] of count, k: count): interval { ++n; return 0 sec; } event zeek_init() { local i = 0; while \
-      ( i < 900000 ) { t[i] = i; ++i; } } event zeek_done() { print n, |t|; }";
-
-#[test]
-fn many_entries_that_are_due_at_once_expire_one_by_one(rt: HostRuntime) -> Result<(), Fail> {
-    let alloc = rt.alloc();
-    // Without an item nothing expires.
-    let rows: [(&[u8], &[u8]); 2] = [(&DATAGRAM, b"900000, 0\n"), (&HEADER, b"0, 900000\n")];
-    for (capture, said) in rows {
-        let mut shelf = SureShelf::new(alloc, inputs(alloc, capture, MANY)?)?;
-        let ending = run(alloc, &words(alloc, LARGE)?, &mut shelf);
-        assert_eq!(rt; ending.status(), 0);
-        assert_eq!(rt; shelf.said(), said);
     }
     Ok(())
 }

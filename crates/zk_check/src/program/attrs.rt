@@ -9,12 +9,12 @@ ghost use Rattle.zk_typed.specs.Resolving.{Scripts, attr_value};
 ghost use Rattle.zk_typed.specs.Typing.{is_function, number_among};
 ghost use Rattle.zk_typed.specs.View.{expr_of, type_of};
 ghost use Rattle.zk_check.specs.Globals.{first_expiry, primitive_shaped, span_in, span_of};
-ghost use Rattle.zk_check.specs.Judging.{scripts_from};
+ghost use Rattle.zk_declaration.specs.Sources.{scripts_from};
 
 use crate::program::bodies::value_of;
-use crate::source::Source;
 use std::alloc::Global;
 use zk_base::{Mem, Span};
+use zk_declaration::Source;
 use zk_names::{Home, Kind, attr_value};
 use zk_tree::{Attr, Expiry, Expr as Syntax, Name};
 use zk_typed::script::{

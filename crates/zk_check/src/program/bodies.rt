@@ -1,4 +1,4 @@
-ghost use Rattle.std.specs.Prelude.{◌≡◌, Some, IfOk};
+ghost use Rattle.std.specs.Prelude.{◌≡◌, pos, neg_ℤ, Some, IfOk};
 ghost use Rattle.std.specs.Option.{option_map};
 ghost use Rattle.zk_names.specs.Lent.{home_of};
 ghost use Rattle.zk_typed.specs.declared.script.literal.DefaultValue.TheVariants as default;
@@ -7,19 +7,19 @@ ghost use Rattle.zk_typed.specs.Errors as errors;
 ghost use Rattle.zk_typed.specs.Programs as spec;
 ghost use Rattle.zk_typed.specs.Resolving.{Scripts};
 ghost use Rattle.zk_typed.specs.Statements as statement;
-ghost use Rattle.zk_check.specs.Bodies.{within_of};
-ghost use Rattle.zk_check.specs.Judging.{IsJudged, IsSource, scripts_from};
+ghost use Rattle.zk_statement.specs.Bodies.{within_of};
+ghost use Rattle.zk_declaration.specs.Sources.{IsSource, scripts_from};
+ghost use Rattle.zk_check.specs.Judging.{IsJudged};
 ghost use Rattle.zk_typed.specs.View.{stmt_of, type_of};
 ghost use Rattle.zk_check.specs.Programming.{IsBody, IsChecked, priority_in, stmts_or, value_of};
 
-use crate::context::Within;
 use crate::judged::{Judged, body_made, function_body_made};
-use crate::made::no_stmt;
-use crate::source::Source;
 use std::alloc::Global;
 use zk_base::Mem;
+use zk_declaration::Source;
 use zk_names::{Home, attr_value};
 use zk_operator::constant_typed;
+use zk_statement::{Within, no_stmt};
 use zk_tree::{Attr, Block, Param, Type};
 use zk_typed::Refusal;
 use zk_typed::script::{DefaultValue, Literal, Sign, SimpleType, Stmt, ValueType};
@@ -126,17 +126,28 @@ pub fn function_body_in<'a>(
     body_of(source.alloc, judged)
 }
 
-/// A count with its sign. One past the greatest int is more than memory holds.
+/// The int of a count below 0. One past the least int is more than memory holds.
+fn negated(number: u64) -> Result<i64, Mem>
+    ensures { IfOk result (λ made. made ≡ neg_ℤ (pos number)) }
+{
+    0_i64.checked_sub_unsigned(number).ok_or(Mem)
+}
+
+/// The int of a count. One past the greatest int is more than memory holds.
+fn int_of(number: u64) -> Result<i64, Mem>
+    ensures { IfOk result (λ made. made ≡ pos number) }
+{
+    0_i64.checked_add_unsigned(number).ok_or(Mem)
+}
+
+/// A count with its sign, as an int.
 fn signed_count(number: u64, sign: Sign) -> Result<i64, Mem>
     ensures { IfOk result (λ made. made ≡ priority_in (Some (default.Literal (literal.Count number) sign))) }
 {
-    let Ok(number) = i64::try_from(number) else {
-        return Err(Mem);
-    };
     match sign {
-        Sign::Negated => Ok(-number),
-        Sign::Plain => Ok(number),
-        Sign::Converted => Ok(number),
+        Sign::Negated => negated(number),
+        Sign::Plain => int_of(number),
+        Sign::Converted => int_of(number),
     }
 }
 

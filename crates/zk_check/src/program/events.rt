@@ -5,16 +5,16 @@ ghost use Rattle.zk_typed.specs.Programs as spec;
 ghost use Rattle.zk_typed.specs.Typing.{is_event};
 ghost use Rattle.zk_typed.specs.View as view;
 ghost use Rattle.zk_tree.specs.declared.decl.Decl.{out-Decl};
-ghost use Rattle.zk_check.specs.Choosing.{chosen};
-ghost use Rattle.zk_check.specs.Judging.{IsSource, scripts_from};
+ghost use Rattle.zk_declaration.specs.Choosing.{chosen};
+ghost use Rattle.zk_declaration.specs.Sources.{IsSource, scripts_from};
 ghost use Rattle.zk_check.specs.Programming.{handler_made, handlers_at, stated_handlers};
 
-use crate::context::Within;
 use crate::program::bodies::{body_in, priority_of};
 use crate::program::signatures::declared_params;
-use crate::source::Source;
 use zk_base::{Bytes, EventNo, Mem};
+use zk_declaration::Source;
 use zk_names::{Declared, Home, Kind, Stated};
+use zk_statement::Within;
 use zk_tree::{Attr, Block, BodyKind, Decl, Name, Param};
 use zk_typed::script::{Event, Handler};
 

@@ -7,18 +7,17 @@ ghost use Rattle.zk_typed.specs.Resolving as resolving;
 ghost use Rattle.zk_typed.specs.Typing.{is_function};
 ghost use Rattle.zk_typed.specs.View as view;
 ghost use Rattle.zk_typed.specs.View.{type_of};
-ghost use Rattle.zk_check.specs.Choosing.{chosen};
+ghost use Rattle.zk_declaration.specs.Choosing.{chosen};
 ghost use Rattle.zk_check.specs.Functions.{function_among, function_typed, functions_at, signature_in, stated_function};
-ghost use Rattle.zk_check.specs.Judging.{IsSource, scripts_from};
+ghost use Rattle.zk_declaration.specs.Sources.{IsSource, scripts_from};
 
-use crate::groups::Groups;
-use crate::made::no_stmt;
 use crate::program::bodies::function_body_in;
 use crate::program::signatures::{params_of, result_of};
-use crate::source::Source;
 use std::alloc::Global;
 use zk_base::{Mem, Sequence};
+use zk_declaration::{Groups, Source};
 use zk_names::{Declared, Home, Kind, Signature, Stated, whole_name};
+use zk_statement::no_stmt;
 use zk_tree::{Block, Decl, Param, Type};
 use zk_typed::script::{Function, ValueType};
 

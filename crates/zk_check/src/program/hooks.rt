@@ -4,17 +4,16 @@ ghost use Rattle.zk_typed.specs.Names.{Declared as DeclaredName, look_up};
 ghost use Rattle.zk_typed.specs.Programs as spec;
 ghost use Rattle.zk_typed.specs.Typing.{is_hook};
 ghost use Rattle.zk_typed.specs.View as view;
-ghost use Rattle.zk_check.specs.Choosing.{chosen};
+ghost use Rattle.zk_declaration.specs.Choosing.{chosen};
 ghost use Rattle.zk_check.specs.Hooks.{hook_among, hook_body_typed, hook_bodies_at, hooks_in, stated_hook};
-ghost use Rattle.zk_check.specs.Judging.{IsSource, scripts_from};
+ghost use Rattle.zk_declaration.specs.Sources.{IsSource, scripts_from};
 
-use crate::context::Within;
-use crate::groups::Groups;
 use crate::program::bodies::{body_in, priority_of};
 use crate::program::signatures::declared_params;
-use crate::source::Source;
 use zk_base::{Mem, Sequence};
+use zk_declaration::{Groups, Source};
 use zk_names::{Declared, Home, Kind, Stated};
+use zk_statement::Within;
 use zk_tree::{Attr, Block, BodyKind, Decl, Name, Param};
 use zk_typed::script::{Hook, HookBody};
 

@@ -2,13 +2,12 @@ ghost use Rattle.std.specs.Prelude.{◌≡◌, ◌++◌, ℕ, List, IfOk, OnOk};
 ghost use Rattle.zk_names.specs.Lent.{stated_of};
 ghost use Rattle.zk_typed.specs.Programs as spec;
 ghost use Rattle.zk_check.specs.Globals.{ArePlaces, no_place, stated_place};
-ghost use Rattle.zk_check.specs.Grouping.{group_at};
-ghost use Rattle.zk_check.specs.Judging.{scripts_from};
+ghost use Rattle.zk_declaration.specs.Grouping.{group_at};
+ghost use Rattle.zk_declaration.specs.Sources.{scripts_from};
 
-use crate::groups::Groups;
-use crate::source::Source;
 use std::alloc::Global;
 use zk_base::Mem;
+use zk_declaration::{Groups, Source};
 use zk_names::{Stated, whole_name};
 use zk_tree::{Decl, Place};
 

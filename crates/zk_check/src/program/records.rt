@@ -7,12 +7,12 @@ ghost use Rattle.zk_typed.specs.Programs as spec;
 ghost use Rattle.zk_typed.specs.Resolving.{Scripts};
 ghost use Rattle.zk_typed.specs.View as view;
 ghost use Rattle.zk_typed.specs.View.{type_of};
-ghost use Rattle.zk_check.specs.Judging.{scripts_from};
+ghost use Rattle.zk_declaration.specs.Sources.{scripts_from};
 
 use crate::program::bodies::if_checked;
-use crate::source::Source;
 use std::alloc::Global;
 use zk_base::{Bytes, Mem, RecordNo, Sequence};
+use zk_declaration::Source;
 use zk_names::{FieldInfo, Node};
 use zk_operator::{constant_typed, copied_type};
 use zk_typed::script::{DefaultValue, Field, RecordType, SimpleType, ValueType};

@@ -5,11 +5,11 @@ ghost use Rattle.zk_typed.specs.Programs as spec;
 ghost use Rattle.zk_typed.specs.Programs.{checked_or};
 ghost use Rattle.zk_typed.specs.Resolving as resolving;
 ghost use Rattle.zk_typed.specs.View.{type_of};
-ghost use Rattle.zk_check.specs.Judging.{scripts_from};
+ghost use Rattle.zk_declaration.specs.Sources.{scripts_from};
 ghost use Rattle.zk_check.specs.Programming.{signature_or};
 
-use crate::source::Source;
 use zk_base::{Mem, Sequence};
+use zk_declaration::Source;
 use zk_names::{Declared, Meant, Signature};
 use zk_typed::Refusal;
 use zk_typed::script::ValueType;

@@ -9,15 +9,13 @@ ghost use Rattle.zk_names.specs.Lent.{home_of, stated_of};
 ghost use Rattle.zk_names.specs.Scripted.{scripts_in};
 ghost use Rattle.zk_operator.specs.Gather.{Told};
 ghost use Rattle.zk_check.specs.Bodied.{IsBodied};
-ghost use Rattle.zk_check.specs.Paths.{HasPaths, call_rules, stated_uses, uses_lent};
-ghost use Rattle.zk_check.specs.Uses.{filter_use};
+ghost use Rattle.zk_declaration.specs.Paths.{HasPaths, call_rules, stated_uses, uses_lent};
+ghost use Rattle.zk_declaration.specs.Uses.{filter_use};
 
 use crate::rules::bodies::Bodied;
-use crate::rules::logging::{log_call, logged, one_use, stream_uses};
-use crate::rules::paths::{PathUse, Paths};
-use crate::rules::told::require;
 use sqlite_items::at;
 use zk_base::{Bytes, LogId, Mem};
+use zk_declaration::{PathUse, Paths, log_call, logged, one_use, require, stream_uses};
 use zk_names::{Call, Leaf, Stated, decl_calls, place_in};
 use zk_operator::also;
 use zk_typed::script::LogCall;

@@ -5,4 +5,4 @@ pub returns-clause-order : goal.returns-clause-order
 returns-clause-order c = items_in_order c.moments_rise.ensures
 
 pub returns-clause-time : goal.returns-clause-time
-returns-clause-time c = captures_run_in_time c.moments_rise.ensures c.agenda_holds.ensures.time
+returns-clause-time c = captures_run_in_time c.moments_rise.ensures c.agenda_holds.ensures.time c.typed_tables_stay.ensures.tables

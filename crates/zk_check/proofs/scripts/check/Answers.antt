@@ -12,7 +12,7 @@ use Rattle.zk_check.specs.Checking.{IsAccepted}
 use Rattle.zk_check.specs.Faults.{IsFirst}
 use Rattle.std.specs.Prelude.{IfErr}
 use Rattle.zk_check.proofs.CheckLaws.{accepted_typed}
-use Rattle.zk_check.proofs.RoundLaws.{ok_map}
+use Rattle.zk_declaration.proofs.RoundLaws.{ok_map}
 use Rattle.zk_check.proofs.scripts.check.Goals as goal
 
 pub returns-clause-accepted : goal.returns-clause-accepted

@@ -4,8 +4,8 @@ use Rattle.zk_typed.specs.Declarations.{told_type, global_type}
 use Rattle.zk_names.specs.Scripted.{scripts_in}
 use Rattle.zk_expression.specs.declared.env.GlobalType.{GlobalType}
 use Rattle.zk_expression.specs.Envs.{global_of}
-use Rattle.zk_check.specs.Rounds.{IsGlobals}
-use Rattle.zk_check.proofs.RoundLaws.{known_told}
+use Rattle.zk_declaration.specs.Rounds.{IsGlobals}
+use Rattle.zk_declaration.proofs.RoundLaws.{known_told}
 use Rattle.zk_check.proofs.scripts.check_scripts.Goals as goal
 
 pub check_typed-requires-clause-told : goal.check_typed-requires-clause-told

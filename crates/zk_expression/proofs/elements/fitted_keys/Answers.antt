@@ -13,7 +13,7 @@ loop-one-preserved c = (
       c.loop-one.invariant.1 c.key_fits.ensures c.with_part-all.ensures,
 )
 
-pub returns-in-None : goal.returns-in-None
-returns-in-None c =
+pub returns : goal.returns
+returns c =
     no_more_values (env_of c.args.env.now) c.loop-one.keys_left.now c.loop-one.written_left.now (into_iter_items c.loop-one.one-iterator) _ c.loop-one.all _
     c.loop-one.invariant.0 c.in-None.ensures.steps.0 c.loop-one.invariant.1

@@ -1,25 +1,23 @@
 use Rattle.std.proofs.Common.{[], false, refl, sym, subst}
+use Rattle.std.proofs.lemmas.Result.{IfOk-weaker}
 use Rattle.zk_events.specs.Run.{New}
 use Rattle.zk_load.proofs.Doing.{does_nothing_without_fault}
 use Rattle.zk_top.specs.Replay.{Comes, Plan}
 use Rattle.zk_top.specs.Sink.{Beginning, CanTake, Counted}
-use Rattle.zk_top.proofs.Replaying.{counted_all}
 use Rattle.zk_top.proofs.replay.count_rows.Goals as goal
 
-pub run-requires-clause-ready : goal.run-requires-clause-ready
-run-requires-clause-ready g c =
+pub count-requires-clause-ready : goal.count-requires-clause-ready
+count-requires-clause-ready g c =
     let old = g.S.Shelf.outside c.args.shelf.now in
     subst (λ sink. CanTake sink old) (sym c.in_ok-replay.ensures.sink) tt
 
 pub returns : goal.returns
-returns g c program whole header bytes are reading =
+returns g c = IfOk-weaker c.count.result _ _ (λ counted does program whole header bytes are reading.
     let old = g.S.Shelf.outside c.args.shelf.now in
-    let new = g.S.Shelf.outside c.run.new.shelf in
     let plan : Plan = record { options = c.args.options; link = header.link; program = program; budget = c.args.budget } in
     let first : Beginning = record { outside = old; target = Counted } in
     let begins : Comes first plan [] [] false New c.in_ok-replay.replay old =
     subst (λ link. Comes first (record { options = c.args.options; link = link; program = program; budget = c.args.budget }) [] [] false New c.in_ok-replay.replay old) (c.link.ensures whole header bytes [] old reading)
     (c.in_ok-replay.ensures.comes first program old are
     (refl, record { counts_are = c.new.ensures; does = record { all = does_nothing_without_fault old; present = refl } })) in
-    counted_all first plan whole header c.in_ok-came.came c.run.new.self c.run.new.reader new c.rows.result
-    (c.in_ok-came.ensures.ran first plan whole header bytes begins reading) (λ output taken. c.rows.ensures first output new taken refl)
+    does first plan whole header bytes refl begins reading) c.count.ensures

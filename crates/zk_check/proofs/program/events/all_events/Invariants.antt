@@ -3,8 +3,8 @@ use Rattle.zk_names.specs.Lent.{declared_lent}
 use Rattle.zk_typed.specs.Programs as spec
 use Rattle.zk_typed.specs.Typing.{is_event}
 use Rattle.zk_typed.specs.View as view
-use Rattle.zk_check.specs.Choosing.{chosen}
-use Rattle.zk_check.specs.Judging.{scripts_from}
+use Rattle.zk_declaration.specs.Choosing.{chosen}
+use Rattle.zk_declaration.specs.Sources.{scripts_from}
 use Rattle.zk_check.proofs.program.events.all_events.Given as goal
 
 abbrev pub invariant-loop-one : goal.invariant-loop-one

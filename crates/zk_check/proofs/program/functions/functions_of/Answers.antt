@@ -6,8 +6,8 @@ use Rattle.zk_typed.specs.Program as program
 use Rattle.zk_typed.specs.Typing.{is_function}
 use Rattle.zk_check.specs.Functions.{function_among}
 use Rattle.zk_typed.specs.View as view
-use Rattle.zk_check.specs.Choosing.{chosen}
-use Rattle.zk_check.specs.Judging.{scripts_from}
+use Rattle.zk_declaration.specs.Choosing.{chosen}
+use Rattle.zk_declaration.specs.Sources.{scripts_from}
 use Rattle.zk_check.proofs.ProgramLaws.{gathered, kept}
 use Rattle.zk_check.proofs.program.functions.functions_of.Goals as goal
 

@@ -4,7 +4,7 @@ use Rattle.zk_typed.specs.Names.{Declared}
 use Rattle.zk_typed.specs.Programs as spec
 use Rattle.zk_typed.specs.Typing.{is_variable}
 use Rattle.zk_typed.specs.View as view
-use Rattle.zk_check.specs.Judging.{scripts_from}
+use Rattle.zk_declaration.specs.Sources.{scripts_from}
 use Rattle.zk_check.proofs.GivenLaws.{lent_first}
 use Rattle.zk_check.proofs.program.globals.globals_of.Goals as goal
 

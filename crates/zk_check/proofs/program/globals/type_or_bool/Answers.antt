@@ -8,7 +8,7 @@ use Rattle.zk_typed.specs.Declarations.{global_type}
 use Rattle.zk_typed.specs.Predefined as type
 use Rattle.zk_typed.specs.Programs.{checked_or}
 use Rattle.zk_typed.specs.View.{type_of}
-use Rattle.zk_check.specs.Judging.{scripts_from}
+use Rattle.zk_declaration.specs.Sources.{scripts_from}
 use Rattle.zk_check.proofs.PartLaws.{global_at, unknown_bool}
 use Rattle.zk_check.proofs.program.globals.type_or_bool.Goals as goal
 

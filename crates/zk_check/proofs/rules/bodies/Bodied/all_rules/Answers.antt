@@ -6,14 +6,14 @@ use Rattle.zk_typed.specs.Errors.{decl_rules, declared_before, declares, twice_r
 use Rattle.zk_names.specs.Lent.{home_of, stated_of}
 use Rattle.zk_names.specs.Scripted.{scripts_in}
 use Rattle.zk_operator.proofs.BothLaws.{Rules}
-use Rattle.zk_check.specs.declared.rules.paths.Paths.{Paths}
-use Rattle.zk_check.specs.declared.rules.seen.Seen.{Seen}
+use Rattle.zk_declaration.specs.declared.paths.Paths.{Paths}
+use Rattle.zk_declaration.specs.declared.seen.Seen.{Seen}
 use Rattle.zk_check.specs.Listing.{path_rules}
-use Rattle.zk_check.specs.Naming.{all_named}
-use Rattle.zk_check.specs.Paths.{HasPaths}
-use Rattle.zk_check.specs.Seeing.{Sees}
+use Rattle.zk_declaration.specs.Naming.{all_named}
+use Rattle.zk_declaration.specs.Paths.{HasPaths}
+use Rattle.zk_declaration.specs.Seeing.{Sees}
 use Rattle.zk_check.proofs.DeclLaws.{earlier_more}
-use Rattle.zk_check.proofs.RuleLaws.{adds_told, also_tells}
+use Rattle.zk_declaration.proofs.RuleLaws.{adds_told, also_tells}
 use Rattle.zk_check.proofs.rules.bodies.Bodied.all_rules.Goals as goal
 
 pub returns-clause-rules : goal.returns-clause-rules

@@ -4,11 +4,11 @@ use Rattle.std.specs.declared.vec.Vec.{Vec}
 use Rattle.zk_typed.specs.Errors.{call_uses, path_use}
 use Rattle.zk_names.specs.Calls.{call_of}
 use Rattle.zk_names.specs.Scripted.{scripts_in}
-use Rattle.zk_check.specs.declared.rules.paths.PathUse.{PathUse}
-use Rattle.zk_check.specs.Judging.{scripts_from}
-use Rattle.zk_check.specs.Paths.{uses_lent}
-use Rattle.zk_check.proofs.RoundLaws.{ok_map}
-use Rattle.zk_check.proofs.UseLaws.{no_call_uses, one_call_uses}
+use Rattle.zk_declaration.specs.declared.paths.PathUse.{PathUse}
+use Rattle.zk_declaration.specs.Sources.{scripts_from}
+use Rattle.zk_declaration.specs.Paths.{uses_lent}
+use Rattle.zk_declaration.proofs.RoundLaws.{ok_map}
+use Rattle.zk_declaration.proofs.UseLaws.{no_call_uses, one_call_uses}
 use Rattle.zk_check.proofs.rules.bodies.Bodied.call_uses.Goals as goal
 
 pub returns-in-Some : goal.returns-in-Some

@@ -8,8 +8,8 @@ use Rattle.zk_typed.specs.Statements.{InFunction}
 use Rattle.zk_typed.specs.View.{stmt_of}
 use Rattle.zk_names.specs.Lent.{home_of}
 use Rattle.zk_operator.proofs.BothLaws.{Rules}
-use Rattle.zk_check.specs.Judging.{scripts_from}
-use Rattle.zk_check.proofs.RuleLaws.{dropped_tells, same_rules}
+use Rattle.zk_declaration.specs.Sources.{scripts_from}
+use Rattle.zk_declaration.proofs.RuleLaws.{dropped_tells, same_rules}
 use Rattle.zk_check.proofs.rules.bodies.Bodied.function_body.Goals as goal
 
 pub returns : goal.returns

@@ -6,8 +6,8 @@ use Rattle.zk_names.specs.declared.home.Home.{Home}
 use Rattle.zk_names.specs.Lent.{declared_of, home_of}
 use Rattle.zk_names.specs.Scripted.{scripts_in}
 use Rattle.zk_check.specs.Earlier.{first_rules}
-use Rattle.zk_check.specs.Valued.{variable_rules}
-use Rattle.zk_check.proofs.RuleLaws.{same_rules}
+use Rattle.zk_declaration.specs.Valued.{variable_rules}
+use Rattle.zk_declaration.proofs.RuleLaws.{same_rules}
 use Rattle.zk_check.proofs.rules.bodies.Bodied.variable_decl.Goals as goal
 
 pub returns-in-Some : goal.returns-in-Some

@@ -1,6 +1,0 @@
-use Rattle.zk_names.specs.Scripted.{scripts_in}
-use Rattle.zk_check.specs.Rounds.{IsRound}
-use Rattle.zk_check.proofs.rules.rounds.told_types.Given as goal
-
-abbrev pub invariant-loop-at : goal.invariant-loop-at
-invariant-loop-at l = IsRound (scripts_in l.scripts.names) l.at l.types.items

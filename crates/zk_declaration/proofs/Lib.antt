@@ -1,0 +1,14 @@
+pub mod RuleLaws
+pub mod StatedLaws
+pub mod EdgeLaws
+pub mod HeightLaws
+pub mod SameLaws
+pub mod NestLaws
+pub mod AddedLaws
+pub mod ListLaws
+pub mod HeadLaws
+pub mod RoundLaws
+pub mod ValueLaws
+pub mod PathLaws
+pub mod UseLaws
+pub mod OtherCalls

@@ -1,0 +1,11 @@
+pub mod Acting
+pub mod Assigning
+pub mod Begins
+pub mod Blocks
+pub mod Bodies
+pub mod Loops
+pub mod Numbers
+pub mod Over
+pub mod Returns
+pub mod Steps
+pub mod Turns

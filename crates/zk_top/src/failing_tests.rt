@@ -1,0 +1,148 @@
+use crate::case::{inputs, words};
+use crate::list_tests::QUERY;
+use crate::run;
+use crate::tests::{CUT, DATAGRAM, HEADER};
+use std::alloc::Global;
+use std::test::Fail;
+use zk_base::{Mem, MemShelf, SureShelf, Word};
+
+/// A run whose calls of the outside fail, one in each turn.
+#[derive(Clone, Copy)]
+struct Failing<'a> {
+    line: &'a [u8],
+    inputs: &'a [(&'a [u8], &'a [u8])],
+    /// The files that it writes.
+    files: &'a [&'a [u8]],
+    /// The status where the first call fails, where the second one fails, and so on, and at last where none does.
+    statuses: &'a [u8],
+}
+
+/// Whether what a run did that was stopped begins what it does where no call fails, the complaint behind all that is said.
+fn begins(shelf: &MemShelf, whole: &SureShelf, files: &[&[u8]]) -> bool {
+    whole.said().starts_with(shelf.said())
+        && whole.complained().starts_with(shelf.complained())
+        && (shelf.complained().is_empty() || shelf.said() == whole.said())
+        && files.iter().all(|name| {
+            whole
+                .output(name)
+                .unwrap_or(b"")
+                .starts_with(shelf.output(name).unwrap_or(b""))
+        })
+}
+
+/// Whether a run did all that it does where no call fails.
+fn is_whole(shelf: &MemShelf, whole: &SureShelf, files: &[&[u8]]) -> bool {
+    shelf.said() == whole.said()
+        && shelf.complained() == whole.complained()
+        && files
+            .iter()
+            .all(|name| shelf.output(name) == whole.output(name))
+}
+
+/// Whether a run whose call of this number fails ends with its status, and what it did by then is right.
+fn stops_so(
+    alloc: Global,
+    row: &Failing,
+    words: &[Word],
+    whole: &SureShelf,
+    call: u64,
+    status: u8,
+) -> Result<bool, Mem> {
+    let fails = vec![in alloc; call]?;
+    let mut shelf = MemShelf::new(alloc, inputs(alloc, row.inputs)?, fails)?;
+    let ending = run(alloc, words, &mut shelf);
+    Ok(
+        ending.status() == status
+            && begins(&shelf, whole, row.files)
+            && (status != 5 || shelf.complained().is_empty())
+            && (status == 5 || is_whole(&shelf, whole, row.files) == (status != 6)),
+    )
+}
+
+/// The number of the first call whose failing doesn't stop a run as its row says, if any.
+fn first_otherwise(alloc: Global, row: &Failing) -> Result<Option<u64>, Mem> {
+    let words = words(alloc, row.line)?;
+    let mut whole = SureShelf::new(alloc, inputs(alloc, row.inputs)?)?;
+    let _ = run(alloc, &words, &mut whole);
+    for (n, status) in row.statuses.iter().enumerate() {
+        let call = n as u64 + 1;
+        if !stops_so(alloc, row, &words, &whole, call, *status)? {
+            return Ok(Some(call));
+        }
+    }
+    let calls = whole.calls();
+    let tried = row.statuses.len() as u64;
+    Ok(if calls.wrapping_add(1) == tried {
+        None
+    } else {
+        Some(calls)
+    })
+}
+
+/// Each packet makes this script print 40 bytes.
+const WIDE: &[u8] =
+    b"event packet_seen(t: time, caplen: count, len: count) { print \"0123456789012345678901234567890123456789\"; }";
+
+/// A row when a connection begins.
+const LOG: &[u8] = b"redef enum Log::ID += { L }; type R: record { n: count &log; }; \
+      event zeek_init() { Log::create_stream(L, [$columns=R, $path=\"p\"]); } \
+      event new_connection(c: connection) { Log::write(L, [$n=1]); }";
+
+#[test]
+fn a_run_over_a_failing_shelf_stops_with_the_fault_of_the_failed_call(
+    rt: HostRuntime,
+) -> Result<(), Fail> {
+    let alloc = rt.alloc();
+    let mut many = Vec::from_slice(alloc, &HEADER)?;
+    for _ in 0..5000 {
+        many.extend_from_slice(&[0; 16])?;
+    }
+    let rows = [
+        // A start, and then a piece at a time is read, and said.
+        Failing {
+            line: b"list c.pcap",
+            inputs: &[(b"c.pcap", &many)],
+            files: &[],
+            statuses: &[5, 5, 6, 5, 6, 5, 6, 0],
+        },
+        // A script is started and read twice before.
+        Failing {
+            line: b"run -b -r c.pcap s.zeek",
+            inputs: &[(b"c.pcap", &many), (b"s.zeek", WIDE)],
+            files: &[],
+            statuses: &[5, 5, 5, 5, 5, 6, 6, 5, 6, 5, 6, 0],
+        },
+        // A piece is said, and then the complaint.
+        Failing {
+            line: b"list c.pcap",
+            inputs: &[(b"c.pcap", &CUT)],
+            files: &[],
+            statuses: &[5, 5, 5, 6, 6, 4],
+        },
+        // Nothing is said or complained.
+        Failing {
+            line: b"list c.pcap",
+            inputs: &[(b"c.pcap", &HEADER)],
+            files: &[],
+            statuses: &[5, 5, 5, 0],
+        },
+        // A log is created, the capture is read to its end, and the log is written in two pieces.
+        Failing {
+            line: b"run -b -r c.pcap s.zeek",
+            inputs: &[(b"c.pcap", &DATAGRAM), (b"s.zeek", LOG)],
+            files: &[b"p.log"],
+            statuses: &[5, 5, 5, 5, 5, 6, 5, 6, 6, 0],
+        },
+        // The last call writes the closing line of a log.
+        Failing {
+            line: b"run -r c.pcap",
+            inputs: &[(b"c.pcap", QUERY)],
+            files: &[b"conn.log", b"dns.log"],
+            statuses: &[5, 5, 6, 5, 6, 6, 6, 6, 6, 0],
+        },
+    ];
+    for (n, row) in rows.iter().enumerate() {
+        assert_eq!(rt; first_otherwise(alloc, row)?, None, "in row {n}");
+    }
+    Ok(())
+}

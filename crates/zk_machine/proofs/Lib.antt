@@ -11,6 +11,7 @@ pub mod VectorLemmas
 pub mod OutLemmas
 pub mod MachineLemmas
 pub mod ListLemmas
+pub mod DefaultLemmas
 pub mod FilterLemmas
 pub mod DispatchLemmas
 pub mod DueLemmas

@@ -2,6 +2,7 @@ pub mod Agenda
 pub mod Called
 pub mod Comes
 pub mod Copied
+pub mod Defaulted
 pub mod Entries
 pub mod Expiring
 pub mod Finding

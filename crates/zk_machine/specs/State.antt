@@ -14,7 +14,7 @@ use Rattle.zk_value.specs.declared.out.Out.{Out}
 use Rattle.zk_value.specs.declared.out.Out.TheVariants as out
 use Rattle.zk_machine.specs.Queued.{queued_of}
 use Rattle.zk_machine.specs.declared.state.State.{State}
-use Rattle.zk_machine.specs.declared.world.TableDefault as rust_default
+use Rattle.zk_machine.specs.declared.table_defaults.TableDefault as rust_default
 use Rattle.zk_machine.specs.declared.world.World.{World}
 
 abbrev pub default_of : rust_default.TableDefault → typed.TableDefault
@@ -49,7 +49,7 @@ world_of world = record {
   time = world.time;
   is_ending = world.is_ending;
   store = world.heap;
-  defaults = map default_of world.defaults.items;
+  defaults = map default_of world.defaults;
   globals = map field_of world.globals.items;
   queue = map queued_of world.queue.items;
   scheduled = world.schedule.events;

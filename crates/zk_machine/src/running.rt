@@ -8,19 +8,20 @@ ghost use Rattle.zk_typed.specs.State as typed;
 ghost use Rattle.zk_typed.specs.declared.script.action.Left.TheVariants as left;
 ghost use Rattle.zk_typed.specs.declared.script.primitive.Primitive.TheVariants as primitive;
 ghost use Rattle.zk_tree.specs.Value as plain;
-ghost use Rattle.zk_value.specs.Plain.{value_of};
+ghost use Rattle.zk_value.specs.Plain.{value_of, key_of};
 ghost use Rattle.zk_machine.specs.Comes.{Comes};
 ghost use Rattle.zk_machine.specs.Running.{held_of, machine_of, Moves};
 ghost use Rattle.zk_machine.specs.State.{state_of};
 
-use crate::counts::stepped_count;
+use crate::counts::{counted, stepped_count};
 use crate::frames::{Frame, Loop};
 use crate::halt::Halt;
 use crate::objects::UNFIT;
 use crate::primitives::compared;
+use crate::pushes::{push_count, push_truth};
 use crate::state::{State, named};
 use zk_base::Mem;
-use zk_typed::script::{Action, Direction, Left, Primitive, Relation};
+use zk_typed::script::{Action, Binary, Direction, Left, Primitive, Relation};
 use zk_value::Value;
 
 /// What code runs with: where it is, the operands, loops and waiting bodies, the innermost one last, and the
@@ -55,7 +56,8 @@ impl Running {
         ensures { OnOk result (steps.push self.old.at (held_of self.old) (value_of value) (state_of self.old.state) ≡ steps.Goes (machine_of self.new)) }
     {
         match value {
-            Value::Count(count) => self.stack.push(Value::Count(count))?,
+            Value::Count(count) => push_count(&mut self.stack, count)?,
+            Value::Bool(truth) => push_truth(&mut self.stack, truth)?,
             _ => self.stack.push(value)?,
         }
         self.advance()
@@ -121,6 +123,7 @@ impl Running {
         match primitive {
             Primitive::Compare(relation) => self.compare(*relation, count),
             Primitive::Step { left, by } => self.step_side(*left, *by, count),
+            Primitive::Binary(operator) => self.compute(*operator, count),
             _ => self.perform(primitive, count),
         }
     }
@@ -133,6 +136,22 @@ impl Running {
         cut(&mut self.stack, count);
         self.push(value)?;
         Ok(())
+    }
+
+    /// Pushes what an operator computes from the last operands, so many of them. No whole value is copied where
+    /// they are counts.
+    fn compute(&mut self, operator: Binary, count: usize) -> Result<(), Halt>
+        ensures { (place : At) → Moves place result (steps.by (perform place (primitive.Binary operator) (steps.operands count (held_of self.old)) (state_of self.old.state)) (steps.push self.old.at (steps.without count (held_of self.old)))) (machine_of self.new) }
+    {
+        match counted_last(&self.stack, operator, count) {
+            Some(value) => {
+                cut(&mut self.stack, count);
+                push_count(&mut self.stack, value)?;
+                self.advance()?;
+                Ok(())
+            }
+            None => self.perform(&Primitive::Binary(operator), count),
+        }
     }
 
     /// `++x` or `--x`, whose new value is pushed (Zeek manual, Operators).
@@ -157,7 +176,7 @@ impl Running {
         match stepped_count(by, before) {
             Some(after) => {
                 self.state.set_count(number, after);
-                self.stack.push(Value::Count(after))?;
+                push_count(&mut self.stack, after)?;
                 self.advance()?;
                 Ok(())
             }
@@ -171,7 +190,7 @@ impl Running {
     {
         let truth = compare_last(&self.stack, relation, count)?;
         cut(&mut self.stack, count);
-        self.stack.push(Value::Bool(truth))?;
+        push_truth(&mut self.stack, truth)?;
         self.advance()?;
         Ok(())
     }
@@ -255,7 +274,7 @@ fn push_handle(stack: &mut Vec<Value>, value: &Value) -> Result<(), Mem>
     ensures { OnOk result (map value_of (reverse stack.new.items) ≡ value_of value.now ∷ map value_of (reverse stack.old.items)) }
 {
     match value {
-        Value::Count(count) => stack.push(Value::Count(*count))?,
+        Value::Count(count) => push_count(stack, *count)?,
         _ => stack.push(value.clone()?)?,
     }
     Ok(())
@@ -282,6 +301,27 @@ fn perform_last(
 {
     let from = stack.len().saturating_sub(count);
     state.perform(primitive, &stack[from..])
+}
+
+/// What an operator computes from two counts, where it is a count.
+fn counted_of(operator: Binary, operands: &[Value]) -> Option<u64>
+    ensures { IfSome result (λ count. (place : At) (state : typed.State) → perform place (primitive.Binary operator) (key_of operands.now) state ≡ does.Gives (plain.Count count) state) }
+{
+    match operands {
+        [a, b] => match counted(operator, a, b) {
+            Some(count) => Some(count),
+            None => None,
+        },
+        [] | [_] | [_, _, _, ..] => None,
+    }
+}
+
+/// What an operator computes from the last operands, where these are two counts and it is one.
+fn counted_last(stack: &[Value], operator: Binary, count: usize) -> Option<u64>
+    ensures { IfSome result (λ value. (place : At) (state : typed.State) → perform place (primitive.Binary operator) (reverse (take count (map value_of (reverse stack.now)))) state ≡ does.Gives (plain.Count value) state) }
+{
+    let from = stack.len().saturating_sub(count);
+    counted_of(operator, &stack[from..])
 }
 
 /// Whether a relation holds between the last operands, so many of them.

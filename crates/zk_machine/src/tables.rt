@@ -1,4 +1,4 @@
-ghost use Rattle.std.specs.Prelude.{◌≡◌, ◌==◌, ◌+◌, None as Nothing, Some, find as first_of, fold, map, slice_get, IfOk};
+ghost use Rattle.std.specs.Prelude.{◌≡◌, ◌+◌, None as Nothing, Some, fold, map, slice_get, IfOk};
 ghost use Rattle.std.specs.Option.{option_map};
 ghost use Rattle.zk_tree.specs.declared.place.Place.{Place as At};
 ghost use Rattle.zk_tree.specs.Store as object;
@@ -16,7 +16,7 @@ use crate::defaults::made;
 use crate::halt::Halt;
 use crate::objects::{UNFIT, key_from};
 use crate::state::State;
-use crate::world::TableDefault;
+use crate::table_defaults::{TableDefault, TableDefaults};
 use std::alloc::Global;
 use zk_base::{Mem, Moment, ObjectNo};
 use zk_lower::default_copy;
@@ -32,18 +32,11 @@ fn finds_renew(expiry: Option<Expiry>) -> bool
     matches!(expiry, Some(Expiry::Read(_)))
 }
 
-/// A table's `&default` with the number of its object, lent.
-fn table_default(defaults: &[TableDefault], number: ObjectNo) -> Option<&TableDefault>
-    ensures { option_map (λ one. one.now) result ≡ first_of (λ one. one.object.0 == number.0) defaults.now }
-{
-    defaults.iter().find(|one| one.object.0 == number.0)
-}
-
 /// The `&default` of a table, lent.
-pub fn default_named(defaults: &[TableDefault], number: ObjectNo) -> Option<&DefaultValue>
+pub fn default_named(defaults: &TableDefaults, number: ObjectNo) -> Option<&DefaultValue>
     ensures { option_map (λ default. default.now) result ≡ meant.default_named number.0 (map default_of defaults.now) }
 {
-    match table_default(defaults, number) {
+    match defaults.of(number) {
         Some(one) => Some(&one.default),
         None => None,
     }

@@ -4,20 +4,13 @@ ghost use Rattle.zk_value.specs.Plain.{field_of};
 
 use crate::queued::Queued;
 use crate::schedule::Schedule;
+use crate::table_defaults::TableDefaults;
 use std::alloc::Global;
 use std::collections::VecDeque;
-use zk_base::{Moment, ObjectNo};
+use zk_base::Moment;
 use zk_streams::Streams;
 use zk_table::Heap;
-use zk_typed::script::DefaultValue;
 use zk_value::{Out, Value};
-
-/// A table's `&default`, and the number of the table's object.
-#[derive(Debug, Drop)]
-pub struct TableDefault {
-    pub object: ObjectNo,
-    pub default: DefaultValue,
-}
 
 /// The world that scripts run in. Lines and rows are those that were not yet given out.
 #[derive(Debug, Drop)]
@@ -30,7 +23,7 @@ pub struct World {
     /// The objects by their numbers.
     pub heap: Heap,
     /// The tables that have a `&default`.
-    pub defaults: Vec<TableDefault>,
+    pub defaults: TableDefaults,
     /// The values of globals and constants by their numbers, each where it has one.
     pub globals: Vec<Option<Value>>,
     /// The events that wait to be dispatched, first in, first out.
@@ -55,7 +48,7 @@ impl World {
             time: Moment(0),
             is_ending: false,
             heap: Heap::new(alloc),
-            defaults: Vec::new(alloc),
+            defaults: TableDefaults::new(alloc),
             globals,
             queue: VecDeque::new(alloc),
             schedule: Schedule::new(alloc),

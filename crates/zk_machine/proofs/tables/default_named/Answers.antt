@@ -2,7 +2,7 @@ use Rattle.std.proofs.Common.{◌==◌, sym, ap, ◌∙◌}
 use Rattle.std.specs.Option.{option_map}
 use Rattle.zk_typed.specs.State.{TableDefault}
 use Rattle.zk_machine.specs.State.{default_of}
-use Rattle.zk_machine.specs.declared.world.TableDefault as rust
+use Rattle.zk_machine.specs.declared.table_defaults.TableDefault as rust
 use Rattle.zk_machine.proofs.ListLemmas.{find-made}
 use Rattle.zk_machine.proofs.tables.default_named.Goals as goal
 

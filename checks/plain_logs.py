@@ -111,8 +111,10 @@ class Conn:
     """A connection: its packets, and what each side has sent."""
 
     def __init__(self, number, packet):
-        self.number, self.first, self.last, self.ends = number, packet.now, packet.now, packet.ends
+        self.number, self.first, self.last = number, packet.now, packet.now
         self.proto = "udp" if packet.flags is None else "tcp"
+        is_answer = (packet.flags or 0) & (SYN | ACK) == SYN | ACK
+        self.ends = packet.ends[::-1] if is_answer else packet.ends
         self.history, self.sides, self.datagrams = "", (Side(), Side()), []
 
     def letters(self, packet):

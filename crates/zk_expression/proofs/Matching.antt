@@ -4,13 +4,15 @@ use Rattle.std.proofs.lemmas.List.{drop_all}
 use Rattle.std.specs.declared.alloc.Global.{Global}
 use Rattle.std.specs.declared.vec.Vec.{Vec}
 use Rattle.zk_tree.specs.declared.expr.Item.{Item}
+use Rattle.zk_tree.specs.declared.expr.Part.{Part}
+use Rattle.zk_tree.specs.declared.place.Place.{Place}
 use Rattle.zk_operator.specs.declared.operands.Typed.{Typed as RustTyped}
 use Rattle.zk_operator.specs.Gathering.{IsNext}
 use Rattle.zk_operator.specs.Views.{typed_of, all_typed}
 use Rattle.zk_typed.specs.declared.refusal.Refusal.{Refusal}
 use Rattle.zk_typed.specs.declared.script.types.ValueType as declared
 use Rattle.zk_typed.specs.Checked.{Checked}
-use Rattle.zk_typed.specs.Making.{argument, matched}
+use Rattle.zk_typed.specs.Making.{argument, matched, part_typed, parts_typed}
 use Rattle.zk_typed.specs.Tells.{Tells}
 use Rattle.zk_typed.specs.Types.{ValueType}
 use Rattle.zk_typed.specs.Typing.{Typed, Env, Check, Wants}
@@ -22,8 +24,14 @@ use Rattle.zk_expression.proofs.Eaches.{with_first, with_rest, rest_turn, no_res
 abbrev pub GoesOn : Result (Vec RustTyped Global) Refusal → Checked (List Typed) → Checked (List Typed) → Type 0
 GoesOn all more whole = (now : Checked (List Typed)) × Tells all_typed all now × (with_rest now more ≡ whole)
 
-pub front_of : (items : List Item) (i : ℕ) (item : Item) → i < length items → item ≡ get_or items i item → drop i items ≡ item ∷ drop (i + 1) items
+pub front_of : {A : Type 0} (items : List A) (i : ℕ) (item : A) → i < length items → item ≡ get_or items i item → drop i items ≡ item ∷ drop (i + 1) items
 front_of items i item within is = rw add-one (drop-cons items i item within ∙ ap (λ x. x ∷ drop (suc i) items) (sym is))
+
+-- what stands before some parts, with one more of them
+pub parts_turn : (check : Check) (env : Env) (place : Place) (now : Checked Typed) (parts : List Part) (i : ℕ) (part : Part) (whole : Checked Typed) → i < length parts → part ≡ get_or parts i part →
+    parts_typed check env place now (drop i parts) ≡ whole → parts_typed check env place (part_typed check env place now part) (drop (i + 1) parts) ≡ whole
+parts_turn check env place now parts i part whole within is before =
+    sym (ap (parts_typed check env place now) (front_of parts i part within is)) ∙ before
 
 pub matched_turn : (check : Check) (env : Env) (others rest : List declared.ValueType) (param : declared.ValueType) (items : List Item) (i : ℕ) (item : Item)
     (all : Result (Vec RustTyped Global) Refusal) (part : Result RustTyped Refusal) (next : Result (Vec RustTyped Global) Refusal) (whole : Checked (List Typed)) →

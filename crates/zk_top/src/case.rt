@@ -80,10 +80,19 @@ fn differing(shelf: &SureShelf, status: u8, case: &Case) -> Option<Part> {
     None
 }
 
-/// Carries out a case, and tells what isn't as it has it, if anything.
-pub fn difference(alloc: Global, case: &Case) -> Result<Option<Part>, Mem> {
+/// Carries out a case over inputs, and tells what isn't as it has it, if anything.
+pub fn difference_over(
+    alloc: Global,
+    files: &[(&[u8], &[u8])],
+    case: &Case,
+) -> Result<Option<Part>, Mem> {
     let words = words(alloc, case.line)?;
-    let mut shelf = SureShelf::new(alloc, inputs(alloc, case.inputs)?)?;
+    let mut shelf = SureShelf::new(alloc, inputs(alloc, files)?)?;
     let ending = run(alloc, &words, &mut shelf);
     Ok(differing(&shelf, ending.status(), case))
+}
+
+/// Carries out a case, and tells what isn't as it has it, if anything.
+pub fn difference(alloc: Global, case: &Case) -> Result<Option<Part>, Mem> {
+    difference_over(alloc, case.inputs, case)
 }

@@ -1,4 +1,4 @@
-use crate::case::{Case, difference};
+use crate::case::{Case, difference, difference_over};
 use crate::list_tests::{EXCHANGE, GAP_IN_BODY, MERGED, QUERY};
 use std::test::Fail;
 use zk_gen::capture;
@@ -26,70 +26,157 @@ const HTTP: &[u8] =
 /// The last line of each.
 pub const CLOSE: &[u8] = b"#close\t2023-11-14-22-13-20\n";
 
-/// A capture, and the rows of the three logs; one without a row has no file.
-const ROWS: &[(&[u8], [&[u8]; 3])] = &[
-    (
-        QUERY,
-        [
-            b"1700000000.000000\tC1\t10.0.0.1\t40000\t10.0.0.53\t53\tudp\t0.020000\t33\t63\tSF\t0\tDd\t1\t61\t1\t91\n",
-            b"1700000000.000000\tC1\t10.0.0.1\t40000\t10.0.0.53\t53\tudp\t4660\twww.example.com\t1\t1\t0\tF\tF\tT\tT\t\
+/// Captures, and the three logs of each; one without a row has no file.
+const CASES: &[Case] = &[
+    Case {
+        line: b"run -r c.pcap",
+        inputs: &[(b"c.pcap", QUERY)],
+        status: 0,
+        said: b"",
+        complained: b"",
+        files: &[
+            (
+                b"conn.log",
+                &[
+                    CONN,
+                    b"1700000000.000000\tC1\t10.0.0.1\t40000\t10.0.0.53\t53\tudp\t0.020000\t33\t63\tSF\t0\tDd\t1\t61\t1\t91\n",
+                    CLOSE,
+                ],
+            ),
+            (
+                b"dns.log",
+                &[
+                    DNS,
+                    b"1700000000.000000\tC1\t10.0.0.1\t40000\t10.0.0.53\t53\tudp\t4660\twww.example.com\t1\t1\t0\tF\tF\tT\tT\t\
               example.com,93.184.216.34\t300.000000,300.000000\n",
-            b"",
+                    CLOSE,
+                ],
+            ),
+            (b"http.log", &[]),
         ],
-    ),
-    (
-        EXCHANGE,
-        [
-            b"1700000000.000000\tC1\t10.0.0.1\t40001\t10.0.0.80\t80\ttcp\t0.060000\t32\t40\tSF\t0\tShDdFfA\t4\t192\t3\t160\n",
-            b"",
-            b"1700000000.020000\tC1\t10.0.0.1\t40001\t10.0.0.80\t80\t1\tGET\ta.test\t/\t1.1\t-\t0\t2\t200\tOK\n",
+    },
+    Case {
+        line: b"run -r c.pcap",
+        inputs: &[(b"c.pcap", EXCHANGE)],
+        status: 0,
+        said: b"",
+        complained: b"",
+        files: &[
+            (
+                b"conn.log",
+                &[
+                    CONN,
+                    b"1700000000.000000\tC1\t10.0.0.1\t40001\t10.0.0.80\t80\ttcp\t0.060000\t32\t40\tSF\t0\tShDdFfA\t4\t192\t3\t160\n",
+                    CLOSE,
+                ],
+            ),
+            (b"dns.log", &[]),
+            (
+                b"http.log",
+                &[
+                    HTTP,
+                    b"1700000000.020000\tC1\t10.0.0.1\t40001\t10.0.0.80\t80\t1\tGET\ta.test\t/\t1.1\t-\t0\t2\t200\tOK\n",
+                    CLOSE,
+                ],
+            ),
         ],
-    ),
-    (
-        MERGED,
-        [
-            b"1700000000.000000\tC1\t10.0.0.1\t40000\t10.0.0.53\t53\tudp\t0.020000\t33\t63\tSF\t0\tDd\t1\t61\t1\t91\n\
+    },
+    Case {
+        line: b"run -r c.pcap",
+        inputs: &[(b"c.pcap", MERGED)],
+        status: 0,
+        said: b"",
+        complained: b"",
+        files: &[
+            (
+                b"conn.log",
+                &[
+                    CONN,
+                    b"1700000000.000000\tC1\t10.0.0.1\t40000\t10.0.0.53\t53\tudp\t0.020000\t33\t63\tSF\t0\tDd\t1\t61\t1\t91\n\
               1700000000.000000\tC2\t10.0.0.1\t40001\t10.0.0.80\t80\ttcp\t0.060000\t32\t40\tSF\t0\tShDdFfA\t4\t192\t3\t160\n",
-            b"1700000000.000000\tC1\t10.0.0.1\t40000\t10.0.0.53\t53\tudp\t4660\twww.example.com\t1\t1\t0\tF\tF\tT\tT\t\
+                    CLOSE,
+                ],
+            ),
+            (
+                b"dns.log",
+                &[
+                    DNS,
+                    b"1700000000.000000\tC1\t10.0.0.1\t40000\t10.0.0.53\t53\tudp\t4660\twww.example.com\t1\t1\t0\tF\tF\tT\tT\t\
               example.com,93.184.216.34\t300.000000,300.000000\n",
-            b"1700000000.020000\tC2\t10.0.0.1\t40001\t10.0.0.80\t80\t1\tGET\ta.test\t/\t1.1\t-\t0\t2\t200\tOK\n",
+                    CLOSE,
+                ],
+            ),
+            (
+                b"http.log",
+                &[
+                    HTTP,
+                    b"1700000000.020000\tC2\t10.0.0.1\t40001\t10.0.0.80\t80\t1\tGET\ta.test\t/\t1.1\t-\t0\t2\t200\tOK\n",
+                    CLOSE,
+                ],
+            ),
         ],
-    ),
+    },
     // The 6 bytes that were not captured are missed bytes.
-    (
-        GAP_IN_BODY,
-        [
-            b"1700000000.000000\tC1\t10.0.0.1\t40001\t10.0.0.80\t80\ttcp\t0.050000\t18\t49\tS3\t6\tShDdfA\t3\t138\t3\t163\n",
-            b"",
-            b"1700000000.020000\tC1\t10.0.0.1\t40001\t10.0.0.80\t80\t1\tGET\t-\t/\t1.1\t-\t0\t10\t200\tOK\n",
+    Case {
+        line: b"run -r c.pcap",
+        inputs: &[(b"c.pcap", GAP_IN_BODY)],
+        status: 0,
+        said: b"",
+        complained: b"",
+        files: &[
+            (
+                b"conn.log",
+                &[
+                    CONN,
+                    b"1700000000.000000\tC1\t10.0.0.1\t40001\t10.0.0.80\t80\ttcp\t0.050000\t18\t49\tS3\t6\tShDdfA\t3\t138\t3\t163\n",
+                    CLOSE,
+                ],
+            ),
+            (b"dns.log", &[]),
+            (
+                b"http.log",
+                &[
+                    HTTP,
+                    b"1700000000.020000\tC1\t10.0.0.1\t40001\t10.0.0.80\t80\t1\tGET\t-\t/\t1.1\t-\t0\t10\t200\tOK\n",
+                    CLOSE,
+                ],
+            ),
         ],
-    ),
+    },
 ];
 
-/// A log in parts, or none where it has no row.
-fn parts<'a>(log: &'a [&'a [u8]; 3]) -> &'a [&'a [u8]] {
-    if log[1].is_empty() { &[] } else { log }
-}
+/// An exchange of which each byte is a segment of its own, most of them twice and in falling order.
+const BYTE_BY_BYTE: Case = Case {
+    line: b"run -r c.pcap",
+    inputs: &[],
+    status: 0,
+    said: b"",
+    complained: b"",
+    files: &[
+        (
+            b"conn.log",
+            &[
+                CONN,
+                b"1700000000.000000\tC1\t10.1.0.0\t40001\t10.0.0.80\t80\ttcp\t0.060000\t32\t40\tSF\t0\tShDdFfA\t66\t2703\t81\t3319\n",
+                CLOSE,
+            ],
+        ),
+        (b"dns.log", &[]),
+        (
+            b"http.log",
+            &[
+                HTTP,
+                b"1700000000.020000\tC1\t10.1.0.0\t40001\t10.0.0.80\t80\t1\tGET\ta.test\t/\t1.1\t-\t0\t2\t200\tOK\n",
+                CLOSE,
+            ],
+        ),
+    ],
+};
 
 #[test]
 fn the_default_scripts_write_their_logs(rt: HostRuntime) -> Result<(), Fail> {
-    for (n, (capture, [conn, dns, http])) in ROWS.iter().enumerate() {
-        let conn = [CONN, conn, CLOSE];
-        let dns = [DNS, dns, CLOSE];
-        let http = [HTTP, http, CLOSE];
-        let case = Case {
-            line: b"run -r c.pcap",
-            inputs: &[(b"c.pcap", capture)],
-            status: 0,
-            said: b"",
-            complained: b"",
-            files: &[
-                (b"conn.log", parts(&conn)),
-                (b"dns.log", parts(&dns)),
-                (b"http.log", parts(&http)),
-            ],
-        };
-        assert_eq!(rt; difference(rt.alloc(), &case)?, None, "in row {n}");
+    for (n, case) in CASES.iter().enumerate() {
+        assert_eq!(rt; difference(rt.alloc(), case)?, None, "in row {n}");
     }
     Ok(())
 }
@@ -97,24 +184,8 @@ fn the_default_scripts_write_their_logs(rt: HostRuntime) -> Result<(), Fail> {
 #[test]
 fn an_exchange_cut_byte_by_byte_is_logged_alike(rt: HostRuntime) -> Result<(), Fail> {
     let alloc = rt.alloc();
-    // Each byte is a segment of its own, most of them twice and in falling order.
     let bytes = capture(alloc, 2, 1)?;
-    let conn =
-        b"1700000000.000000\tC1\t10.1.0.0\t40001\t10.0.0.80\t80\ttcp\t0.060000\t32\t40\tSF\t0\tShDdFfA\t66\t2703\t81\t3319\n";
-    let http =
-        b"1700000000.020000\tC1\t10.1.0.0\t40001\t10.0.0.80\t80\t1\tGET\ta.test\t/\t1.1\t-\t0\t2\t200\tOK\n";
-    let case = Case {
-        line: b"run -r c.pcap",
-        inputs: &[(b"c.pcap", bytes.as_slice())],
-        status: 0,
-        said: b"",
-        complained: b"",
-        files: &[
-            (b"conn.log", &[CONN, conn, CLOSE]),
-            (b"dns.log", &[]),
-            (b"http.log", &[HTTP, http, CLOSE]),
-        ],
-    };
-    assert_eq!(rt; difference(alloc, &case)?, None);
+    let part = difference_over(alloc, &[(b"c.pcap", bytes.as_slice())], &BYTE_BY_BYTE)?;
+    assert_eq!(rt; part, None);
     Ok(())
 }

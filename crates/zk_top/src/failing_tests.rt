@@ -10,7 +10,6 @@ use zk_base::{Mem, MemShelf, SureShelf, Word};
 #[derive(Clone, Copy)]
 struct Failing<'a> {
     line: &'a [u8],
-    inputs: &'a [(&'a [u8], &'a [u8])],
     /// The files that it writes.
     files: &'a [&'a [u8]],
     /// The status where the first call fails, where the second one fails, and so on, and at last where none does.
@@ -42,6 +41,7 @@ fn is_whole(shelf: &MemShelf, whole: &SureShelf, files: &[&[u8]]) -> bool {
 /// Whether a run whose call of this number fails ends with its status, and what it did by then is right.
 fn stops_so(
     alloc: Global,
+    files: &[(&[u8], &[u8])],
     row: &Failing,
     words: &[Word],
     whole: &SureShelf,
@@ -49,7 +49,7 @@ fn stops_so(
     status: u8,
 ) -> Result<bool, Mem> {
     let fails = vec![in alloc; call]?;
-    let mut shelf = MemShelf::new(alloc, inputs(alloc, row.inputs)?, fails)?;
+    let mut shelf = MemShelf::new(alloc, inputs(alloc, files)?, fails)?;
     let ending = run(alloc, words, &mut shelf);
     Ok(
         ending.status() == status
@@ -60,13 +60,17 @@ fn stops_so(
 }
 
 /// The number of the first call whose failing doesn't stop a run as its row says, if any.
-fn first_otherwise(alloc: Global, row: &Failing) -> Result<Option<u64>, Mem> {
+fn first_otherwise(
+    alloc: Global,
+    files: &[(&[u8], &[u8])],
+    row: &Failing,
+) -> Result<Option<u64>, Mem> {
     let words = words(alloc, row.line)?;
-    let mut whole = SureShelf::new(alloc, inputs(alloc, row.inputs)?)?;
+    let mut whole = SureShelf::new(alloc, inputs(alloc, files)?)?;
     let _ = run(alloc, &words, &mut whole);
     for (n, status) in row.statuses.iter().enumerate() {
         let call = n as u64 + 1;
-        if !stops_so(alloc, row, &words, &whole, call, *status)? {
+        if !stops_so(alloc, files, row, &words, &whole, call, *status)? {
             return Ok(Some(call));
         }
     }
@@ -88,61 +92,86 @@ const LOG: &[u8] = b"redef enum Log::ID += { L }; type R: record { n: count &log
       event zeek_init() { Log::create_stream(L, [$columns=R, $path=\"p\"]); } \
       event new_connection(c: connection) { Log::write(L, [$n=1]); }";
 
+/// Runs over a capture that is read in pieces.
+const LONG: &[Failing] = &[
+    // A start, and then a piece at a time is read, and said.
+    Failing {
+        line: b"list c.pcap",
+        files: &[],
+        statuses: &[5, 5, 6, 5, 6, 5, 6, 0],
+    },
+    // A script is started and read twice before.
+    Failing {
+        line: b"run -b -r c.pcap s.zeek",
+        files: &[],
+        statuses: &[5, 5, 5, 5, 5, 6, 6, 5, 6, 5, 6, 0],
+    },
+];
+
+/// Runs over small inputs.
+const SHORT: &[(&[(&[u8], &[u8])], Failing)] = &[
+    // A piece is said, and then the complaint.
+    (
+        &[(b"c.pcap", &CUT)],
+        Failing {
+            line: b"list c.pcap",
+            files: &[],
+            statuses: &[5, 5, 5, 6, 6, 4],
+        },
+    ),
+    // Nothing is said or complained.
+    (
+        &[(b"c.pcap", &HEADER)],
+        Failing {
+            line: b"list c.pcap",
+            files: &[],
+            statuses: &[5, 5, 5, 0],
+        },
+    ),
+    // A log is created, the capture is read to its end, and the log is written in two pieces.
+    (
+        &[(b"c.pcap", &DATAGRAM), (b"s.zeek", LOG)],
+        Failing {
+            line: b"run -b -r c.pcap s.zeek",
+            files: &[b"p.log"],
+            statuses: &[5, 5, 5, 5, 5, 6, 5, 6, 6, 0],
+        },
+    ),
+    // The last call writes the closing line of a log.
+    (
+        &[(b"c.pcap", QUERY)],
+        Failing {
+            line: b"run -r c.pcap",
+            files: &[b"conn.log", b"dns.log"],
+            statuses: &[5, 5, 6, 5, 6, 6, 6, 6, 6, 0],
+        },
+    ),
+];
+
 #[test]
 fn a_run_over_a_failing_shelf_stops_with_the_fault_of_the_failed_call(
     rt: HostRuntime,
 ) -> Result<(), Fail> {
+    for (n, (inputs, row)) in SHORT.iter().enumerate() {
+        assert_eq!(rt;
+            first_otherwise(rt.alloc(), inputs, row)?,
+            None,
+            "in row {n}"
+        );
+    }
+    Ok(())
+}
+
+#[test]
+fn a_failed_piece_of_a_long_run_stops_it(rt: HostRuntime) -> Result<(), Fail> {
     let alloc = rt.alloc();
     let mut many = Vec::from_slice(alloc, &HEADER)?;
     for _ in 0..5000 {
         many.extend_from_slice(&[0; 16])?;
     }
-    let rows = [
-        // A start, and then a piece at a time is read, and said.
-        Failing {
-            line: b"list c.pcap",
-            inputs: &[(b"c.pcap", &many)],
-            files: &[],
-            statuses: &[5, 5, 6, 5, 6, 5, 6, 0],
-        },
-        // A script is started and read twice before.
-        Failing {
-            line: b"run -b -r c.pcap s.zeek",
-            inputs: &[(b"c.pcap", &many), (b"s.zeek", WIDE)],
-            files: &[],
-            statuses: &[5, 5, 5, 5, 5, 6, 6, 5, 6, 5, 6, 0],
-        },
-        // A piece is said, and then the complaint.
-        Failing {
-            line: b"list c.pcap",
-            inputs: &[(b"c.pcap", &CUT)],
-            files: &[],
-            statuses: &[5, 5, 5, 6, 6, 4],
-        },
-        // Nothing is said or complained.
-        Failing {
-            line: b"list c.pcap",
-            inputs: &[(b"c.pcap", &HEADER)],
-            files: &[],
-            statuses: &[5, 5, 5, 0],
-        },
-        // A log is created, the capture is read to its end, and the log is written in two pieces.
-        Failing {
-            line: b"run -b -r c.pcap s.zeek",
-            inputs: &[(b"c.pcap", &DATAGRAM), (b"s.zeek", LOG)],
-            files: &[b"p.log"],
-            statuses: &[5, 5, 5, 5, 5, 6, 5, 6, 6, 0],
-        },
-        // The last call writes the closing line of a log.
-        Failing {
-            line: b"run -r c.pcap",
-            inputs: &[(b"c.pcap", QUERY)],
-            files: &[b"conn.log", b"dns.log"],
-            statuses: &[5, 5, 6, 5, 6, 6, 6, 6, 6, 0],
-        },
-    ];
-    for (n, row) in rows.iter().enumerate() {
-        assert_eq!(rt; first_otherwise(alloc, row)?, None, "in row {n}");
+    for (n, row) in LONG.iter().enumerate() {
+        let first = first_otherwise(alloc, &[(b"c.pcap", &many), (b"s.zeek", WIDE)], row)?;
+        assert_eq!(rt; first, None, "in row {n}");
     }
     Ok(())
 }

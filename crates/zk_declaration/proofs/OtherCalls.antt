@@ -1,5 +1,5 @@
 -- A call of a name that means no function of the log framework is no call of it.
-use Rattle.std.proofs.Common.{◌≡◌, ℕ, ◌+◌, ◌==◌, length, zero, suc, Bool, true, false, List, [], ◌∷◌, Option, Some, None, Ok, Err, refl, ap, sym, ◌∙◌}
+use Rattle.std.proofs.Common.{◌≡◌, ℕ, ◌+◌, ◌==◌, length, zero, suc, Bool, true, false, List, [], ◌∷◌, Option, Some, None, is_some, Ok, Err, refl, ap, sym, ◌∙◌}
 use Rattle.zk_tree.specs.declared.expr.Expr.{Expr, out-Expr}
 use Rattle.zk_tree.specs.declared.expr.Expr.TheOpen.{Part-F}
 use Rattle.zk_tree.specs.declared.expr.Expr.TheOpen as written
@@ -23,9 +23,10 @@ use Rattle.zk_typed.specs.Forms as form
 use Rattle.zk_typed.specs.Declarations.{env_at}
 use Rattle.zk_typed.specs.Errors.{log_call}
 use Rattle.zk_typed.specs.Expressions.{expr_to, expr_typed}
+use Rattle.zk_typed.specs.LoadOrder.{Home}
 use Rattle.zk_typed.specs.LogCalls.{Call}
 use Rattle.zk_typed.specs.Making.{Called, Gives, Performs, argument, arguments, built_in_call, built_in_typed, by_row, call_of, call_typed, called_name, copy_typed, element, field_of, fmt_typed, format_text, function_typed, given_field, given_once, givens, gives, keys_fit, made_of, part_typed, parts_typed, printed, record_typed, value_of, verbs_take, with_result, wrong_name, all_given}
-use Rattle.zk_typed.specs.Names.{Declared, Meant, KnownType, WrittenType, Word, Variable, Event, Hook, Function, BuiltInFunction, Log, look_up}
+use Rattle.zk_typed.specs.Names.{Declared, Meant, KnownType, WrittenType, Word, Variable, Event, Hook, Function, BuiltInFunction, Log, look_up, module_in}
 use Rattle.zk_typed.specs.Operations.{built_in_type}
 use Rattle.zk_typed.specs.Predefined as type
 use Rattle.zk_typed.specs.Predefined.{record_no}
@@ -186,6 +187,11 @@ call_within : (depth : ℕ) (env : Env) (whole first : Expr) (parts : List Part)
 call_within zero env whole first parts call e f plain = refl
 call_within (suc depth) env whole first parts call e f plain = call_to depth env whole first parts call e f plain
 
+-- no local hides a name where there is none
+found_by : (scripts : Scripts) (home : Home) (name : Name) (marked : Bool) → is_some (module_in name.text) ≡ marked → found (env_at scripts home) name ≡ look_up scripts.names home.module_name name.text
+found_by scripts home name true e = rw e refl
+found_by scripts home name false e = rw e refl
+
 -- a call of a name that means something else
 pub other_call : (scripts : Scripts) (call : Call) (first : Expr) (parts : List Part) (named : Name × List Item × List Part) (meaning : Option Declared) →
     out-Expr call.whole ≡ written.Post first parts → called_name first parts ≡ Some named → look_up scripts.names call.home.module_name named.0.text ≡ meaning → means_log meaning ≡ false →
@@ -193,7 +199,7 @@ pub other_call : (scripts : Scripts) (call : Call) (first : Expr) (parts : List 
 other_call scripts call first parts named meaning e f g differs =
     let env = env_at scripts call.home in
     sym (typed_call scripts call (expr_typed env Nothing call.whole) refl) ∙
-    call_within depth_max env call.whole first parts named e f (λ check. meaning_plain check env named.0 named.1 (found env named.0) (ap means_log g ∙ differs))
+    call_within depth_max env call.whole first parts named e f (λ check. meaning_plain check env named.0 named.1 (found env named.0) (ap means_log (found_by scripts call.home named.0 (is_some (module_in named.0.text)) refl ∙ g) ∙ differs))
 
 pub post_out : (whole first : Expr) (parts : List Part) → whole ≡ expr.Post first parts → out-Expr whole ≡ written.Post first parts
 post_out whole first parts e = ap out-Expr e ∙ opened first parts

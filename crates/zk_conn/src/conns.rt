@@ -20,7 +20,7 @@ use crate::view::L4View;
 use slab::Slab;
 use std::alloc::Global;
 use std::collections::BTreeMap;
-use zk_base::{ConnNo, Mem, Moment, Side};
+use zk_base::{ConnNo, Mem, Moment, Proto, Side};
 
 /// What a packet did.
 #[derive(Clone, Copy, Debug, PartialEq, Eq)]
@@ -152,7 +152,7 @@ pub struct Conns {
 
 impl Conns {
     ghost use Rattle.zk_conn.specs.Holds.{touched_between, facts_in};
-    ghost use Rattle.zk_conn.specs.Instance.{Opening, opening, originator, end_of, is_reset, facts_of};
+    ghost use Rattle.zk_conn.specs.Instance.{Opening, opening, originator, responder, end_of, is_reset, facts_of};
     ghost use Rattle.zk_conn.specs.Removals.{removal_at};
     ghost use Rattle.zk_conn.specs.State.{is_open};
     ghost use Rattle.zk_conn.specs.Table.{first_by, has_key, has_number, is_stale, slot_of, slot_numbered, IsLeast, IsTable, Files, Hastens, Tells, Inserts, SameTable, Removes};
@@ -275,6 +275,19 @@ impl Conns {
             unreachable!()
         };
         self.slots[slot].facts()
+    }
+
+    /// The service that a live instance is of: its protocol and its responder's port.
+    pub fn service(&self, conn: ConnNo) -> (Proto, u16)
+        requires { HasLive self.now conn }
+        ensures { (told : List Told) (key : Key) (first : Opening) → StandsFor self.now told → IsLive told key conn.0 → opening (latest key told) ≡ Some first
+            → result ≡ (first.packet.proto, (responder first.packet).port) }
+    {
+        let Some(slot) = self.slot_numbered(conn) else {
+            unreachable!()
+        };
+        let instance = &self.slots[slot];
+        (instance.key.proto, instance.responder.port)
     }
 
     /// Whether the end of a side of a live instance is open.

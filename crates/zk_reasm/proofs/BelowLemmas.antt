@@ -6,14 +6,14 @@ use Rattle.std.specs.Option.{option_or}
 use Rattle.std.proofs.lemmas.Bool.{cases_lt, cases_Bool, true≢false, lt-leb}
 use Rattle.zk_reasm.specs.Between.{places_between}
 use Rattle.zk_reasm.specs.Direction.{byte_at, byte_from, byte_put, front, front_then, moves, reach, run_end, steps, up_to_fin}
-use Rattle.zk_reasm.specs.Histories.{byte_of_stream, ended_of, front_of, is_over, is_reached, is_stop, over_of}
+use Rattle.zk_reasm.specs.Histories.{byte_of_stream, counted, ended_of, front_of, is_over, is_reached, is_stop, over_of}
 use Rattle.zk_reasm.specs.Place.{byte_of}
-use Rattle.zk_reasm.specs.Told.{Told, Segment, Fin, Ack, Stop, fin_named, fin_place, payload_end}
+use Rattle.zk_reasm.specs.Told.{Told, Segment, Fin, Ack, Stop, fin_place, payload_end}
 use Rattle.zk_reasm.proofs.AdvanceLemmas.{Passes, passes}
 use Rattle.zk_reasm.proofs.HistoryLemmas.{counted_live, counted_more, counted_over}
 use Rattle.zk_reasm.proofs.LawLemmas.{front_never_falls, longer}
 use Rattle.zk_reasm.proofs.PieceLemmas.{option_or_none, option_or_held}
-use Rattle.zk_reasm.proofs.ToldLemmas.{step_of, byte_at-append, fin_place-append, front-append, reach-append}
+use Rattle.zk_reasm.proofs.ToldLemmas.{step_of, byte_at-append, front-append, reach-append}
 
 -- a place is below the reach, or it has its byte
 abbrev IsSettled : ℕ → List Told → ℕ → Type 0
@@ -109,35 +109,19 @@ over_where_reached base limit told there = any (list_any is_stop told) (is_reach
 
 -- a stream that has ended is over
 pub ended_over : (base limit : ℕ) (told : List Told) → ended_of base limit told ≡ true → over_of base limit told ≡ true
-ended_over base limit told ended =
-    ⊎_elim
-    (λ over. over)
-    (λ live.
-    let all = counted_live base limit told live in
-    ap (is_over base limit) all ∙ over_where_reached base limit told (ap (λ xs. is_reached (fin_place base told) (front base xs)) (sym all) ∙ ended))
-    (cases_Bool (over_of base limit told))
-
-reached_some : (o : Option ℕ) (at : ℕ) → is_reached o at ≡ true → is_some o ≡ true
-reached_some None at is = is
-reached_some (Some fin) at is = refl
+ended_over base limit told ended = over_where_reached base limit (counted base limit told) ended
 
 pub record StaysEnded (base limit : ℕ) (told later : List Told) : Type 0 where
   pub over : over_of base limit later ≡ true
-  pub front : front_of base limit later ≡ front_of base limit told
-  pub fin : fin_place base later ≡ fin_place base told
+  pub same : counted base limit later ≡ counted base limit told
 
 pub stays_ended : (base limit : ℕ) (told more : List Told) → ended_of base limit told ≡ true
     → (front_of base limit (told ++ more) ≡ front_of base limit told) × (ended_of base limit (told ++ more) ≡ true)
 stays_ended base limit told more ended =
-    let all = longer (StaysEnded base limit told) next told more (record { over = ended_over base limit told ended; front = refl; fin = refl }) in
-    (all.front, ap (λ o. is_reached o (front_of base limit (told ++ more))) all.fin ∙ ap (is_reached (fin_place base told)) all.front ∙ ended)
+    let all = longer (StaysEnded base limit told) next told more (record { over = ended_over base limit told ended; same = refl }) in
+    (ap (front base) all.same, ap (λ xs. is_reached (fin_place base xs) (front base xs)) all.same ∙ ended)
   where
     next : (xs : List Told) (entry : Told) → StaysEnded base limit told xs → StaysEnded base limit told (xs ++ entry ∷ [])
     next xs entry stays =
         let same = counted_over base limit xs entry stays.over in
-        record {
-          over = ap (is_over base limit) same ∙ stays.over;
-          front = ap (front base) same ∙ stays.front;
-          fin = fin_place-append base xs entry ∙ ap (λ o. option_or o (fin_named base entry)) stays.fin
-              ∙ option_or_held (fin_place base told) (fin_named base entry) (reached_some (fin_place base told) (front_of base limit told) ended);
-        }
+        record { over = ap (is_over base limit) same ∙ stays.over; same = same ∙ stays.same }

@@ -203,6 +203,11 @@ stopped_not_acked : ack_of 0 wide (holed ++ Stop ∷ []) 7 ≡ false
 unfolding put_of content kept_of gets_place counted is_over above held_between front run_end byte_at reach steps acked fin_place payload_end places_of byte_of
 stopped_not_acked = refl
 
+-- a FIN that comes then isn't one
+stopped_not_ended : ended_of 0 wide (Segment 1 (codes "AB") ∷ Stop ∷ Fin 3 ∷ []) ≡ false
+unfolding put_of content kept_of gets_place counted is_over above held_between front run_end byte_at reach steps acked fin_place payload_end places_of byte_of
+stopped_not_ended = refl
+
 stopped_keeps : kept_of 0 wide (holed ++ Stop ∷ []) 0 ≡ 2
 unfolding put_of content kept_of gets_place counted is_over above held_between front run_end byte_at reach steps acked fin_place payload_end places_of byte_of
 stopped_keeps = refl

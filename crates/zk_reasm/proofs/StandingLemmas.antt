@@ -83,7 +83,7 @@ pub stands_judged : (mid new : Stream) (base limit : ℕ) (told : List Told) (ta
 stands_judged mid new base limit told taken over reached is finishes new_over = record {
   base_is = finishes.base ∙ reached.base_is;
   limit_is = finishes.limit ∙ reached.limit_is;
-  fin_is = finishes.fin ∙ reached.fin_is;
+  fin_is = finishes.fin ∙ reached.fin_is ∙ ap (fin_place base) (sym reached.counts);
   over_is = new_over ∙ sym is;
   front_is = finishes.front ∙ reached.front_is ∙ front_same;
   acked_is = λ live. finishes.acked ∙ reached.acked_is;
@@ -140,7 +140,7 @@ pub reached_moved : (old mid : Stream) (base limit : ℕ) (told : List Told) (en
 reached_moved old mid base limit told entry was taken bytes known most stands on moved = record {
   base_is = moved.base_is ∙ stands.base_is;
   limit_is = moved.limit_is ∙ stands.limit_is;
-  fin_is = moved.fin_is ∙ stands.fin_is ∙ sym fin_same;
+  fin_is = sym mid_fin;
   live = moved.live;
   counts = counted_more base limit told entry over_false;
   front_is = now;
@@ -152,7 +152,7 @@ reached_moved old mid base limit told entry was taken bytes known most stands on
   end = moved.«end»;
   behind = moved.behind;
   order = λ short. moved_order bytes base (told ++ entry ∷ []) old.held.front (reach base told) known mid.fin moving
-      (ap (λ o. is_reached o (front base (told ++ entry ∷ []))) (moved.fin_is ∙ stands.fin_is ∙ sym fin_same) ∙ short);
+      (ap (λ o. is_reached o (front base (told ++ entry ∷ []))) (sym mid_fin) ∙ short);
   covered = moved_covered bytes base (told ++ entry ∷ []) old.held.front (reach base told) known mid.fin moving;
 }
   where
@@ -174,8 +174,11 @@ reached_moved old mid base limit told entry was taken bytes known most stands on
     fin_same : fin_place base (told ++ entry ∷ []) ≡ fin_place base told
     fin_same = fin_place-append base told entry ∙ ap (option_or (fin_place base told)) moved.no_fin ∙ option_or_none (fin_place base told)
 
+    old_fin : old.fin ≡ fin_place base told
+    old_fin = stands.fin_is ∙ ap (fin_place base) counts
+
     mid_fin : fin_place base (told ++ entry ∷ []) ≡ mid.fin
-    mid_fin = fin_same ∙ sym stands.fin_is ∙ sym moved.fin_is
+    mid_fin = fin_same ∙ sym old_fin ∙ sym moved.fin_is
 
     known_same : reach_then base (step_of told entry) ≡ known
     known_same =
@@ -201,20 +204,20 @@ reached_moved old mid base limit told entry was taken bytes known most stands on
           ap is_some (byte_at-append base told entry at ∙ option_or_held (byte_at base told at) (byte_put base (step_of told entry) at) held) ∙ held;
       behind = moved.behind;
       same = λ at low. moved.bytes_are at (omega (arith, low, was_low));
-      short = ap (λ o. is_reached o old.held.front) (moved.fin_is ∙ stands.fin_is) ∙ ap (is_reached (fin_place base told)) old_front ∙ parts.short;
+      short = ap (λ o. is_reached o old.held.front) (moved.fin_is ∙ old_fin) ∙ ap (is_reached (fin_place base told)) old_front ∙ parts.short;
     }
 
     now : mid.held.front ≡ front base (told ++ entry ∷ [])
     now = moved_front bytes base (told ++ entry ∷ []) old.held.front (reach base told) known most mid.held.front mid.fin moving moved.most_is moved.front_moves
 
--- a stream that is over is told one more entry, of which at most a FIN's number is kept
+-- a stream that is over is told one more entry, of which nothing is kept
 pub stands_over : (old new : Stream) (base limit : ℕ) (told : List Told) (entry : Told) (taken : ℕ) → StandsFor old base limit told taken → old.is_over ≡ true
-    → new.base ≡ old.base → new.limit ≡ old.limit → new.is_over ≡ true → new.held ≡ old.held → new.fin ≡ option_or old.fin (fin_named base entry)
+    → new.base ≡ old.base → new.limit ≡ old.limit → new.is_over ≡ true → new.held ≡ old.held → new.fin ≡ old.fin
     → StandsFor new base limit (told ++ entry ∷ []) taken
 stands_over old new base limit told entry taken stands over base_is limit_is over_is held fin = record {
   base_is = base_is ∙ stands.base_is;
   limit_is = limit_is ∙ stands.limit_is;
-  fin_is = fin ∙ ap (λ o. option_or o (fin_named base entry)) stands.fin_is ∙ sym (fin_place-append base told entry);
+  fin_is = fin ∙ stands.fin_is ∙ ap (fin_place base) (sym same);
   over_is = over_is ∙ sym now;
   front_is = ap (λ (h : Held). h.front) held ∙ stands.front_is ∙ ap (front base) (sym same);
   acked_is = λ live. absurd (true≢false (sym over_is ∙ live));
@@ -273,7 +276,7 @@ pub reached_still : (old mid : Stream) (base limit : ℕ) (told : List Told) (en
 reached_still old mid base limit told entry taken stands on still base_is limit_is over_is acked_is payload_is held fin = record {
   base_is = base_is ∙ stands.base_is;
   limit_is = limit_is ∙ stands.limit_is;
-  fin_is = fin ∙ ap (λ o. option_or o (fin_named base entry)) stands.fin_is ∙ sym (fin_place-append base told entry);
+  fin_is = fin ∙ ap (λ o. option_or o (fin_named base entry)) (stands.fin_is ∙ ap (fin_place base) counts) ∙ sym (fin_place-append base told entry);
   live = over_is ∙ on;
   counts = counted_more base limit told entry over_false;
   front_is = ap (λ (h : Held). h.front) held ∙ stands.front_is ∙ ap (front base) counts ∙ sym front_same;

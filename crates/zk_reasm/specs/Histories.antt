@@ -36,9 +36,9 @@ over_of base limit told = is_over base limit (counted base limit told)
 abbrev pub front_of : ℕ → ℕ → List Told → ℕ
 front_of base limit told = front base (counted base limit told)
 
--- its front is at or past the FIN's place; a FIN is named also where it is over
+-- its front is at or past the FIN's place; a FIN that comes where it is over isn't one
 abbrev pub ended_of : ℕ → ℕ → List Told → Bool
-ended_of base limit told = is_reached (fin_place base told) (front_of base limit told)
+ended_of base limit told = is_reached (fin_place base (counted base limit told)) (front_of base limit told)
 
 -- the byte at a place
 abbrev pub byte_of_stream : ℕ → ℕ → List Told → ℕ → Option ℕ

@@ -25,7 +25,7 @@ pub record FitsTogether (base limit : ℕ) (told : List Told) : Type 0 where
 pub record StandsFor (stream : Stream) (base limit : ℕ) (told : List Told) (taken : ℕ) : Type 0 where
   pub base_is : stream.base ≡ base
   pub limit_is : stream.limit ≡ limit
-  pub fin_is : stream.fin ≡ fin_place base told
+  pub fin_is : stream.fin ≡ fin_place base (counted base limit told)
   pub over_is : stream.is_over ≡ over_of base limit told
   pub front_is : stream.held.front ≡ front_of base limit told
   pub acked_is : stream.is_over ≡ false → stream.acked ≡ acked base told

@@ -33,8 +33,8 @@ pub enum Put {
 /// to which each place has its byte or is a gap: a place without a byte that the peer acknowledged
 /// and that is known to have been sent. It never falls, and stops at the FIN. A stream is over once
 /// its front has reached the FIN's place, once more bytes than its limit lie above the front, or
-/// once it is stopped. From then on it takes no more bytes and skips nothing more, and what lies
-/// above its front is dropped.
+/// once it is stopped. From then on it takes no more bytes, skips nothing more and has no FIN, and
+/// what lies above its front is dropped.
 #[derive(Debug, Drop)]
 pub struct Stream {
     base: u32,
@@ -180,16 +180,17 @@ impl Stream {
         Some(rest.bytes)
     }
 
-    /// Names the sequence number of the FIN. The first one counts. The front doesn't move before the
-    /// next segment or acknowledgement.
+    /// Names the sequence number of the FIN. The first one counts, unless the stream is over. The front
+    /// doesn't move before the next segment or acknowledgement.
     pub fn fin(&mut self, seq: u32)
         ensures { (base limit taken : ℕ) (told : List Told) → StandsFor self.old base limit told taken
             → StandsFor self.new base limit (told ++ Fin seq ∷ []) taken }
     {
-        self.fin = self.fin.or(Some(distance(self.base, seq)));
-        if !self.is_over {
-            self.judge();
+        if self.is_over {
+            return;
         }
+        self.fin = self.fin.or(Some(distance(self.base, seq)));
+        self.judge();
     }
 
     /// Takes an acknowledgement number of the peer. Whether the front grew. No memory is taken.

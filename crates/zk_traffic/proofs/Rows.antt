@@ -132,14 +132,13 @@ gap-items : shown gap (at 40)
 unfolding gap segment_items own_items latest begun instances with_segment front run_end byte_at reach told_steps acked fin_place payload_end places_of byte_of put_of content kept_of gets_place counted is_over above held_between freed_with datagram_units units_freed next_unit protocol_at
 gap-items = refl
 
--- the client resets, and the server's FIN comes behind that, at the place where its stopped stream stands: its side ends
+-- the client resets, and the server's FIN comes behind that, at the place where its stopped stream stands: nothing is said of it
 fin_behind_reset : List Segment
 fin_behind_reset = client 0 2 100 0 [] ∷ server 10 18 500 101 [] ∷ client 20 4 101 0 [] ∷ server 30 17 501 101 [] ∷ []
 
 fin_behind_reset-items : shown fin_behind_reset (at 30)
     ≡ record { moment = at 0; word = codes "Opened"; numbers = 1 ∷ [] } ∷ record { moment = at 10; word = codes "Established"; numbers = 1 ∷ [] }
-    ∷ record { moment = at 20; word = codes "Reset"; numbers = 1 ∷ [] } ∷ record { moment = at 30; word = codes "Ended"; numbers = 1 ∷ 1 ∷ [] }
-    ∷ record { moment = at 30; word = codes "Removed"; numbers = 1 ∷ [] } ∷ []
+    ∷ record { moment = at 20; word = codes "Reset"; numbers = 1 ∷ [] } ∷ record { moment = at 30; word = codes "Removed"; numbers = 1 ∷ [] } ∷ []
 unfolding fin_behind_reset segment_items own_items latest begun instances with_segment front run_end byte_at reach told_steps acked fin_place payload_end places_of byte_of put_of content kept_of gets_place counted is_over above held_between freed_with datagram_units units_freed next_unit protocol_at
 fin_behind_reset-items = refl
 

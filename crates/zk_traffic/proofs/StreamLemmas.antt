@@ -152,7 +152,7 @@ unfolding front counted steps
 front-new base limit = refl
 
 pub ended-new : (base limit : ℕ) → ended_of base limit [] ≡ false
-unfolding fin_place
+unfolding counted fin_place
 ended-new base limit = refl
 
 stream-new : (base limit : ℕ) → stream_of limit (Some (record { base = base; told = [] })) ≡ record { places = []; ended = false }

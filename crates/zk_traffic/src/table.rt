@@ -180,8 +180,8 @@ impl Table {
         if !self.conns.is_live(conn) {
             return None;
         }
-        let facts = self.conns.facts(conn);
-        protocol_at(facts.proto, facts.resp_p)
+        let (proto, port) = self.conns.service(conn);
+        protocol_at(proto, port)
     }
 
     /// Adds the message or the fault that a datagram of DNS is, unless it was cut.

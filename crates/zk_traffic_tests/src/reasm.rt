@@ -102,5 +102,7 @@ fn a_direction_ends_at_its_fin_and_stops_at_once(rt: HostRuntime) -> Result<(), 
     let mut stream = Stream::new(rt.alloc(), 0, WIDE);
     stream.stop();
     assert_eq!(rt; stream.put(1, b"AB")?, Put::Old);
+    stream.fin(1);
+    assert!(rt; !stream.ended());
     Ok(())
 }

@@ -1,8 +1,7 @@
-use Rattle.std.proofs.Common.{refl, sym, arith}
+use Rattle.std.proofs.Common.{refl, arith}
 use Rattle.zk_reasm.specs.Held.{byte_kept, taken_of}
 use Rattle.zk_reasm.specs.Told.{Ack}
 use Rattle.zk_reasm.proofs.AckLemmas.{ack_moved, ack_answer, ack_over}
-use Rattle.zk_reasm.proofs.PieceLemmas.{option_or_none}
 use Rattle.zk_reasm.proofs.StandingLemmas.{stands_over, stands_moved}
 use Rattle.zk_reasm.proofs.stream.Stream.ack.Goals as goal
 
@@ -11,8 +10,7 @@ returns-then-self-clause-answer c = λ base limit taken told stands. ack_over c.
 
 pub returns-then-self-clause-told : goal.returns-then-self-clause-told
 returns-then-self-clause-told c = λ base limit taken told stands.
-    stands_over c.args.self.now c.args.self.now base limit told (Ack c.args.ack) taken stands c.if-self.true refl refl c.if-self.true refl
-    (sym (option_or_none c.args.self.now.fin))
+    stands_over c.args.self.now c.args.self.now base limit told (Ack c.args.ack) taken stands c.if-self.true refl refl c.if-self.true refl refl
 
 pub advance-requires-clause-taken : goal.advance-requires-clause-taken
 unfolding taken_of

@@ -2,7 +2,6 @@ use Rattle.std.proofs.Common.{max, refl, sym, subst, ◌∙◌, arith}
 use Rattle.zk_reasm.specs.Held.{byte_kept, taken_of}
 use Rattle.zk_reasm.specs.Parts.{IsFirstFree}
 use Rattle.zk_reasm.specs.Told.{Segment}
-use Rattle.zk_reasm.proofs.PieceLemmas.{option_or_none}
 use Rattle.zk_reasm.proofs.PutLemmas.{put_moved, answer_is, old_where_over}
 use Rattle.zk_reasm.proofs.StandingLemmas.{stands_over, stands_moved}
 use Rattle.zk_reasm.proofs.stream.Stream.put.Goals as goal
@@ -12,8 +11,7 @@ returns-then-self-clause-answer c = λ base limit taken told stands. old_where_o
 
 pub returns-then-self-clause-told : goal.returns-then-self-clause-told
 returns-then-self-clause-told c = λ base limit taken told stands.
-    stands_over c.args.self.now c.args.self.now base limit told (Segment c.args.seq c.args.bytes.now) taken stands c.if-self.true refl refl c.if-self.true refl
-    (sym (option_or_none c.args.self.now.fin))
+    stands_over c.args.self.now c.args.self.now base limit told (Segment c.args.seq c.args.bytes.now) taken stands c.if-self.true refl refl c.if-self.true refl refl
 
 pub advance-requires-clause-taken : goal.advance-requires-clause-taken
 unfolding taken_of

@@ -1,6 +1,5 @@
-use Rattle.std.proofs.Common.{refl, sym}
+use Rattle.std.proofs.Common.{refl}
 use Rattle.zk_reasm.specs.Told.{Stop}
-use Rattle.zk_reasm.proofs.PieceLemmas.{option_or_none}
 use Rattle.zk_reasm.proofs.StandingLemmas.{stands_over, stands_stopped}
 use Rattle.zk_reasm.proofs.stream.Stream.stop.Goals as goal
 
@@ -10,5 +9,4 @@ returns-then-not-self c = λ base limit taken told stands.
 
 pub returns-else-not-self : goal.returns-else-not-self
 returns-else-not-self c = λ base limit taken told stands.
-    stands_over c.args.self.now c.args.self.now base limit told Stop taken stands c.if-not-self.false refl refl c.if-not-self.false refl
-    (sym (option_or_none c.args.self.now.fin))
+    stands_over c.args.self.now c.args.self.now base limit told Stop taken stands c.if-not-self.false refl refl c.if-not-self.false refl refl

@@ -75,10 +75,10 @@ same_number n o first second = grind (arith, nat_tests)
 
 same_kind : (a b : DueKind) → kind_before a b ≡ false → kind_before b a ≡ false → a ≡ b
 same_kind (kind.Entry g n) (kind.Entry h o) first second =
-    ap (λ g. kind.Entry g n) (same_global g h n o first second) ∙ ap (λ n. kind.Entry h n) (same_order g h n o first second)
+    ap (λ (g : ℕ). kind.Entry g n) (same_global g h n o first second) ∙ ap (λ (n : ℕ). kind.Entry h n) (same_order g h n o first second)
 same_kind (kind.Entry g n) (kind.Scheduled o) first second = cc
 same_kind (kind.Scheduled n) (kind.Entry h o) first second = cc
-same_kind (kind.Scheduled n) (kind.Scheduled o) first second = ap (λ n. kind.Scheduled n) (same_number n o first second)
+same_kind (kind.Scheduled n) (kind.Scheduled o) first second = ap (λ (n : ℕ). kind.Scheduled n) (same_number n o first second)
 
 -- two dues of which neither is before the other are one
 pub one_due : (a b : Due) → is_before a b ≡ false → is_before b a ≡ false → a ≡ b
@@ -221,61 +221,69 @@ first-turn store at number first = by (turn_in store (Some number)) refl (sym (d
     by None e is = cc
     by (Some turn) e is = (turn.1, e ∙ ap (λ m. Some (m, turn.1)) (moment turn number.0 is))
 
+module _ (world : World) (at : Moment) (object : ObjectNo) (global order : ℕ) (first : IsFirst world.store at object.0)
+    (names : object_of world.globals global ≡ Some object) (turn_is : turn_in world.store (Some object) ≡ Some (at, order))
+    (rises : (other : ℕ) (later : ObjectNo) (turn : Moment × ℕ) → object_of world.globals other ≡ Some later → object.0 ≤ later.0 → due_at world.store later.0 ≡ Some turn → global ≤ other) where
+  -- the first entry of the global's table
+  abbrev one : Due
+  one = record { at = at; what = kind.Entry global order }
+
+  own : turn_in world.store (object_named (named world.globals global)) ≡ Some (at, order)
+  own = ap (turn_in world.store) names ∙ turn_is
+
+  same_global_is : (n : ℕ) → Some n ≡ Some global → n ≡ global
+  same_global_is n e = cc
+
+  within : (list : List ℕ) (place : ℕ) → slice_get list place ≡ Some global → IsIn one (entry_dues world list)
+  within [] place is = cc
+  within (other ∷ list) zero is =
+      in-left one (entry_due other (turn_in world.store (object_named (named world.globals other)))) (entry_dues world list)
+      (subst (λ n. IsIn one (entry_due n (turn_in world.store (object_named (named world.globals n))))) (sym (same_global_is other is))
+      (subst (λ turn. IsIn one (entry_due global turn)) (sym own) (inl refl)))
+  within (other ∷ list) (suc place) is =
+      in-right one (entry_due other (turn_in world.store (object_named (named world.globals other)))) (entry_dues world list) (within list place is)
+
+  same_object : (a b : ObjectNo) (o : Option ObjectNo) → o ≡ Some a → o ≡ Some b → a ≡ b
+  same_object a b o first second = cc
+
+  same_turn : (turn : Moment × ℕ) (o : Option (Moment × ℕ)) → o ≡ Some turn → o ≡ Some (at, order) → turn ≡ (at, order)
+  same_turn turn o first second = cc
+
+  -- that of another global is not before it
+  later : (other : ℕ) (number : ObjectNo) (turn : Moment × ℕ) → object_named (named world.globals other) ≡ Some number → turn_in world.store (Some number) ≡ Some turn
+      → is_before (record { at = turn.0; what = kind.Entry other turn.1 }) one ≡ false
+  later other number turn is there =
+      let due : due_at world.store number.0 ≡ Some (turn.0, number.0) =
+      due-turn world.store number ∙ ap (option_map (λ (turn : Moment × ℕ). let t : Moment × ℕ = (turn.0, number.0) in t)) there in
+      not_before turn.0.0 at.0 number.0 object.0 other global turn.1 order
+      (first.least number.0 (turn.0, number.0) due)
+      (λ above. rises other number (turn.0, number.0) is above due)
+      (λ here. ap (λ (turn : Moment × ℕ). turn.1) (same_turn turn (turn_in world.store (Some number)) there
+      (ap (λ n. turn_in world.store (Some n)) (same_object number object (object_named (named world.globals other)) is (ap (λ n. object_named (named world.globals n)) here ∙ names))
+      ∙ turn_is)))
+
+  of_turn : (other : ℕ) (number : ObjectNo) → object_named (named world.globals other) ≡ Some number → (o : Option (Moment × ℕ)) → turn_in world.store (Some number) ≡ o
+      → Each (λ (due : Due). is_before due one ≡ false) (entry_due other o)
+  of_turn other number is None there = tt
+  of_turn other number is (Some turn) there = (later other number turn is there, tt)
+
+  of_global : (other : ℕ) (o : Option ObjectNo) → object_named (named world.globals other) ≡ o → Each (λ (due : Due). is_before due one ≡ false) (entry_due other (turn_in world.store o))
+  of_global other None is = tt
+  of_global other (Some number) is = of_turn other number is (turn_in world.store (Some number)) refl
+
+  past : (list : List ℕ) → Each (λ (due : Due). is_before due one ≡ false) (entry_dues world list)
+  past [] = tt
+  past (other ∷ list) = each-append (λ (due : Due). is_before due one ≡ false) (entry_due other (turn_in world.store (object_named (named world.globals other)))) (entry_dues world list)
+      (of_global other (object_named (named world.globals other)) refl) (past list)
+
+  first_is : (globals : List ℕ) (more : List Due) (place : ℕ) → slice_get globals place ≡ Some global
+      → first_of (entry_due global (turn_in world.store (object_named (named world.globals global))) ++ more) ≡ first_of (entry_dues world globals ++ more)
+  first_is globals more place among =
+      ap (λ turn. first_of (entry_due global turn ++ more)) own ∙ sym (first_of-least one (entry_dues world globals) more (within globals place among) (past globals))
+
 -- Where the index leads to a global, its entry is the first of all entries.
 pub led : (world : World) (globals : List ℕ) (more : List Due) (at : Moment) (object : ObjectNo) (global : ℕ) → IsFirst world.store at object.0 → Leads world globals global object.0
     → first_of (entry_due global (turn_in world.store (object_named (named world.globals global))) ++ more) ≡ first_of (entry_dues world globals ++ more)
 led world globals more at object global first leads =
-    ap (λ turn. first_of (entry_due global turn ++ more)) own ∙ sym (first_of-least one (entry_dues world globals) more (within globals leads.among.0 leads.among.1) (past globals))
-  where
-    order : ℕ
-    order = (first-turn world.store at object first).0
-
-    own : turn_in world.store (object_named (named world.globals global)) ≡ Some (at, order)
-    own = ap (turn_in world.store) leads.names ∙ (first-turn world.store at object first).1
-
-    one : Due
-    one = record { at = at; what = kind.Entry global order }
-
-    within : (list : List ℕ) (place : ℕ) → slice_get list place ≡ Some global → IsIn one (entry_dues world list)
-    within [] place is = cc
-    within (other ∷ list) zero is =
-        in-left one (entry_due other (turn_in world.store (object_named (named world.globals other)))) (entry_dues world list)
-        (subst (λ n. IsIn one (entry_due n (turn_in world.store (object_named (named world.globals n))))) (sym (same other is))
-        (subst (λ turn. IsIn one (entry_due global turn)) (sym own) (inl refl)))
-      where
-        same : (n : ℕ) → Some n ≡ Some global → n ≡ global
-        same n e = cc
-    within (other ∷ list) (suc place) is =
-        in-right one (entry_due other (turn_in world.store (object_named (named world.globals other)))) (entry_dues world list) (within list place is)
-
-    same_object : (a b : ObjectNo) (o : Option ObjectNo) → o ≡ Some a → o ≡ Some b → a ≡ b
-    same_object a b o first second = cc
-
-    same_turn : (turn : Moment × ℕ) (o : Option (Moment × ℕ)) → o ≡ Some turn → o ≡ Some (at, order) → turn.1 ≡ order
-    same_turn turn o first second = cc
-
-    later : (other : ℕ) (number : ObjectNo) (turn : Moment × ℕ) → object_named (named world.globals other) ≡ Some number → turn_in world.store (Some number) ≡ Some turn
-        → is_before (record { at = turn.0; what = kind.Entry other turn.1 }) one ≡ false
-    later other number turn names is =
-        let due : due_at world.store number.0 ≡ Some (turn.0, number.0) =
-        due-turn world.store number ∙ ap (option_map (λ (turn : Moment × ℕ). let t : Moment × ℕ = (turn.0, number.0) in t)) is in
-        not_before turn.0.0 at.0 number.0 object.0 other global turn.1 order
-        (first.least number.0 (turn.0, number.0) due)
-        (λ above. leads.first other number (turn.0, number.0) names above due)
-        (λ here. same_turn turn (turn_in world.store (Some number)) is
-        (ap (λ n. turn_in world.store (Some n)) (same_object number object (object_named (named world.globals other)) names (ap (λ n. object_named (named world.globals n)) here ∙ leads.names))
-        ∙ (first-turn world.store at object first).1))
-
-    of_turn : (other : ℕ) (number : ObjectNo) → object_named (named world.globals other) ≡ Some number → (o : Option (Moment × ℕ)) → turn_in world.store (Some number) ≡ o
-        → Each (λ (due : Due). is_before due one ≡ false) (entry_due other o)
-    of_turn other number names None is = tt
-    of_turn other number names (Some turn) is = (later other number turn names is, tt)
-
-    of_global : (other : ℕ) (o : Option ObjectNo) → object_named (named world.globals other) ≡ o → Each (λ (due : Due). is_before due one ≡ false) (entry_due other (turn_in world.store o))
-    of_global other None names = tt
-    of_global other (Some number) names = of_turn other number names (turn_in world.store (Some number)) refl
-
-    past : (list : List ℕ) → Each (λ (due : Due). is_before due one ≡ false) (entry_dues world list)
-    past [] = tt
-    past (other ∷ list) = each-append (λ (due : Due). is_before due one ≡ false) (entry_due other (turn_in world.store (object_named (named world.globals other)))) (entry_dues world list)
-        (of_global other (object_named (named world.globals other)) refl) (past list)
+    let turn = first-turn world.store at object first in
+    first_is world at object global turn.0 first leads.names turn.1 leads.first globals more leads.among.0 leads.among.1

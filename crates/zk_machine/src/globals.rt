@@ -178,13 +178,7 @@ impl Globals {
     pub fn set(&mut self, global: u32, value: Option<Value>)
         ensures { self.new ≡ slice_set self.old global (field_of value) }
     {
-        self.limit = note_value(
-            &self.values,
-            &mut self.owners,
-            self.limit,
-            global,
-            &value,
-        );
+        self.limit = note_value(&self.values, &mut self.owners, self.limit, global, &value);
         set_named(&mut self.values, global, value);
     }
 

@@ -260,12 +260,9 @@ pub indexed-changed : (change : Table → Table) (objects : Store) (firsts news 
     → length news ≡ length firsts → (AllBut (due_at (changed (in_table change) number objects)) firsts number → IsTree (due_at (changed (in_table change) number objects)) news)
     → IsIndexed objects firsts → IsIndexed (changed (in_table change) number objects) news
 indexed-changed change objects firsts news number keeps long reorder indexed =
-    indexed-one objects others firsts number apart never indexed news long (reorder (all_but objects others firsts number apart never indexed))
+    indexed-one objects (changed (in_table change) number objects) firsts number apart never indexed news long (reorder (all_but objects (changed (in_table change) number objects) firsts number apart never indexed))
   where
-    others : Store
-    others = changed (in_table change) number objects
-
-    apart : (other : ℕ) → (other ≡ number → ⊥) → table_at others other ≡ table_at objects other
+    apart : (other : ℕ) → (other ≡ number → ⊥) → table_at (changed (in_table change) number objects) other ≡ table_at objects other
     apart other differs = at-other (in_table change) number other objects differs
 
     same : (a b : Table) → Some a ≡ Some b → a ≡ b
@@ -275,7 +272,7 @@ indexed-changed change objects firsts news number keeps long reorder indexed =
     by None e table past is = cc
     by (Some was) e table past is = subst NeverDue (same (change was) table is) (keeps was (indexed.beyond number was past e))
 
-    never : (table : Table) → length firsts ≤ number → table_at others number ≡ Some table → NeverDue table
+    never : (table : Table) → length firsts ≤ number → table_at (changed (in_table change) number objects) number ≡ Some table → NeverDue table
     never table past is = by (table_at objects number) refl table past (sym (at-same change number objects) ∙ is)
 
 -- a new table, which has a place in the index or never a due
@@ -283,20 +280,17 @@ pub indexed-table : (objects : Store) (table : Table) (firsts news : List (Optio
     → length news ≡ length firsts → (AllBut (due_at (objects ++ object.Table table ∷ [])) firsts number → IsTree (due_at (objects ++ object.Table table ∷ [])) news)
     → IsIndexed objects firsts → IsIndexed (objects ++ object.Table table ∷ []) news
 indexed-table objects table firsts news number last keeps long reorder indexed =
-    indexed-one objects others firsts number apart never indexed news long (reorder (all_but objects others firsts number apart never indexed))
+    indexed-one objects (objects ++ object.Table table ∷ []) firsts number apart never indexed news long (reorder (all_but objects (objects ++ object.Table table ∷ []) firsts number apart never indexed))
   where
-    others : Store
-    others = objects ++ object.Table table ∷ []
-
-    apart : (other : ℕ) → (other ≡ number → ⊥) → table_at others other ≡ table_at objects other
+    apart : (other : ℕ) → (other ≡ number → ⊥) → table_at (objects ++ object.Table table ∷ []) other ≡ table_at objects other
     apart other differs = at-before objects (object.Table table) other (λ e. differs (e ∙ sym last))
 
     same : (a b : Table) → Some a ≡ Some b → a ≡ b
     same a b e = cc
 
-    never : (one : Table) → length firsts ≤ number → table_at others number ≡ Some one → NeverDue one
+    never : (one : Table) → length firsts ≤ number → table_at (objects ++ object.Table table ∷ []) number ≡ Some one → NeverDue one
     never one past is =
-        let here : table_at others number ≡ Some table = ap (table_at others) last ∙ at-new objects (object.Table table) in
+        let here : table_at (objects ++ object.Table table ∷ []) number ≡ Some table = ap (table_at (objects ++ object.Table table ∷ [])) last ∙ at-new objects (object.Table table) in
         subst NeverDue (same table one (sym here ∙ is)) (keeps past)
 
 -- The first due ---------------------------------------------------------------------------------------------------

@@ -16,7 +16,7 @@ use Rattle.zk_typed.specs.Running as typed
 use Rattle.zk_typed.specs.State.{World}
 use Rattle.zk_table.specs.Dues as dues
 use Rattle.zk_table.specs.Dues.{IsFirst, due_at, due_of}
-use Rattle.zk_machine.specs.Agenda.{Leads, earlier, entry_due, entry_dues, first_of, is_before, kind_before}
+use Rattle.zk_machine.specs.Agenda.{Leads, due_in, earlier, entry_due, entry_dues, event_dues, first_of, is_before, kind_before}
 use Rattle.zk_machine.specs.Entries.{object_named, turn_in, turn_of}
 use Rattle.zk_machine.specs.Owners.{object_of}
 use Rattle.zk_machine.specs.Schedule.{Each}
@@ -174,6 +174,13 @@ due-turn store number = by (slice_get store number.0)
     by (Some (object.Table table)) = refl
     by (Some (object.Record of fields)) = refl
     by (Some (object.Vector items)) = refl
+
+-- what is due first, with and without the entries
+pub due_in-ending : (world : World) (globals : List ℕ) → world.is_ending ≡ true → due_in world globals ≡ first_of (event_dues world)
+due_in-ending world globals ends = ap (λ ends. first_of (cond ends [] (entry_dues world globals) ++ event_dues world)) ends
+
+pub due_in-going : (world : World) (globals : List ℕ) → world.is_ending ≡ false → due_in world globals ≡ first_of (entry_dues world globals ++ event_dues world)
+due_in-going world globals goes = ap (λ ends. first_of (cond ends [] (entry_dues world globals) ++ event_dues world)) goes
 
 -- what no index has a due for is no entry
 pub no_entries : (world : World) (globals : List ℕ) → ((number : ℕ) → due_at world.store number ≡ None) → entry_dues world globals ≡ []

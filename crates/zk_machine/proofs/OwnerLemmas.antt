@@ -1,6 +1,6 @@
 -- The globals that name objects, and those that are noted.
-use Rattle.std.proofs.Common.{◌≡◌, ℕ, zero, suc, ◌<◌, ◌≤◌, ◌⊎◌, ⊎_elim, inl, inr, List, [], ◌∷◌, ◌++◌, length, get_or, slice_get, slice_set, replicate, Option, Some, None, Result, Ok, Err, refl, sym, ap, subst, ◌∙◌, arith}
-use Rattle.std.specs.Prelude.{IfSome, HoldsAt}
+use Rattle.std.proofs.Common.{◌≡◌, ℕ, zero, suc, ◌-◌, ◌<◌, ◌≤◌, ⊎_elim, List, [], ◌∷◌, ◌++◌, length, get_or, slice_get, slice_set, replicate, Option, Some, None, Result, Ok, Err, refl, sym, ap, subst, ◌∙◌, arith}
+use Rattle.std.specs.Prelude.{IfSome}
 use Rattle.std.specs.List.Sorted.{IsBinarySearchResult, IsSearchInRange}
 use Rattle.std.specs.Option.{option_map}
 use Rattle.std.specs.Ordering.{nat_cmp}
@@ -19,7 +19,10 @@ use Rattle.zk_machine.proofs.DefaultLemmas.{equal_is}
 same_owner : (a b : Owner) → Some a ≡ Some b → a ≡ b
 same_owner a b e = cc
 
-none_some : {A : Type 0} {o : Option A} {a : A} → o ≡ None → o ≡ Some a → ⊥
+pub same_object : (a b : ObjectNo) → Some a ≡ Some b → a ≡ b
+same_object a b e = cc
+
+pub none_some : {A : Type 0} {o : Option A} {a : A} → o ≡ None → o ≡ Some a → ⊥
 none_some none some = cc
 
 -- One more that is noted -------------------------------------------------------------------------------------------
@@ -54,15 +57,21 @@ pub noted-push : (owners : List Owner) (owner : Owner) → IsNoted owner (owners
 noted-push owners owner = (length owners, slice_get-push_same owners owner)
 
 -- the last has the greatest numbers
-pub last-greatest : (owners : List Owner) (place : ℕ) (last owner : Owner) → slice_get owners place ≡ Some last → length owners ≡ suc place → RisesTo last owner → Rises owners
+pub last-greatest : (owners : List Owner) (last owner : Owner) → slice_get owners (length owners - 1) ≡ Some last → RisesTo last owner → Rises owners
     → (other : ℕ) (one : Owner) → slice_get owners other ≡ Some one → RisesTo one owner
-last-greatest owners place last owner there ends rises all other one here = ⊎_elim
+last-greatest owners last owner there rises all other one here = ⊎_elim
     (λ same. subst (λ (it : Owner). RisesTo it owner) (same_owner last one (sym there ∙ (ap (slice_get owners) (sym same) ∙ here))) rises)
     (λ apart.
     let within = slice_get_within owners other one here in
-    let before = all other place one last (omega (arith, within, ends, apart)) here there in
+    let before = all other (length owners - 1) one last (omega (arith, within, apart)) here there in
     (omega (arith, before.0, rises.0), omega (arith, before.1, rises.1)))
-    (cases_eq other place)
+    (cases_eq other (length owners - 1))
+
+-- where there is no last one, there is none
+pub none-last : (owners : List Owner) → slice_get owners (length owners - 1) ≡ None → (other : ℕ) (one : Owner) → slice_get owners other ≡ Some one → ⊥
+none-last owners none other one here =
+    let within = slice_get_within owners other one here in
+    none_some none (slice_get-get_or owners (length owners - 1) one (omega (arith, within)))
 
 -- A global that names something else -------------------------------------------------------------------------------
 
@@ -108,6 +117,16 @@ searched-owner object (first ∷ owners) (Ok i) range is =
     ap (option_map (λ (one : Owner). one.object.0)) (slice_get-get_or (first ∷ owners) i first range)
     ∙ ap (λ n. Some n) (equal_is (get_or (first ∷ owners) i first).object.0 object (is first))
 
+-- the one in the place that was found
+pub noted-at : (owners : List Owner) (place : ℕ) (object : ObjectNo) (owner : Owner) → option_map (λ (one : Owner). one.object.0) (slice_get owners place) ≡ Some object.0
+    → slice_get owners place ≡ Some owner → IsNoted (record { object = object; global = owner.global }) owners
+noted-at owners place object owner found there =
+    let number : owner.object.0 ≡ object.0 = same (owner.object.0) (object.0) (sym (ap (option_map (λ (one : Owner). one.object.0)) there) ∙ found) in
+    (place, there ∙ ap (λ n. let named : ObjectNo = record { 0 = n } in let one : Owner = record { object = named; global = owner.global } in Some one) number)
+  where
+    same : (a b : ℕ) → Some a ≡ Some b → a ≡ b
+    same a b e = cc
+
 -- one that is noted and still names the object is its owner
 pub owner-is : (values : List (Option Value)) (owners : List Owner) (limit end global : ℕ) (object : ObjectNo) → AreNoted values owners limit → end ≤ limit
     → IsNoted (record { object = object; global = global }) owners → object_of values global ≡ Some object → IsOwner values global object.0 end
@@ -127,7 +146,13 @@ owner-is values owners limit end global object noted less own names = record {
 }
 
 -- no global names an object before any has a value
-pub none-noted : (count : ℕ) (global : ℕ) (object : ObjectNo) → object_of (replicate count None) global ≡ Some object → ⊥
-none-noted zero global object is = cc
-none-noted (suc count) zero object is = cc
-none-noted (suc count) (suc global) object is = none-noted count global object is
+none-named : (count : ℕ) (global : ℕ) (object : ObjectNo) → object_of (replicate count None) global ≡ Some object → ⊥
+none-named zero global object is = none_some refl is
+none-named (suc count) zero object is = none_some refl is
+none-named (suc count) (suc global) object is = none-named count global object is
+
+pub none-owned : (count limit : ℕ) (values : List (Option Value)) (owners : List Owner) → owners ≡ [] → values ≡ replicate count None → AreNoted values owners limit
+none-owned count limit values owners none is = record {
+  rises = λ place later one other before here there. absurd (none_some (ap (λ os. slice_get os place) none) here);
+  noted = λ global object names under. absurd (none-named count global object (sym (ap (λ vs. object_of vs global) is) ∙ names));
+}

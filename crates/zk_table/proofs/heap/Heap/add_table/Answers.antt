@@ -10,14 +10,14 @@ invariant_of-self c =
     indexed-longer s.objects s.firsts.items c.make_room.new.firsts.items c.make_room.ensures.tree c.make_room.ensures.long c.self.invariant
 
 -- no memory for the table
-pub invariant_of-self-2 : goal.invariant_of-self-2
-invariant_of-self-2 c =
+pub invariant_of-self-in_err-number : goal.invariant_of-self-in_err-number
+invariant_of-self-in_err-number c =
     let s = c.self.inside in
     subst (λ os. IsIndexed os c.make_room.new.firsts.items) (sym c.in_err-number.ensures.err)
     (indexed-longer s.objects s.firsts.items c.make_room.new.firsts.items c.make_room.ensures.tree c.make_room.ensures.long c.self.invariant)
 
-pub invariant_of-self-3 : goal.invariant_of-self-3
-invariant_of-self-3 c =
+pub invariant_of-self-2 : goal.invariant_of-self-2
+invariant_of-self-2 c =
     let s = c.self.inside in
     let firsts = c.make_room.new.firsts in
     let longer = indexed-longer s.objects s.firsts.items firsts.items c.make_room.ensures.tree c.make_room.ensures.long c.self.invariant in

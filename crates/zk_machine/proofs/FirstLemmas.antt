@@ -220,13 +220,15 @@ not_before a b l o g h k n least rises same = ⊎_elim
 first-turn : (store : Store) (at : Moment) (number : ObjectNo) → IsFirst store at number.0 → (order : ℕ) × (turn_in store (Some number) ≡ Some (at, order))
 first-turn store at number first = by (turn_in store (Some number)) refl (sym (due-turn store number) ∙ first.due)
   where
-    moment : (turn : Moment × ℕ) (n : ℕ) → Some (turn.0, n) ≡ Some (at, n) → turn.0 ≡ at
-    moment turn n e = cc
+    same : (a b : Moment × ℕ) → Some a ≡ Some b → a ≡ b
+    same a b e = cc
 
     by : (o : Option (Moment × ℕ)) → turn_in store (Some number) ≡ o → option_map (λ (turn : Moment × ℕ). let t : Moment × ℕ = (turn.0, number.0) in t) o ≡ Some (at, number.0)
         → (order : ℕ) × (turn_in store (Some number) ≡ Some (at, order))
     by None e is = cc
-    by (Some turn) e is = (turn.1, e ∙ ap (λ m. Some (m, turn.1)) (moment turn number.0 is))
+    by (Some turn) e is =
+        let moment : turn.0 ≡ at = ap (λ (t : Moment × ℕ). t.0) (same (turn.0, number.0) (at, number.0) is) in
+        (turn.1, e ∙ ap (λ (m : Moment). let t : Moment × ℕ = (m, turn.1) in Some t) moment)
 
 module _ (world : World) (at : Moment) (object : ObjectNo) (global order : ℕ) (first : IsFirst world.store at object.0)
     (names : object_of world.globals global ≡ Some object) (turn_is : turn_in world.store (Some object) ≡ Some (at, order))

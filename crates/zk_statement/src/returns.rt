@@ -49,7 +49,10 @@ fn return_alone(
 {
     match value {
         Some(one) => match check_in(context, locals, Wanted::Nothing, one) {
-            Ok(_) => Err(Refusal::Broken(one_broken(context.alloc, Rule::Return, place)?)),
+            Ok(given) => {
+                drop(given);
+                Err(Refusal::Broken(one_broken(context.alloc, Rule::Return, place)?))
+            }
             Err(refusal) => Err(refusal),
         },
         None => Ok(Stmt::Return { place, value: None }),

@@ -19,11 +19,11 @@ returns-in_default-clause-first c =
     ∙ sym (due_in-going world c.args.globals.now c.if-self.false))
 
 -- the index leads to a global
-pub returns-in-Some-clause-first : goal.returns-in-Some-clause-first
-returns-in-Some-clause-first c =
+pub returns-in-Some-first_owner-clause-first : goal.returns-in-Some-first_owner-clause-first
+returns-in-Some-first_owner-clause-first c =
     let world = world_of c.args.self.now in
     c.with_entry.ensures (event_dues world) c.event_due-event.ensures.first
-    ∙ (led world c.args.globals.now (event_dues world) c.in-Some.field-0 c.in-Some.table c.in-Some-first_owner.global c.in-Some.ensures.some c.in-Some-first_owner.ensures
+    ∙ (led world c.args.globals.now (event_dues world) c.in-Some.field-0-0 c.in-Some.table c.in-Some-first_owner.global c.in-Some.ensures.some c.in-Some-first_owner.ensures
     ∙ sym (due_in-going world c.args.globals.now c.if-self.false))
 
 -- each global is asked

@@ -12,7 +12,7 @@ use Rattle.std.proofs.lemmas.Option.{slice_get-get_or, slice_get_within, get_or_
 use Rattle.zk_machine.specs.Defaulted.{Rises}
 use Rattle.zk_machine.specs.declared.table_defaults.TableDefault.{TableDefault}
 
-equal_is : (a b : ℕ) → nat_cmp a b ≡ Equal → a ≡ b
+pub equal_is : (a b : ℕ) → nat_cmp a b ≡ Equal → a ≡ b
 equal_is a b e = grind (arith, nat_tests)
 
 less_is : (a b : ℕ) → nat_cmp a b ≡ Less → a < b

@@ -107,7 +107,7 @@ each-made : {A B : Type 0} (make : A → B) (P : B → Type 0) (xs : List A) →
 each-made make P [] h = tt
 each-made make P (x ∷ xs) h = (h.0, each-made make P xs h.1)
 
-each-append : {A : Type 0} (P : A → Type 0) (xs ys : List A) → Each P xs → Each P ys → Each P (xs ++ ys)
+pub each-append : {A : Type 0} (P : A → Type 0) (xs ys : List A) → Each P xs → Each P ys → Each P (xs ++ ys)
 each-append P [] ys h g = g
 each-append P (x ∷ xs) ys h g = (h.0, each-append P xs ys h.1 g)
 

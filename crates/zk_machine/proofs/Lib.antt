@@ -15,6 +15,8 @@ pub mod DefaultLemmas
 pub mod FilterLemmas
 pub mod DispatchLemmas
 pub mod DueLemmas
+pub mod FirstLemmas
+pub mod OwnerLemmas
 pub mod ExpireLemmas
 pub mod MadeLemmas
 pub mod ScheduleLemmas

@@ -1,5 +1,6 @@
 -- What is due next, as the machine says it, and what comes of it.
-use Rattle.std.specs.Prelude.{ℕ, ◌==◌, nat_lt, int_lt, int_le, Bool, true, false, ◌&&◌, ◌||◌, List, [], ◌∷◌, ◌++◌, map, Option, Some, None, if◌then◌else◌}
+use Rattle.std.specs.Prelude.{◌≡◌, ◌≤◌, ℕ, ◌==◌, nat_lt, int_lt, int_le, Bool, true, false, ◌&&◌, ◌||◌, List, [], ◌∷◌, ◌++◌, map, Option, Some, None, if◌then◌else◌, slice_get}
+use Rattle.zk_base.specs.declared.numbers.ObjectNo.{ObjectNo}
 use Rattle.zk_base.specs.declared.time.Moment.{Moment}
 use Rattle.zk_tree.specs.Table.{Table, Entry, entry_numbered}
 use Rattle.zk_tree.specs.Value.{Value}
@@ -12,7 +13,9 @@ use Rattle.zk_typed.specs.Running as typed
 use Rattle.zk_typed.specs.Running.{table_behind}
 use Rattle.zk_typed.specs.State.{World}
 use Rattle.zk_typed.specs.World.{Scheduled}
+use Rattle.zk_table.specs.Dues.{due_at}
 use Rattle.zk_machine.specs.Entries.{object_named, turn_in}
+use Rattle.zk_machine.specs.Owners.{object_of}
 use Rattle.zk_machine.specs.declared.due.Due.{Due}
 use Rattle.zk_machine.specs.declared.due.DueKind.{DueKind}
 use Rattle.zk_machine.specs.declared.due.DueKind.TheVariants as kind
@@ -63,6 +66,13 @@ event_dues world = map event_due world.scheduled
 -- what is due first, where the entries of these globals expire
 abbrev pub due_in : World → List ℕ → Option Due
 due_in world globals = first_of ((if world.is_ending then [] else entry_dues world globals) ++ event_dues world)
+
+-- Of these globals this one names the table of an object, and none that names a later table which is due has a lower number.
+pub record Leads (world : World) (globals : List ℕ) (global object : ℕ) : Type 0 where
+  pub among : (place : ℕ) × (slice_get globals place ≡ Some global)
+  pub names : object_of world.globals global ≡ Some (record { 0 = object })
+  pub first : (other : ℕ) (later : ObjectNo) (turn : Moment × ℕ) → object_of world.globals other ≡ Some later → object ≤ later.0
+      → due_at world.store later.0 ≡ Some turn → global ≤ other
 
 -- Events and entries -------------------------------------------------------------------------------------------------
 

@@ -14,6 +14,7 @@ pub mod Indexed
 pub mod Leads
 pub mod Made
 pub mod Onwards
+pub mod Owners
 pub mod Queued
 pub mod Reports
 pub mod Rows

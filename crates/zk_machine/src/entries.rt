@@ -35,16 +35,6 @@ impl Entry {
 }
 
 impl World {
-    /// The object that a global names.
-    fn object(&self, global: u32) -> Option<ObjectNo>
-        ensures { result ≡ object_named (named (world_of self.now).globals global) }
-    {
-        match self.globals.get(global as usize) {
-            Some(Some(Value::Object(object))) => Some(*object),
-            _ => None,
-        }
-    }
-
     /// The table of an object, lent.
     fn table(&self, object: ObjectNo) -> Option<&Table>
         ensures { option_map (λ table. table.now) result ≡ table_at (world_of self.now).store object }
@@ -63,7 +53,7 @@ impl World {
     pub fn entry_due(&self, global: u32) -> Option<(Moment, u64)>
         ensures { result ≡ turn_in (world_of self.now).store (object_named (named (world_of self.now).globals global)) }
     {
-        let object = self.object(global)?;
+        let object = self.globals.object(global)?;
         let table = self.table(object)?;
         table.due()
     }
@@ -72,7 +62,7 @@ impl World {
     pub fn entry(&self, global: u32, order: u64) -> Result<Option<Entry>, Mem>
         ensures { IfOk result (λ entry. option_map entry_of entry ≡ entry_in (world_of self.now).store order (object_named (named (world_of self.now).globals global))) }
     {
-        let Some(object) = self.object(global) else {
+        let Some(object) = self.globals.object(global) else {
             return Ok(None);
         };
         let Some(table) = self.table(object) else {

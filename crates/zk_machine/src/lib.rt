@@ -13,6 +13,7 @@ mod entries;
 mod expiring;
 mod frames;
 mod fresh;
+mod globals;
 mod halt;
 mod hooks;
 mod indexed;

@@ -21,10 +21,11 @@ ghost use Rattle.zk_machine.specs.Queued.{queued_of};
 ghost use Rattle.zk_machine.specs.Schedule.{event_numbered};
 ghost use Rattle.zk_machine.specs.State.{state_of, world_of};
 
-use crate::calls::{add_locals, first_names};
+use crate::calls::first_names;
 use crate::due::Due;
 use crate::ends::Ending;
 use crate::fresh::fresh;
+use crate::globals::Globals;
 use crate::indexed::IndexedCode;
 use crate::queued::Queued;
 use crate::reports::fault_name;
@@ -53,19 +54,10 @@ pub struct Waited {
     pub wait: Span,
 }
 
-/// So many names without a value.
-fn no_names(alloc: Global, count: usize) -> Result<Vec<Option<Value>>, Mem>
-    ensures { IfOk result (λ names. map field_of names.items ≡ replicate count Nothing) }
-{
-    let mut names = Vec::new(alloc);
-    add_locals(&mut names, count)?;
-    Ok(names)
-}
-
 impl Running {
     /// What runs in a world of so many globals and constants, at its beginning.
-    fn new(alloc: Global, globals: Vec<Option<Value>>) -> Running
-        ensures { world_of result.state.world ≡ first_world (map field_of globals.items) }
+    fn new(alloc: Global, globals: Globals) -> Running
+        ensures { world_of result.state.world ≡ first_world globals }
     {
         Running {
             at: 0,
@@ -172,7 +164,7 @@ impl Machine {
         ensures stands { IfOk result (λ machine. (program : Program) → lower.code_of code ≡ lowered program → StandsFor machine program nothing (first_world (no_values program))) }
         ensures code { IfOk result (λ machine. code_of machine ≡ lower.code_of code) }
     {
-        let globals = no_names(alloc, code.globals.len())?;
+        let globals = Globals::new(alloc, code.globals.len())?;
         let indexed = IndexedCode::new(alloc, code)?;
         let running = Running::new(alloc, globals);
         Ok(Machine {

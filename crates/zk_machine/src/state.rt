@@ -43,7 +43,7 @@ pub fn named(values: &[Option<Value>], number: u32) -> Result<&Value, Halt>
 }
 
 /// Gives a name a value, or takes its value away. There is nothing to do where no name has the number.
-fn set_named(values: &mut Vec<Option<Value>>, number: u32, value: Option<Value>)
+pub fn set_named(values: &mut Vec<Option<Value>>, number: u32, value: Option<Value>)
     ensures { map field_of values.new.items ≡ slice_set (map field_of values.old.items) number (field_of value) }
 {
     let place = number as usize;
@@ -102,7 +102,7 @@ impl State {
     pub fn global(&self, number: u32) -> Result<Value, Halt>
         ensures { (place : At) → Comes value_of place result (does.global place number (state_of self.now)) (state_of self.now) }
     {
-        let value = named(&self.world.globals, number)?;
+        let value = named(self.world.globals.as_slice(), number)?;
         Ok(handle(value)?)
     }
 
@@ -110,7 +110,7 @@ impl State {
     pub fn set_global(&mut self, number: u32, value: Option<Value>)
         ensures { does.set_global number (field_of value) (state_of self.old) ≡ does.Gives tt (state_of self.new) }
     {
-        set_named(&mut self.world.globals, number, value);
+        self.world.globals.set(number, value);
     }
 
     /// `print a, b;` (Zeek manual, Statements, print).

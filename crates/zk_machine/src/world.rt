@@ -1,7 +1,7 @@
-ghost use Rattle.std.specs.Prelude.{◌≡◌, map};
+ghost use Rattle.std.specs.Prelude.{◌≡◌};
 ghost use Rattle.zk_typed.specs.State.{first_world};
-ghost use Rattle.zk_value.specs.Plain.{field_of};
 
+use crate::globals::Globals;
 use crate::queued::Queued;
 use crate::schedule::Schedule;
 use crate::table_defaults::TableDefaults;
@@ -10,7 +10,7 @@ use std::collections::VecDeque;
 use zk_base::Moment;
 use zk_streams::Streams;
 use zk_table::Heap;
-use zk_value::{Out, Value};
+use zk_value::Out;
 
 /// The world that scripts run in. Lines and rows are those that were not yet given out.
 #[derive(Debug, Drop)]
@@ -25,7 +25,7 @@ pub struct World {
     /// The tables that have a `&default`.
     pub defaults: TableDefaults,
     /// The values of globals and constants by their numbers, each where it has one.
-    pub globals: Vec<Option<Value>>,
+    pub globals: Globals,
     /// The events that wait to be dispatched, first in, first out.
     pub queue: VecDeque<Queued>,
     /// The events that wait for their moments.
@@ -40,8 +40,8 @@ impl World {
     ghost use Rattle.zk_machine.specs.State.{world_of};
 
     /// The world at the beginning, with these values of globals and constants. No memory is taken.
-    pub fn new(alloc: Global, globals: Vec<Option<Value>>) -> World
-        ensures { world_of result ≡ first_world (map field_of globals.items) }
+    pub fn new(alloc: Global, globals: Globals) -> World
+        ensures { world_of result ≡ first_world globals }
     {
         World {
             alloc,

@@ -1,8 +1,8 @@
 use std::alloc::Global;
 use std::process::Abort;
 use std::test::Fail;
-use zk_base::{Mem, Moment, Span};
-use zk_table::{Expiry, Table};
+use zk_base::{Mem, Moment, ObjectNo, RecordNo, Span};
+use zk_table::{Expiry, Heap, Table};
 use zk_value::{Key, Value};
 
 /// A call on a table, and whether it finds the entry where it answers that.
@@ -164,5 +164,31 @@ fn holes_are_closed_and_dues_stand_at_the_last_moment(rt: HostRuntime) -> Result
         &[(Insert(7, 1, 2), Some((7, 0)))],
         &[(0, 1, 2)],
     )?;
+    Ok(())
+}
+
+#[test]
+fn heap_finds_the_table_that_is_due_first(rt: HostRuntime) -> Result<(), Fail> {
+    let alloc = rt.alloc();
+    let mut heap = Heap::new(alloc);
+    heap.add_record(RecordNo(0), Vec::new(alloc))?;
+    let slow = heap.add_table(Table::new(alloc, Some(Expiry::Create(Span(20)))))?;
+    let none = heap.add_table(Table::new(alloc, None))?;
+    let read = heap.add_table(Table::new(alloc, Some(Expiry::Read(Span(10)))))?;
+    let late = heap.add_table(Table::new(alloc, None))?;
+    assert!(rt; heap.first_due() == None && heap.expiring_end() == ObjectNo(4));
+    for table in [none, read, slow, late] {
+        heap.insert(table, Moment(1), key_of(alloc, 7)?, Value::Bool(true))?;
+    }
+    assert!(rt; heap.first_due() == Some((Moment(11), read)));
+    heap.renew(read, Moment(11), &key_of(alloc, 7)?);
+    assert!(rt;
+        heap.first_due() == Some((Moment(21), slow)),
+        "of equal ones the first"
+    );
+    heap.expire(slow, 0, Span(0));
+    assert!(rt; heap.first_due() == Some((Moment(21), read)));
+    heap.remove(read, &key_of(alloc, 7)?);
+    assert!(rt; heap.first_due() == None);
     Ok(())
 }

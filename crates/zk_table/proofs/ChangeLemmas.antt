@@ -15,8 +15,8 @@ use Rattle.zk_table.specs.declared.slot.Slot.{Slot}
 use Rattle.zk_table.specs.declared.slot.Stored.{Stored}
 use Rattle.zk_table.specs.Index.{AllBut, IsTree}
 use Rattle.zk_table.specs.Kept.{IsKept, Rewrites}
-use Rattle.zk_table.specs.Slots.{occupied, turn_at}
-use Rattle.zk_table.proofs.TurnLemmas.{turn_in, turn_at-is, turn_at-set_other, turn_at-set_same, tree-same, tree-changed}
+use Rattle.zk_table.specs.Slots.{occupied, turn_at, turn_in}
+use Rattle.zk_table.proofs.TurnLemmas.{turn_at-is, turn_at-set_other, turn_at-set_same, tree-same, tree-changed}
 
 -- a slot whose entry is changed
 abbrev pub changed : (Stored → Stored) → Slot → Slot
@@ -32,25 +32,25 @@ lent_slot slots place order was lent there shown = shown ∙ get_or_from_slice_g
 
 -- the index in its vector, once it is put right
 pub tree_after : (slots lent_slots : List Slot) (firsts : Vec (Option (Moment × ℕ))) (shown reordered : List (Option (Moment × ℕ))) (place : ℕ)
-    → lent_slots ≡ slots → shown ≡ firsts.items → length reordered ≡ firsts.len → (AllBut lent_slots shown place → IsTree lent_slots reordered)
-    → AllBut slots firsts.items place → IsTree slots (with_items firsts reordered).items
+    → lent_slots ≡ slots → shown ≡ firsts.items → length reordered ≡ firsts.len → (AllBut (turn_at lent_slots) shown place → IsTree (turn_at lent_slots) reordered)
+    → AllBut (turn_at slots) firsts.items place → IsTree (turn_at slots) (with_items firsts reordered).items
 tree_after slots lent_slots firsts shown reordered place same lent long reorder all =
-    subst (IsTree slots) (sym (with_items_is firsts reordered long))
-    (subst (λ xs. IsTree xs reordered) same
-    (reorder (subst (λ xs. AllBut xs shown place) (sym same) (subst (λ f. AllBut slots f place) (sym lent) all))))
+    subst (IsTree (turn_at slots)) (sym (with_items_is firsts reordered long))
+    (subst (λ xs. IsTree (turn_at xs) reordered) same
+    (reorder (subst (λ xs. AllBut (turn_at xs) shown place) (sym same) (subst (λ f. AllBut (turn_at slots) f place) (sym lent) all))))
 
 -- the index in its vector, once it is made anew
 pub tree_rebuilt : (slots lent_slots : List Slot) (firsts : Vec (Option (Moment × ℕ))) (shown rebuilt : List (Option (Moment × ℕ)))
     → lent_slots ≡ slots → shown ≡ firsts.items → length rebuilt ≡ firsts.len
-    → (((place : ℕ) → length shown ≤ place → turn_at lent_slots place ≡ None) → IsTree lent_slots rebuilt)
-    → ((place : ℕ) → length (with_items firsts rebuilt).items ≤ place → turn_at slots place ≡ None) → IsTree slots (with_items firsts rebuilt).items
+    → (((place : ℕ) → length shown ≤ place → turn_at lent_slots place ≡ None) → IsTree (turn_at lent_slots) rebuilt)
+    → ((place : ℕ) → length (with_items firsts rebuilt).items ≤ place → turn_at slots place ≡ None) → IsTree (turn_at slots) (with_items firsts rebuilt).items
 tree_rebuilt slots lent_slots firsts shown rebuilt same lent long make past =
     let is = with_items_is firsts rebuilt long in
     let whole = ap (λ (xs : List (Option (Moment × ℕ))). length xs) is in
     let shown_long = ap (λ (xs : List (Option (Moment × ℕ))). length xs) lent in
     let held = firsts.ok.0 in
-    subst (IsTree slots) (sym is)
-    (subst (λ xs. IsTree xs rebuilt) same
+    subst (IsTree (turn_at slots)) (sym is)
+    (subst (λ xs. IsTree (turn_at xs) rebuilt) same
     (make (λ place behind. ap (λ xs. turn_at xs place) same ∙ past place (omega (arith, whole, shown_long, long, held, behind)))))
 
 -- a table without an expiry has no turn, and one with an expiry has each place in its index
@@ -69,7 +69,7 @@ is_some-due_from (Some expiry) now = refl
 -- a slot that was changed, and put in order
 pub rewrites_reordered : (old : Entries) (place order : ℕ) (was is : Stored) (slot : Slot) (lent_slots : List Slot) (shown reordered : List (Option (Moment × ℕ)))
     → slice_get old.slots.items place ≡ Some (occupied order was) → slot ≡ occupied order is → lent_slots ≡ set old.slots.items place slot
-    → shown ≡ old.firsts.items → length reordered ≡ old.firsts.len → (AllBut lent_slots shown place → IsTree lent_slots reordered)
+    → shown ≡ old.firsts.items → length reordered ≡ old.firsts.len → (AllBut (turn_at lent_slots) shown place → IsTree (turn_at lent_slots) reordered)
     → (IsKept old → is_some is.due ≡ is_some old.expiry)
     → Rewrites old (record {
       alloc = old.alloc;
@@ -88,7 +88,7 @@ rewrites_reordered old place order was is slot lent_slots shown reordered there 
   live = refl;
   long = ap (λ (xs : List (Option (Moment × ℕ))). length xs) (with_items_is old.firsts reordered long) ∙ long ∙ old.firsts.ok.0;
   tree = λ kept. tree_after (set old.slots.items place slot) lent_slots old.firsts shown reordered place lent_is shown_is long reorder
-      (tree-changed old.slots.items (set old.slots.items place slot) old.firsts.items place
+      (tree-changed (turn_at old.slots.items) (turn_at (set old.slots.items place slot)) old.firsts.items place
       (λ other apart. turn_at-set_other old.slots.items place slot other apart)
       (λ past. turn_at-set_same old.slots.items place (occupied order was) slot there ∙ ap turn_in slot_is
       ∙ past_index old place order was is.due kept there (due_is kept) past)
@@ -114,7 +114,7 @@ rewrites_same old place order was is slot there slot_is due_is = record {
   insertions = refl;
   live = refl;
   long = refl;
-  tree = λ kept. tree-same old.slots.items (set old.slots.items place slot) old.firsts.items same kept.tree;
+  tree = λ kept. tree-same (turn_at old.slots.items) (turn_at (set old.slots.items place slot)) old.firsts.items same kept.tree;
 }
   where
     here : turn_at (set old.slots.items place slot) place ≡ turn_at old.slots.items place

@@ -19,7 +19,7 @@ use Rattle.zk_table.specs.declared.slot.Slot.{Slot}
 use Rattle.zk_table.specs.declared.slot.Stored.{Stored}
 use Rattle.zk_table.specs.Index.{IsTree}
 use Rattle.zk_table.specs.Kept.{IsKept, Rewrites, Empties, Adds, Becomes, order_at, table_in}
-use Rattle.zk_table.specs.Slots.{Ascends, entries_in, entry_of, stored_numbered, occupied, hole}
+use Rattle.zk_table.specs.Slots.{Ascends, entries_in, entry_of, stored_numbered, occupied, hole, turn_at}
 use Rattle.zk_table.proofs.EntryLemmas.{entries-set, entries-empty, entries-push, length-empty, length-with_entry, entry_numbered-is, entry_at-held, entry_at-some}
 use Rattle.zk_table.proofs.SlotLemmas.{eqb-apart, ascends-set, ascends-push, numbered-at, numbered-set, numbered-push, numbered-over}
 
@@ -340,7 +340,7 @@ module _ (old new : Entries) (kept : IsKept old) (is : Stored) (adds : Adds old 
 module _ (old new : Entries) (kept : IsKept old) (ascends : Ascends 0 new.slots.items new.insertions)
     (numbered_same : (order : ℕ) → stored_numbered order new.slots.items ≡ stored_numbered order old.slots.items)
     (entries_same : entries_in new.slots.items ≡ entries_in old.slots.items) (orders_same : (key : List Value) → order_at new key ≡ order_at old key) (expiry : new.expiry ≡ old.expiry)
-    (insertions : new.insertions ≡ old.insertions) (live : new.live ≡ old.live) (tree : IsTree new.slots.items new.firsts.items)
+    (insertions : new.insertions ≡ old.insertions) (live : new.live ≡ old.live) (tree : IsTree (turn_at new.slots.items) new.firsts.items)
     (covers : IsSome new.expiry → length new.slots.items ≤ length new.firsts.items) where
   pub kept_same : Becomes new (table_in old)
   kept_same = record {

@@ -1,4 +1,5 @@
 pub mod ChangeLemmas
+pub mod DueLemmas
 pub mod EntryLemmas
 pub mod FindLemmas
 pub mod HeapLemmas

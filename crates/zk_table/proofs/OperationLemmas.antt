@@ -16,12 +16,12 @@ use Rattle.zk_table.specs.declared.slot.Slot.{Slot}
 use Rattle.zk_table.specs.declared.slot.Stored.{Stored}
 use Rattle.zk_table.specs.Index.{AllBut, IsTree}
 use Rattle.zk_table.specs.Kept.{IsKept, Found, Rewrites, Empties, Adds, Widens, Becomes, order_at, table_in}
-use Rattle.zk_table.specs.Slots.{Ascends, entries_in, entry_of, occupied, hole, stored_numbered, turn_at, with_moment, with_value, without_holes}
+use Rattle.zk_table.specs.Slots.{Ascends, entries_in, entry_of, occupied, hole, stored_numbered, turn_at, turn_in, with_moment, with_value, without_holes}
 use Rattle.zk_table.proofs.ChangeLemmas.{is_some-due_from}
 use Rattle.zk_table.proofs.EntryLemmas.{entries-without_holes, length-empty}
 use Rattle.zk_table.proofs.KeptLemmas.{added, absent-order, kept_same, place-numbered, present, rewritten}
 use Rattle.zk_table.proofs.SlotLemmas.{ascends-without_holes, eqb-refl, numbered-at, numbered-without_holes}
-use Rattle.zk_table.proofs.TurnLemmas.{turn_in, turn_at-set_other, turn_at-set_same, tree-changed, slice_get-push_other, slice_get-push_same, slice_get-set_same}
+use Rattle.zk_table.proofs.TurnLemmas.{first_due-turn, turn_at-set_other, turn_at-set_same, tree-changed, slice_get-push_other, slice_get-push_same, slice_get-set_same}
 
 no_value : {A : Type 0} {o : Option A} {a : A} → o ≡ None → o ≡ Some a → ⊥
 no_value none some = cc
@@ -78,7 +78,7 @@ refused old mid new kept widens slots orders expiry insertions live firsts =
     let after = kept_same mid new before.kept
     (subst (λ xs. Ascends 0 xs new.insertions) (sym slots) (subst (λ n. Ascends 0 mid.slots.items n) (sym insertions) before.kept.ascends))
     (λ order. ap (stored_numbered order) slots) (ap entries_in slots) orders expiry insertions live
-    (subst (λ xs. IsTree xs new.firsts.items) (sym slots) (subst (λ fs. IsTree mid.slots.items fs) (sym firsts) before.kept.tree))
+    (subst (λ xs. IsTree (turn_at xs) new.firsts.items) (sym slots) (subst (λ fs. IsTree (turn_at mid.slots.items) fs) (sym firsts) before.kept.tree))
     (λ expires.
     let wide = before.kept.covers (subst (λ o. IsSome o) expiry expires) in
     let same = ap (λ (xs : List Slot). length xs) slots in
@@ -117,9 +117,22 @@ no_turns old slots below kept none up same place = by (slice_get slots place) re
     by None e = ap (option_and_then turn_in) e
     by (Some slot) e = ap (option_and_then turn_in) e ∙ by_entry slot e slot.entry refl
 
+-- and there is no first due
+pub never-first : (entries : Entries) → IsKept entries → entries.expiry ≡ None → plain.first_due (entries_in entries.slots.items) ≡ None
+never-first entries kept none = by (plain.first_due (entries_in entries.slots.items)) refl
+  where
+    none-some : {turn : Moment × ℕ} {o : Option (Moment × ℕ)} → o ≡ None → o ≡ Some turn → ⊥
+    none-some none some = cc
+
+    by : (first : Option (Moment × ℕ)) → plain.first_due (entries_in entries.slots.items) ≡ first → plain.first_due (entries_in entries.slots.items) ≡ None
+    by None is = is
+    by (Some turn) is =
+        let place = first_due-turn entries.slots.items turn is in
+        absurd (none-some (no_turns entries entries.slots.items entries.insertions kept none kept.ascends (λ order. refl) place.0) place.1)
+
 pub closed : (old new : Entries) → IsKept old → new.slots.items ≡ without_holes old.slots.items → new.orders ≡ old.orders → new.expiry ≡ old.expiry → new.insertions ≡ old.insertions
     → new.live ≡ old.live → length new.firsts.items ≡ min (length new.slots.items) (length old.firsts.items)
-    → (((place : ℕ) → length new.firsts.items ≤ place → turn_at new.slots.items place ≡ None) → IsTree new.slots.items new.firsts.items)
+    → (((place : ℕ) → length new.firsts.items ≤ place → turn_at new.slots.items place ≡ None) → IsTree (turn_at new.slots.items) new.firsts.items)
     → Becomes new (table_in old)
 unfolding order_at
 closed old new kept slots orders expiry insertions live long rebuilt = kept_same old new kept up numbered entries
@@ -155,7 +168,7 @@ pub empties-from : (old new : Entries) (place order : ℕ) (was : Stored) → sl
     → new.slots.items ≡ set old.slots.items place (hole order)
     → ((key : List Value) → order_at new key ≡ cond ((key_eq.ghosts).eq was.key key) None (order_at old key))
     → new.expiry ≡ old.expiry → new.insertions ≡ old.insertions → new.live ≡ old.live - 1 → 0 < old.live → length new.firsts.items ≡ length old.firsts.items
-    → (AllBut new.slots.items old.firsts.items place → IsTree new.slots.items new.firsts.items) → Empties old new place order was
+    → (AllBut (turn_at new.slots.items) old.firsts.items place → IsTree (turn_at new.slots.items) new.firsts.items) → Empties old new place order was
 empties-from old new place order was there slots orders expiry insertions live some long reorder = record {
   slots = slots;
   orders = orders;
@@ -163,7 +176,7 @@ empties-from old new place order was there slots orders expiry insertions live s
   insertions = insertions;
   live = omega (arith, live, some);
   long = long;
-  tree = λ kept. reorder (tree-changed old.slots.items new.slots.items old.firsts.items place
+  tree = λ kept. reorder (tree-changed (turn_at old.slots.items) (turn_at new.slots.items) old.firsts.items place
       (λ other apart. ap (λ xs. turn_at xs other) slots ∙ turn_at-set_other old.slots.items place (hole order) other apart)
       (λ past. ap (λ xs. turn_at xs place) slots ∙ turn_at-set_same old.slots.items place (occupied order was) (hole order) there)
       kept.tree);
@@ -240,7 +253,7 @@ pub adds-from : (old mid new : Entries) (is : Stored) → Widens old mid
     → ((key : List Value) → order_at new key ≡ cond ((key_eq.ghosts).eq is.key key) (Some old.insertions) (order_at mid key))
     → new.expiry ≡ old.expiry → new.insertions ≡ old.insertions + 1 → new.live ≡ old.live + 1 → length new.firsts.items ≡ length mid.firsts.items
     → (IsSome mid.expiry → length mid.slots.items < length mid.firsts.items) → is_some is.due ≡ is_some old.expiry
-    → (AllBut new.slots.items mid.firsts.items (length mid.slots.items) → IsTree new.slots.items new.firsts.items) → Adds old new is
+    → (AllBut (turn_at new.slots.items) mid.firsts.items (length mid.slots.items) → IsTree (turn_at new.slots.items) new.firsts.items) → Adds old new is
 unfolding order_at
 adds-from old mid new is widens slots orders expiry insertions live long room due_is reorder = record {
   slots = slots ∙ ap (λ xs. xs ++ occupied old.insertions is ∷ []) widens.slots;
@@ -252,7 +265,7 @@ adds-from old mid new is widens slots orders expiry insertions live long room du
       let here = room (subst (λ o. IsSome o) (sym widens.expiry) expires) in
       let same = ap (λ (xs : List Slot). length xs) widens.slots in
       omega (arith, here, same, long);
-  tree = λ kept. reorder (tree-changed mid.slots.items new.slots.items mid.firsts.items (length mid.slots.items)
+  tree = λ kept. reorder (tree-changed (turn_at mid.slots.items) (turn_at new.slots.items) mid.firsts.items (length mid.slots.items)
       (λ other apart. ap (λ xs. turn_at xs other) slots ∙ ap (option_and_then turn_in) (slice_get-push_other mid.slots.items (occupied old.insertions is) other apart))
       (λ past. ap (λ xs. turn_at xs (length mid.slots.items)) slots ∙ ap (option_and_then turn_in) (slice_get-push_same mid.slots.items (occupied old.insertions is)) ∙ no_due is.due refl past)
       (widens.tree kept));

@@ -10,7 +10,7 @@ use Rattle.zk_tree.proofs.TurnLaws.{AtMost, at_most-trans, earlier-left, earlier
 use Rattle.zk_table.specs.declared.slot.Slot.{Slot}
 use Rattle.zk_table.specs.declared.slot.Stored.{Stored}
 use Rattle.zk_table.specs.Index.{first_at, AllBut, IsTree}
-use Rattle.zk_table.specs.Slots.{entries_in, entry_in, entry_of, turn_at}
+use Rattle.zk_table.specs.Slots.{entries_in, entry_of, turn_at, turn_in}
 use Rattle.zk_table.proofs.IndexLemmas.{top-least, top-turn}
 
 -- Places -----------------------------------------------------------------------------------------------------------
@@ -37,10 +37,6 @@ pub slice_get-push_same : {A : Type 0} (xs : List A) (y : A) → slice_get (xs +
 slice_get-push_same [] y = refl
 slice_get-push_same (z ∷ xs) y = slice_get-push_same xs y
 
--- the turn of a slot
-abbrev pub turn_in : Slot → Option (Moment × ℕ)
-turn_in slot = option_and_then turn_of (entry_in slot)
-
 pub turn_at-is : (slots : List Slot) (place : ℕ) (slot : Slot) → slice_get slots place ≡ Some slot → turn_at slots place ≡ turn_in slot
 turn_at-is slots place slot is = ap (option_and_then turn_in) is
 
@@ -53,28 +49,28 @@ turn_at-set_same slots place was slot is = ap (option_and_then turn_in) (slice_g
 -- The index --------------------------------------------------------------------------------------------------------
 
 -- where the turns are the same the index stays right
-pub tree-same : (slots others : List Slot) (firsts : List (Option (Moment × ℕ))) → ((place : ℕ) → turn_at others place ≡ turn_at slots place) → IsTree slots firsts → IsTree others firsts
-tree-same slots others firsts same tree = record {
+pub tree-same : (turns others : ℕ → Option (Moment × ℕ)) (firsts : List (Option (Moment × ℕ))) → ((place : ℕ) → others place ≡ turns place) → IsTree turns firsts → IsTree others firsts
+tree-same turns others firsts same tree = record {
   nodes = λ place within. tree.nodes place within
       ∙ ap (λ o. earlier (earlier o (get_or firsts (2 * place + 1) None)) (get_or firsts (2 * place + 2) None)) (sym (same place));
   beyond = λ place past. same place ∙ tree.beyond place past;
 }
 
 -- where one turn changed the index is right but there
-pub tree-changed : (slots others : List Slot) (firsts : List (Option (Moment × ℕ))) (at : ℕ) → ((place : ℕ) → (place ≡ at → ⊥) → turn_at others place ≡ turn_at slots place)
-    → (length firsts ≤ at → turn_at others at ≡ None) → IsTree slots firsts → AllBut others firsts at
-tree-changed slots others firsts at same past_end tree = record {
+pub tree-changed : (turns others : ℕ → Option (Moment × ℕ)) (firsts : List (Option (Moment × ℕ))) (at : ℕ) → ((place : ℕ) → (place ≡ at → ⊥) → others place ≡ turns place)
+    → (length firsts ≤ at → others at ≡ None) → IsTree turns firsts → AllBut others firsts at
+tree-changed turns others firsts at same past_end tree = record {
   nodes = λ place within apart. tree.nodes place within
       ∙ ap (λ o. earlier (earlier o (get_or firsts (2 * place + 1) None)) (get_or firsts (2 * place + 2) None)) (sym (same place apart));
   beyond = λ place past. ⊎_elim
-      (λ here. subst (λ p. turn_at others p ≡ None) (sym here) (past_end (subst (λ p. length firsts ≤ p) here past)))
+      (λ here. subst (λ p. others p ≡ None) (sym here) (past_end (subst (λ p. length firsts ≤ p) here past)))
       (λ apart. same place apart ∙ tree.beyond place past)
       (cases_eq place at);
 }
 
 -- a longer index is as right
-pub tree-longer : (slots : List Slot) (firsts : List (Option (Moment × ℕ))) → IsTree slots firsts → IsTree slots (firsts ++ None ∷ [])
-tree-longer slots firsts tree = record {
+pub tree-longer : (turns : ℕ → Option (Moment × ℕ)) (firsts : List (Option (Moment × ℕ))) → IsTree turns firsts → IsTree turns (firsts ++ None ∷ [])
+tree-longer turns firsts tree = record {
   nodes = λ place within. ⊎_elim
       (λ inside. same place ∙ tree.nodes place inside ∙ first_same place)
       (λ past. same place ∙ empty place past ∙ sym (below_none place past) ∙ first_same place)
@@ -102,16 +98,16 @@ tree-longer slots firsts tree = record {
     empty : (place : ℕ) → length firsts ≤ place → get_or firsts place None ≡ None
     empty place past = none_past firsts place past
 
-    below_none : (place : ℕ) → length firsts ≤ place → first_at slots firsts place ≡ None
+    below_none : (place : ℕ) → length firsts ≤ place → first_at turns firsts place ≡ None
     below_none place past =
         ap (λ o. earlier (earlier o (get_or firsts (2 * place + 1) None)) (get_or firsts (2 * place + 2) None)) (tree.beyond place past)
         ∙ ap (λ o. earlier o (get_or firsts (2 * place + 2) None)) (empty (2 * place + 1) (omega (arith, past)))
         ∙ empty (2 * place + 2) (omega (arith, past))
 
-    first_same : (place : ℕ) → first_at slots firsts place ≡ first_at slots (firsts ++ None ∷ []) place
+    first_same : (place : ℕ) → first_at turns firsts place ≡ first_at turns (firsts ++ None ∷ []) place
     first_same place =
-        ap (λ o. earlier (earlier (turn_at slots place) o) (get_or firsts (2 * place + 2) None)) (sym (same (2 * place + 1)))
-        ∙ ap (earlier (earlier (turn_at slots place) (get_or (firsts ++ None ∷ []) (2 * place + 1) None))) (sym (same (2 * place + 2)))
+        ap (λ o. earlier (earlier (turns place) o) (get_or firsts (2 * place + 2) None)) (sym (same (2 * place + 1)))
+        ∙ ap (earlier (earlier (turns place) (get_or (firsts ++ None ∷ []) (2 * place + 1) None))) (sym (same (2 * place + 2)))
 
     long : (xs : List (Option (Moment × ℕ))) → length (xs ++ None ∷ []) ≡ suc (length xs)
     long [] = refl
@@ -139,7 +135,7 @@ first_due-least (slot ∷ slots) place = by place slot.entry (λ other. first_du
         (earlier-right (turn_of (entry_of slot.order stored)) (first_due (entries_in slots))) (others p)
 
 -- and is the turn of a place
-first_due-turn : (slots : List Slot) (g : Moment × ℕ) → first_due (entries_in slots) ≡ Some g → (place : ℕ) × (turn_at slots place ≡ Some g)
+pub first_due-turn : (slots : List Slot) (g : Moment × ℕ) → first_due (entries_in slots) ≡ Some g → (place : ℕ) × (turn_at slots place ≡ Some g)
 unfolding first_due entries_in
 first_due-turn [] g is = cc
 first_due-turn (slot ∷ slots) g is = by slot.entry refl is (λ found. first_due-turn slots g found)
@@ -156,7 +152,7 @@ first_due-turn (slot ∷ slots) g is = by slot.entry refl is (λ found. first_du
         (earlier-among (turn_of (entry_of slot.order stored)) (first_due (entries_in slots)) g is)
 
 -- the first of an index is the first due
-pub top-first_due : (slots : List Slot) (firsts : List (Option (Moment × ℕ))) → IsTree slots firsts → get_or firsts 0 None ≡ first_due (entries_in slots)
+pub top-first_due : (slots : List Slot) (firsts : List (Option (Moment × ℕ))) → IsTree (turn_at slots) firsts → get_or firsts 0 None ≡ first_due (entries_in slots)
 top-first_due slots firsts tree = by (get_or firsts 0 None) refl (first_due (entries_in slots)) refl
   where
     no_turn : {g : Moment × ℕ} {o : Option (Moment × ℕ)} → o ≡ None → o ≡ Some g → ⊥
@@ -169,16 +165,16 @@ top-first_due slots firsts tree = by (get_or firsts 0 None) refl (first_due (ent
     by None t None f = t ∙ sym f
     by None t (Some b) f =
         let place = first_due-turn slots b f in
-        let top = top-least slots firsts tree place.0 b place.1 in
+        let top = top-least (turn_at slots) firsts tree place.0 b place.1 in
         absurd (no_turn t top.1)
     by (Some a) t None f =
-        let place = top-turn slots firsts tree a t in
+        let place = top-turn (turn_at slots) firsts tree a t in
         let first = first_due-least slots place.0 a place.1 in
         absurd (no_turn f first.1)
     by (Some a) t (Some b) f =
-        let a_place = top-turn slots firsts tree a t in
+        let a_place = top-turn (turn_at slots) firsts tree a t in
         let b_place = first_due-turn slots b f in
-        let top = top-least slots firsts tree b_place.0 b b_place.1 in
+        let top = top-least (turn_at slots) firsts tree b_place.0 b b_place.1 in
         let first = first_due-least slots a_place.0 a a_place.1 in
         let not_after : is_before b a ≡ false = subst (λ x. is_before b x ≡ false) (one top.0 a top.1 t) top.2 in
         let not_before : is_before a b ≡ false = subst (λ x. is_before a x ≡ false) (one first.0 b first.1 f) first.2 in

@@ -6,7 +6,7 @@ use Rattle.zk_value.specs.contracts.key.KeyPartialEq.TheImpl as key_eq
 use Rattle.zk_value.specs.declared.value.Value.{Value}
 use Rattle.zk_table.specs.declared.entries.Entries.{Entries}
 use Rattle.zk_table.specs.declared.slot.Stored.{Stored}
-use Rattle.zk_table.specs.Slots.{Ascends, entries_in, stored_numbered, occupied, hole}
+use Rattle.zk_table.specs.Slots.{Ascends, entries_in, stored_numbered, occupied, hole, turn_at}
 use Rattle.zk_table.specs.Index.{IsTree}
 
 -- the order number of a key's entry
@@ -30,7 +30,7 @@ pub record IsKept (entries : Entries) : Type 0 where
   pub kept : (order : ℕ) (stored : Stored) → stored_numbered order entries.slots.items ≡ Some stored → order_at entries stored.key ≡ Some order
   -- entries have a due exactly where the table has an expiry
   pub dues : (order : ℕ) (stored : Stored) → stored_numbered order entries.slots.items ≡ Some stored → is_some stored.due ≡ is_some entries.expiry
-  pub tree : IsTree entries.slots.items entries.firsts.items
+  pub tree : IsTree (turn_at entries.slots.items) entries.firsts.items
   pub covers : IsSome entries.expiry → length entries.slots.items ≤ length entries.firsts.items
   pub live : entries.live ≡ length (entries_in entries.slots.items)
 
@@ -49,7 +49,7 @@ pub record Rewrites (old new : Entries) (place order : ℕ) (stored : Stored) : 
   pub insertions : new.insertions ≡ old.insertions
   pub live : new.live ≡ old.live
   pub long : length new.firsts.items ≡ length old.firsts.items
-  pub tree : IsKept old → IsTree new.slots.items new.firsts.items
+  pub tree : IsKept old → IsTree (turn_at new.slots.items) new.firsts.items
 
 -- the entry of an order number, in its place
 pub record Numbered (entries : Entries) (order place : ℕ) : Type 0 where
@@ -64,7 +64,7 @@ pub record Empties (old new : Entries) (place order : ℕ) (stored : Stored) : T
   pub insertions : new.insertions ≡ old.insertions
   pub live : new.live + 1 ≡ old.live
   pub long : length new.firsts.items ≡ length old.firsts.items
-  pub tree : IsKept old → IsTree new.slots.items new.firsts.items
+  pub tree : IsKept old → IsTree (turn_at new.slots.items) new.firsts.items
 
 -- the entries make this table, and belong together
 pub record Becomes (entries : Entries) (table : plain.Table) : Type 0 where
@@ -79,7 +79,7 @@ pub record Widens (old new : Entries) : Type 0 where
   pub insertions : new.insertions ≡ old.insertions
   pub live : new.live ≡ old.live
   pub long : length old.firsts.items ≤ length new.firsts.items
-  pub tree : IsKept old → IsTree new.slots.items new.firsts.items
+  pub tree : IsKept old → IsTree (turn_at new.slots.items) new.firsts.items
 
 -- there is one entry more, at the end
 pub record Adds (old new : Entries) (stored : Stored) : Type 0 where
@@ -89,4 +89,4 @@ pub record Adds (old new : Entries) (stored : Stored) : Type 0 where
   pub insertions : new.insertions ≡ old.insertions + 1
   pub live : new.live ≡ old.live + 1
   pub covers : IsSome old.expiry → length old.slots.items < length new.firsts.items
-  pub tree : IsKept old → IsTree new.slots.items new.firsts.items
+  pub tree : IsKept old → IsTree (turn_at new.slots.items) new.firsts.items

@@ -1,3 +1,4 @@
+pub mod Dues
 pub mod Heap
 pub mod Index
 pub mod Kept

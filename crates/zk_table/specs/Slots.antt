@@ -33,9 +33,13 @@ abbrev pub Ascends : ℕ → List Slot → ℕ → Type 0
 Ascends from [] below = from ≤ below
 Ascends from (slot ∷ slots) below = (from ≤ slot.order) × Ascends (suc slot.order) slots below
 
+-- the turn of the entry in a slot
+abbrev pub turn_in : Slot → Option (Moment × ℕ)
+turn_in slot = option_and_then turn_of (entry_in slot)
+
 -- the turn of the entry in a place
 abbrev pub turn_at : List Slot → ℕ → Option (Moment × ℕ)
-turn_at slots place = option_and_then (λ slot. option_and_then turn_of (entry_in slot)) (slice_get slots place)
+turn_at slots place = option_and_then turn_in (slice_get slots place)
 
 -- a slot with an entry
 abbrev pub occupied : ℕ → Stored → Slot

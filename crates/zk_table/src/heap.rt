@@ -1,51 +1,40 @@
-ghost use Rattle.std.specs.Prelude.{◌≡◌, ◌++◌, ◌∷◌, [], length, map, IfOk, OnOk, OnErr, slice_get, Some, IfSome, IfNone};
+ghost use Rattle.std.specs.Prelude.{◌≡◌, ◌++◌, ◌∷◌, ◌≤◌, ℕ, [], length, map, IfOk, OnOk, OnErr, slice_get, IfSome, IfNone, None as Nothing};
 ghost use Rattle.std.specs.Option.{option_map};
 ghost use Rattle.zk_tree.specs.Store as object;
 ghost use Rattle.zk_tree.specs.Table as plain;
-ghost use Rattle.zk_value.specs.Objects.{table_place, with_field, with_item, with_item_behind};
+ghost use Rattle.zk_value.specs.Objects.{with_field, with_item, with_item_behind};
 ghost use Rattle.zk_value.specs.Plain.{value_of, key_of, field_of};
-ghost use Rattle.zk_table.specs.Heap.{changed, in_table, HasNoTable};
+ghost use Rattle.zk_table.specs.Dues.{due_at, IsFirst};
+ghost use Rattle.zk_table.specs.Heap.{changed, in_table};
 
+use crate::index::{Turn, below, make_room, reorder};
+use crate::objects::{Lent, Objects};
 use crate::table::Table;
 use std::alloc::Global;
 use std::marker::Model;
 use zk_base::{Mem, Moment, ObjectNo, RecordNo, Span};
-use zk_value::{Key, Object, Store, Value};
+use zk_value::{Key, Value};
 
-/// All objects that scripts make, by their numbers: records, vectors, sets and tables. Nothing is given
-/// back before the heap is. Contracts see the list of the objects.
+/// All objects that scripts make, by their numbers: records, vectors, sets and tables, and the first of
+/// the tables that is due, found at once. Nothing is given back before the heap is. Contracts see the list
+/// of the objects.
 #[derive(Debug, Drop)]
 pub struct Heap {
-    /// The records and vectors, and the places of the sets and tables.
-    store: Store,
-    /// The sets and tables, in the order of their numbers.
-    tables: Vec<Table>,
-}
-
-/// An object, lent.
-#[derive(Clone, Copy, Debug)]
-pub enum Lent<'a> {
-    /// A record of a type: the value of each field, by the field's number, where it has one.
-    Record {
-        of: RecordNo,
-        fields: &'a [Option<Value>],
-    },
-    /// The items of a vector.
-    Vector(&'a [Value]),
-    /// A set or a table.
-    Table(&'a Table),
+    objects: Objects,
+    /// The index of dues: for each number, up to that of the last table with an expiry, the first due of
+    /// its table and of those below it.
+    firsts: Vec<Option<Turn>>,
 }
 
 impl Model for Heap {
-    ghost use Rattle.std.specs.Prelude.{◌≡◌, length};
-    ghost use Rattle.zk_tree.specs.Store.{Store as Objects};
-    ghost use Rattle.zk_value.specs.Objects.{tables_in, with_tables};
+    ghost use Rattle.zk_tree.specs.Store.{Store as Plain};
+    ghost use Rattle.zk_table.specs.Dues.{IsIndexed};
 
-    ghost Value = { Objects };
+    ghost Value = { Plain };
 
-    ghost view = { λ heap. with_tables heap.store heap.tables.items };
+    ghost view = { λ heap. heap.objects };
 
-    ghost invariant = { λ heap. tables_in heap.store ≡ length heap.tables.items };
+    ghost invariant = { λ heap. IsIndexed heap.objects heap.firsts.items };
 }
 
 impl Heap {
@@ -56,8 +45,8 @@ impl Heap {
         ensures { result ≡ [] }
     {
         Heap {
-            store: Store::new(alloc),
-            tables: Vec::new(alloc),
+            objects: Objects::new(alloc),
+            firsts: Vec::new(alloc),
         }
     }
 
@@ -65,24 +54,33 @@ impl Heap {
     pub fn len(&self) -> usize
         ensures { result ≡ length self.now }
     {
-        self.store.len()
+        self.objects.len()
     }
 
     /// The object of a number, lent. None where no object has it.
     pub fn object(&self, number: ObjectNo) -> Option<Lent<'_>>
         ensures { option_map object_of result ≡ slice_get self.now number.0 }
     {
-        match self.store.object(number) {
-            Some(object) => match object {
-                Object::Record { of, fields } => Some(Lent::Record { of, fields }),
-                Object::Vector(items) => Some(Lent::Vector(items)),
-                Object::Table(place) => match self.tables.get(place) {
-                    Some(table) => Some(Lent::Table(table)),
-                    None => None,
-                },
-            },
+        self.objects.object(number)
+    }
+
+    /// The table whose first entry is due before those of all others, and when: of tables that are due at
+    /// the same moment it is the one of the lowest number. None where no entry has a due.
+    pub fn first_due(&self) -> Option<(Moment, ObjectNo)>
+        ensures some { IfSome result (λ first. IsFirst self.now first.0 first.1.0) }
+        ensures none { IfNone result ((number : ℕ) → due_at self.now number ≡ Nothing) }
+    {
+        match below(&self.firsts, 0) {
+            Some((at, number)) => Some((at, ObjectNo(number))),
             None => None,
         }
+    }
+
+    /// What is above the number of each table whose entries expire.
+    pub fn expiring_end(&self) -> ObjectNo
+        ensures { (number : ℕ) → result.0 ≤ number → due_at self.now number ≡ Nothing }
+    {
+        ObjectNo(self.firsts.len() as u64)
     }
 
     /// Makes a record of a type, given the value of each field that has one. It gets the next number.
@@ -92,7 +90,7 @@ impl Heap {
         ensures ok { OnOk result (self.new ≡ self.old ++ object.Record of (map field_of fields.items) ∷ []) }
         ensures err { OnErr result (self.new ≡ self.old) }
     {
-        self.store.add_record(of, fields)
+        self.objects.add_record(of, fields)
     }
 
     /// Makes a vector of these items. It gets the next number. At `Mem` nothing is changed.
@@ -101,7 +99,7 @@ impl Heap {
         ensures ok { OnOk result (self.new ≡ self.old ++ object.Vector (key_of items.items) ∷ []) }
         ensures err { OnErr result (self.new ≡ self.old) }
     {
-        self.store.add_vector(items)
+        self.objects.add_vector(items)
     }
 
     /// Makes an object of a set or a table. It gets the next number. At `Mem` nothing is changed.
@@ -110,11 +108,10 @@ impl Heap {
         ensures ok { OnOk result (self.new ≡ self.old ++ object.Table table ∷ []) }
         ensures err { OnErr result (self.new ≡ self.old) }
     {
-        self.tables.reserve(1)?;
-        let number = self.store.add_table()?;
-        let Ok(()) = self.tables.push(table) else {
-            unreachable!()
-        };
+        let expires = table.expiry().is_some();
+        make_room(&mut self.firsts, self.objects.len(), expires)?;
+        let number = self.objects.add_table(table)?;
+        reorder(&self.objects, &mut self.firsts, number.0 as usize);
         Ok(number)
     }
 
@@ -123,7 +120,7 @@ impl Heap {
     pub fn set_field(&mut self, number: ObjectNo, field: usize, value: Option<Value>)
         ensures { self.new ≡ changed (with_field field (field_of value)) number.0 self.old }
     {
-        self.store.set_field(number, field, value);
+        self.objects.set_field(number, field, value);
     }
 
     /// Gives an item of a vector another value. Nothing is changed where there is no such vector or
@@ -131,7 +128,7 @@ impl Heap {
     pub fn set_item(&mut self, number: ObjectNo, index: usize, item: Value)
         ensures { self.new ≡ changed (with_item index (value_of item)) number.0 self.old }
     {
-        self.store.set_item(number, index, item);
+        self.objects.set_item(number, index, item);
     }
 
     /// Adds an item to a vector. Nothing is changed where there is no such vector, and at `Mem`.
@@ -139,7 +136,7 @@ impl Heap {
         ensures ok { OnOk result (self.new ≡ changed (with_item_behind (value_of item)) number.0 self.old) }
         ensures err { OnErr result (self.new ≡ self.old) }
     {
-        self.store.push_item(number, item)
+        self.objects.push_item(number, item)
     }
 
     /// Assigns a value to a key of a set or a table. Nothing is changed where there is no such set or
@@ -154,28 +151,25 @@ impl Heap {
         ensures ok { OnOk result (self.new ≡ changed (in_table (plain.insert now (key_of key) (value_of value))) number.0 self.old) }
         ensures err { OnErr result (self.new ≡ self.old) }
     {
-        match place(&self.store, number) {
-            Some(place) => self.tables[place].insert(now, key, value),
-            None => Ok(()),
-        }
+        self.objects.insert(number, now, key, value)?;
+        reorder(&self.objects, &mut self.firsts, number.0 as usize);
+        Ok(())
     }
 
     /// Takes a key's entry away from a set or a table, where it is there.
     pub fn remove(&mut self, number: ObjectNo, key: &Key)
         ensures { self.new ≡ changed (in_table (plain.remove (key_of key.now))) number.0 self.old }
     {
-        if let Some(place) = place(&self.store, number) {
-            let _ = self.tables[place].remove(key);
-        }
+        self.objects.remove(number, key);
+        reorder(&self.objects, &mut self.firsts, number.0 as usize);
     }
 
     /// Makes the entry of a key of a set or a table one of this moment, where it is there.
     pub fn renew(&mut self, number: ObjectNo, now: Moment, key: &Key)
         ensures { self.new ≡ changed (in_table (plain.renew now (key_of key.now))) number.0 self.old }
     {
-        if let Some(place) = place(&self.store, number) {
-            self.tables[place].renew(now, key);
-        }
+        self.objects.renew(number, now, key);
+        reorder(&self.objects, &mut self.firsts, number.0 as usize);
     }
 
     /// Where the wait is above 0, makes the entry of an order number of a table due so long after its
@@ -183,23 +177,7 @@ impl Heap {
     pub fn expire(&mut self, number: ObjectNo, order: u64, wait: Span)
         ensures { self.new ≡ changed (in_table (plain.expire order wait)) number.0 self.old }
     {
-        if let Some(place) = place(&self.store, number) {
-            let _ = self.tables[place].expire(order, wait);
-        }
-    }
-}
-
-/// The place of a set or a table among them.
-fn place(store: &Store, number: ObjectNo) -> Option<usize>
-    ensures found { IfSome result (λ place. table_place store.now number.0 ≡ Some place) }
-    ensures none { IfNone result (HasNoTable store.now number.0) }
-{
-    match store.object(number) {
-        Some(object) => match object {
-            Object::Table(place) => Some(place),
-            Object::Record { .. } => None,
-            Object::Vector(_) => None,
-        },
-        None => None,
+        self.objects.expire(number, order, wait);
+        reorder(&self.objects, &mut self.firsts, number.0 as usize);
     }
 }

@@ -5,10 +5,12 @@
 mod entries;
 mod heap;
 mod index;
+mod objects;
 mod slot;
 mod table;
 
-pub use heap::{Heap, Lent};
+pub use heap::Heap;
+pub use objects::Lent;
 pub use slot::{Pair, moment_after};
 pub use table::Table;
 pub use zk_tree::Expiry;

@@ -1,4 +1,4 @@
-ghost use Rattle.std.specs.Prelude.{◌≡◌, ◌<◌, [], map, length, is_some, IsSome, IsOk, IfOk, OnOk, OnErr};
+ghost use Rattle.std.specs.Prelude.{◌≡◌, ◌<◌, [], map, length, None, is_some, IsSome, IsOk, IfOk, IfNone, OnOk, OnErr};
 ghost use Rattle.std.specs.Option.{option_map};
 ghost use Rattle.zk_tree.specs.Table as plain;
 ghost use Rattle.zk_tree.specs.Table.{entry_at, entry_numbered, first_due};
@@ -46,7 +46,9 @@ impl Table {
 
     /// When the entries expire, where they do.
     pub fn expiry(&self) -> Option<Expiry>
-        ensures { result ≡ self.now.expiry }
+        ensures expiry { result ≡ self.now.expiry }
+        // Else no entry has a due.
+        ensures never { IfNone result (first_due self.now.entries ≡ None) }
     {
         self.entries.expiry()
     }

@@ -8,7 +8,7 @@ use Rattle.zk_value.specs.contracts.key.KeyPartialEq.TheImpl as key_eq
 use Rattle.zk_table.specs.declared.slot.Stored.{Stored}
 use Rattle.zk_table.specs.Index.{AllBut}
 use Rattle.zk_table.specs.Kept.{order_at}
-use Rattle.zk_table.specs.Slots.{occupied}
+use Rattle.zk_table.specs.Slots.{occupied, turn_at}
 use Rattle.zk_table.proofs.ChangeLemmas.{is_some-due_from, tree_after}
 use Rattle.zk_table.proofs.OperationLemmas.{adds-from, insert-added, refused, widened}
 use Rattle.zk_table.proofs.entries.Entries.add.Goals as goal
@@ -49,6 +49,6 @@ returns-clause-ok c = λ kept none.
     widens.expiry (c.in-Some-Some.ensures.1) (c.in-Some-Some.ensures'.1)
     (ap length (with_items_is mid.firsts c.reorder.new.firsts long) ∙ long ∙ mid.firsts.ok.0)
     (c.in_ok-widen.ensures.long kept) (is_some-due_from old.expiry c.args.now)
-    (λ all. tree_after c.push.new.self.items c.deref.result.now mid.firsts c.deref_mut.result.now c.reorder.new.firsts c.len-place.result
-    c.deref.ensures.value c.deref_mut.ensures.value long c.reorder.ensures
-    (subst (λ n. AllBut c.push.new.self.items mid.firsts.items n) place all)))
+    (λ all. tree_after c.push.new.self.items c.push.new.self.items mid.firsts c.deref_mut.result.now c.reorder.new.firsts c.len-place.result
+    refl c.deref_mut.ensures.value long c.reorder.ensures
+    (subst (λ n. AllBut (turn_at c.push.new.self.items) mid.firsts.items n) place all)))

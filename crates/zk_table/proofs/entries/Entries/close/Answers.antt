@@ -17,6 +17,6 @@ returns c = record {
       let long : length c.rebuild.new.firsts ≡ c.truncate.new.self.len = omega arith in
       let cut : length c.rebuild.new.firsts ≡ min (length c.retain.new.self.items) (length old.firsts.items) = omega arith in
       closed old _ kept slots refl refl refl refl (ap length (with_items_is c.truncate.new.self c.rebuild.new.firsts long) ∙ cut)
-      (tree_rebuilt c.retain.new.self.items c.deref.result.now c.truncate.new.self c.deref_mut.result.now c.rebuild.new.firsts
-      c.deref.ensures.value c.deref_mut.ensures.value long c.rebuild.ensures.tree);
+      (tree_rebuilt c.retain.new.self.items c.retain.new.self.items c.truncate.new.self c.deref_mut.result.now c.rebuild.new.firsts
+      refl c.deref_mut.ensures.value long c.rebuild.ensures.tree);
 }

@@ -25,5 +25,5 @@ returns c = λ order was there some.
     empties-from old _ c.args.place order was there (ap (set old.slots.items c.args.place) slot)
     (λ key. c.swap_remove.ensures.updates.0 key ∙ ap (λ (s : Stored). cond ((key_eq.ghosts).eq s.key key) None (keyed.get ((key_eq.ghosts).eq) old.orders key)) same)
     refl refl c.saturating_sub-self.ensures some (ap length (with_items_is old.firsts c.reorder.new.firsts long) ∙ long ∙ old.firsts.ok.0)
-    (λ all. tree_after (set old.slots.items c.args.place c.take.new.self) c.deref.result.now old.firsts c.deref_mut.result.now c.reorder.new.firsts c.args.place
-    c.deref.ensures.value c.deref_mut.ensures.value long c.reorder.ensures all)
+    (λ all. tree_after (set old.slots.items c.args.place c.take.new.self) (set old.slots.items c.args.place c.take.new.self) old.firsts c.deref_mut.result.now c.reorder.new.firsts c.args.place
+    refl c.deref_mut.ensures.value long c.reorder.ensures all)

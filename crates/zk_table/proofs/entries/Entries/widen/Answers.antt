@@ -1,6 +1,7 @@
 use Rattle.std.proofs.Common.{◌∷◌, [], None, ◌∙◌, refl, sym, ap, subst, arith, length}
 use Rattle.std.proofs.Common.{length-append}
 use Rattle.zk_table.specs.Index.{IsTree}
+use Rattle.zk_table.specs.Slots.{turn_at}
 use Rattle.zk_table.proofs.TurnLemmas.{tree-longer}
 use Rattle.zk_table.proofs.entries.Entries.widen.Goals as goal
 
@@ -15,8 +16,8 @@ returns-in_ok-push-clause-same c =
       insertions = refl;
       live = refl;
       long = omega (arith, long);
-      tree = λ kept. subst (λ xs. IsTree xs c.push.new.self.items) (sym c.reserve.ensures.items)
-          (subst (λ fs. IsTree c.args.self.now.slots.items fs) (sym longer) (tree-longer c.args.self.now.slots.items c.args.self.now.firsts.items kept.tree));
+      tree = λ kept. subst (λ xs. IsTree (turn_at xs) c.push.new.self.items) (sym c.reserve.ensures.items)
+          (subst (λ fs. IsTree (turn_at c.args.self.now.slots.items) fs) (sym longer) (tree-longer (turn_at c.args.self.now.slots.items) c.args.self.now.firsts.items kept.tree));
     }
 
 pub returns-in_ok-push-clause-long : goal.returns-in_ok-push-clause-long

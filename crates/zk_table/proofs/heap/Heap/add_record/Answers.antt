@@ -1,16 +1,11 @@
-use Rattle.std.proofs.Common.{map, sym, ◌∙◌}
+use Rattle.std.proofs.Common.{map, refl}
 use Rattle.zk_tree.specs.Store as object
 use Rattle.zk_value.specs.Plain.{field_of}
-use Rattle.zk_table.proofs.HeapLemmas.{view_added, number_in, counts_added}
+use Rattle.zk_table.proofs.DueLemmas.{indexed-added}
 use Rattle.zk_table.proofs.heap.Heap.add_record.Goals as goal
 
 pub invariant_of-self : goal.invariant_of-self
 invariant_of-self c =
-    counts_added c.add_record.result c.self.inside.store c.add_record.new.self (object.Record c.args.of (map field_of c.args.fields.items)) c.add_record.ensures.ok c.add_record.ensures.err ∙ c.self.invariant
-
-pub returns-clause-number : goal.returns-clause-number
-returns-clause-number c = number_in c.add_record.result c.self.inside.store c.self.inside.tables.items c.args.self.now (sym c.self.view_is) c.add_record.ensures.number
-
-pub returns-clause-ok : goal.returns-clause-ok
-returns-clause-ok c =
-    view_added c.add_record.result c.self.inside.store c.add_record.new.self c.self.inside.tables.items c.args.self.now (object.Record c.args.of (map field_of c.args.fields.items)) (sym c.self.view_is) c.add_record.ensures.ok
+    let s = c.self.inside in
+    indexed-added c.add_record.result s.objects c.add_record.new.self (object.Record c.args.of (map field_of c.args.fields.items)) s.firsts.items refl
+    c.add_record.ensures.ok c.add_record.ensures.err c.self.invariant

@@ -1,30 +1,29 @@
-use Rattle.std.proofs.Common.{◌++◌, ◌∷◌, [], length, None, sym, ap, ◌∙◌, arith, length-append}
-use Rattle.zk_tree.specs.Store as object
-use Rattle.zk_value.specs.Objects.{tables_in, with_tables}
-use Rattle.zk_value.proofs.TableLemmas.{length-with_tables, table_added-with_tables}
-use Rattle.zk_table.proofs.HeapLemmas.{counts_table}
+use Rattle.std.proofs.Common.{◌≡◌, ◌<◌, ◌≤◌, ℕ, length, sym, ap, subst, ◌∙◌, arith}
+use Rattle.zk_table.specs.Dues.{IsIndexed}
+use Rattle.zk_table.proofs.DueLemmas.{indexed-longer, indexed-new, never-beyond}
 use Rattle.zk_table.proofs.heap.Heap.add_table.Goals as goal
+
+-- no room
+pub invariant_of-self : goal.invariant_of-self
+invariant_of-self c =
+    let s = c.self.inside in
+    indexed-longer s.objects s.firsts.items c.make_room.new.firsts.items c.make_room.ensures.tree c.make_room.ensures.long c.self.invariant
+
+-- no memory for the table
+pub invariant_of-self-in_err-number : goal.invariant_of-self-in_err-number
+invariant_of-self-in_err-number c =
+    let s = c.self.inside in
+    subst (λ os. IsIndexed os c.make_room.new.firsts.items) (sym c.in_err-number.ensures.err)
+    (indexed-longer s.objects s.firsts.items c.make_room.new.firsts.items c.make_room.ensures.tree c.make_room.ensures.long c.self.invariant)
 
 pub invariant_of-self-2 : goal.invariant_of-self-2
 invariant_of-self-2 c =
     let s = c.self.inside in
-    let more = ap tables_in c.in_ok-number.ensures.ok in
-    let counted = counts_table s.store in
-    let pushed = ap length c.in-Ok.ensures.items in
-    let kept = ap length c.reserve.ensures.items in
-    let one = length-append c.reserve.new.self.items (c.args.table ∷ []) in
-    omega (arith, more, counted, pushed, kept, one, c.self.invariant)
-
-pub returns-clause-number : goal.returns-clause-number
-returns-clause-number c =
-    let s = c.self.inside in
-    c.in_ok-number.ensures.number ∙ (sym (length-with_tables s.store s.tables.items) ∙ ap length c.self.view_is)
-
-pub returns-clause-ok : goal.returns-clause-ok
-returns-clause-ok c =
-    let s = c.self.inside in
-    let tables = c.in-Ok.ensures.items ∙ ap (λ ts. ts ++ c.args.table ∷ []) c.reserve.ensures.items in
-    ap (λ os. with_tables os c.push.new.self.items) c.in_ok-number.ensures.ok
-    ∙ (ap (with_tables (s.store ++ None ∷ [])) tables
-    ∙ (table_added-with_tables s.store s.tables.items c.args.table c.self.invariant
-    ∙ ap (λ os. os ++ object.Table c.args.table ∷ []) c.self.view_is))
+    let firsts = c.make_room.new.firsts in
+    let longer = indexed-longer s.objects s.firsts.items firsts.items c.make_room.ensures.tree c.make_room.ensures.long c.self.invariant in
+    let last : c.in_ok-number.number.0 ≡ length s.objects = c.in_ok-number.ensures.number in
+    indexed-new s.objects c.add_table.new.self c.args.table firsts c.deref_mut.result.now c.reorder.new.firsts c.in_ok-number.number.0 last
+    (λ past. never-beyond c.args.table c.expiry.result (length firsts.items) (length s.objects) c.expiry.ensures.expiry c.expiry.ensures.never
+    (λ some. subst (λ n. n < length firsts.items) c.len.ensures (c.in_ok-make_room.ensures.room (c.is_some-expires.ensures ∙ some)))
+    (subst (λ n. length firsts.items ≤ n) last past))
+    c.in_ok-number.ensures.ok c.deref_mut.ensures.value (omega arith) c.reorder.ensures longer

@@ -2,7 +2,7 @@ use Rattle.std.proofs.Common.{map, refl, sym}
 use Rattle.zk_tree.specs.Store as object
 use Rattle.zk_value.specs.Plain.{key_of, field_of}
 use Rattle.zk_table.proofs.HeapLemmas.{no_table_object, no_table_none}
-use Rattle.zk_table.proofs.heap.place.Goals as goal
+use Rattle.zk_table.proofs.objects.place.Goals as goal
 
 pub returns-in-Record-clause-none : goal.returns-in-Record-clause-none
 returns-in-Record-clause-none c =

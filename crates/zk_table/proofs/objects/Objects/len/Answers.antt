@@ -1,6 +1,6 @@
 use Rattle.std.proofs.Common.{length, ap, sym, ◌∙◌}
 use Rattle.zk_value.proofs.TableLemmas.{length-with_tables}
-use Rattle.zk_table.proofs.heap.Heap.len.Goals as goal
+use Rattle.zk_table.proofs.objects.Objects.len.Goals as goal
 
 pub returns : goal.returns
 returns c =

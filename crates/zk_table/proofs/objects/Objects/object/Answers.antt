@@ -3,7 +3,7 @@ use Rattle.std.proofs.lemmas.Option.{slice_get_read}
 use Rattle.zk_tree.specs.Store as object
 use Rattle.zk_value.specs.Plain.{key_of, field_of}
 use Rattle.zk_table.proofs.HeapLemmas.{object_is, table_is, none-with_tables, place_inside}
-use Rattle.zk_table.proofs.heap.Heap.object.Goals as goal
+use Rattle.zk_table.proofs.objects.Objects.object.Goals as goal
 
 pub returns-in-Record : goal.returns-in-Record
 returns-in-Record c = let s = c.self.inside in

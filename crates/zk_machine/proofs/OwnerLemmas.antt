@@ -1,0 +1,158 @@
+-- The globals that name objects, and those that are noted.
+use Rattle.std.proofs.Common.{◌≡◌, ℕ, zero, suc, ◌-◌, ◌<◌, ◌≤◌, ⊎_elim, List, [], ◌∷◌, ◌++◌, length, get_or, slice_get, slice_set, replicate, Option, Some, None, Result, Ok, Err, refl, sym, ap, subst, ◌∙◌, arith}
+use Rattle.std.specs.Prelude.{IfSome}
+use Rattle.std.specs.List.Sorted.{IsBinarySearchResult, IsSearchInRange}
+use Rattle.std.specs.Option.{option_map}
+use Rattle.std.specs.Ordering.{nat_cmp}
+use Rattle.std.specs.Result.{result_ok}
+use Rattle.std.proofs.lemmas.Bool.{cases_eq, cases_lt}
+use Rattle.std.proofs.lemmas.Option.{slice_get-get_or, slice_get_within}
+use Rattle.zk_base.specs.declared.numbers.ObjectNo.{ObjectNo}
+use Rattle.zk_table.proofs.TurnLemmas.{slice_get-push_other, slice_get-push_same, slice_get-set_other, slice_get-set_same}
+use Rattle.zk_tree.specs.Value.{Value}
+use Rattle.zk_typed.specs.Does.{named}
+use Rattle.zk_machine.specs.Entries.{object_named}
+use Rattle.zk_machine.specs.Owners.{AreNoted, IsNoted, IsOwner, Rises, RisesTo, object_of}
+use Rattle.zk_machine.specs.declared.globals.Owner.{Owner}
+use Rattle.zk_machine.proofs.DefaultLemmas.{equal_is}
+
+same_owner : (a b : Owner) → Some a ≡ Some b → a ≡ b
+same_owner a b e = cc
+
+pub same_object : (a b : ObjectNo) → Some a ≡ Some b → a ≡ b
+same_object a b e = cc
+
+pub none_some : {A : Type 0} {o : Option A} {a : A} → o ≡ None → o ≡ Some a → ⊥
+none_some none some = cc
+
+-- One more that is noted -------------------------------------------------------------------------------------------
+
+-- whose numbers are above those of all others
+pub rises-push : (owners : List Owner) (owner : Owner) → Rises owners → ((place : ℕ) (one : Owner) → slice_get owners place ≡ Some one → RisesTo one owner) → Rises (owners ++ owner ∷ [])
+rises-push owners owner rises last = λ place later one other before here there. ⊎_elim
+    (λ ends.
+    let is : slice_get (owners ++ owner ∷ []) later ≡ Some owner = ap (slice_get (owners ++ owner ∷ [])) ends ∙ slice_get-push_same owners owner in
+    let inside : place < length owners = omega (arith, before, ends) in
+    let old : slice_get owners place ≡ Some one = sym (slice_get-push_other owners owner place (λ e. omega (arith, e, inside))) ∙ here in
+    subst (λ (it : Owner). RisesTo one it) (same_owner owner other (sym is ∙ there)) (last place one old))
+    (λ apart.
+    let within : later < length (owners ++ owner ∷ []) = slice_get_within (owners ++ owner ∷ []) later other there in
+    let long = longer owners in
+    let inside : place < length owners = omega (arith, before, apart, within, long) in
+    rises place later one other before
+    (sym (slice_get-push_other owners owner place (λ e. omega (arith, e, inside))) ∙ here)
+    (sym (slice_get-push_other owners owner later apart) ∙ there))
+    (cases_eq later (length owners))
+  where
+    longer : (xs : List Owner) → length (xs ++ owner ∷ []) ≡ suc (length xs)
+    longer [] = refl
+    longer (x ∷ xs) = ap suc (longer xs)
+
+pub kept-push : (owners : List Owner) (owner one : Owner) → IsNoted one owners → IsNoted one (owners ++ owner ∷ [])
+kept-push owners owner one is =
+    let within = slice_get_within owners is.0 one is.1 in
+    (is.0, slice_get-push_other owners owner is.0 (λ e. omega (arith, e, within)) ∙ is.1)
+
+pub noted-push : (owners : List Owner) (owner : Owner) → IsNoted owner (owners ++ owner ∷ [])
+noted-push owners owner = (length owners, slice_get-push_same owners owner)
+
+-- the last has the greatest numbers
+pub last-greatest : (owners : List Owner) (last owner : Owner) → slice_get owners (length owners - 1) ≡ Some last → RisesTo last owner → Rises owners
+    → (other : ℕ) (one : Owner) → slice_get owners other ≡ Some one → RisesTo one owner
+last-greatest owners last owner there rises all other one here = ⊎_elim
+    (λ same. subst (λ (it : Owner). RisesTo it owner) (same_owner last one (sym there ∙ (ap (slice_get owners) (sym same) ∙ here))) rises)
+    (λ apart.
+    let within = slice_get_within owners other one here in
+    let before = all other (length owners - 1) one last (omega (arith, within, apart)) here there in
+    (omega (arith, before.0, rises.0), omega (arith, before.1, rises.1)))
+    (cases_eq other (length owners - 1))
+
+-- where there is no last one, there is none
+pub none-last : (owners : List Owner) → slice_get owners (length owners - 1) ≡ None → (other : ℕ) (one : Owner) → slice_get owners other ≡ Some one → ⊥
+none-last owners none other one here =
+    let within = slice_get_within owners other one here in
+    none_some none (slice_get-get_or owners (length owners - 1) one (omega (arith, within)))
+
+-- A global that names something else -------------------------------------------------------------------------------
+
+object_of-other : (values : List (Option Value)) (global other : ℕ) (value : Option Value) → (other ≡ global → ⊥) → object_of (slice_set values global value) other ≡ object_of values other
+object_of-other [] global other value apart = refl
+object_of-other (one ∷ values) zero zero value apart = absurd (apart refl)
+object_of-other (one ∷ values) zero (suc other) value apart = refl
+object_of-other (one ∷ values) (suc global) zero value apart = refl
+object_of-other (one ∷ values) (suc global) (suc other) value apart = object_of-other values global other value (λ e. apart (ap suc e))
+
+-- the global itself names what it is given, if it is there
+object_of-same : (values : List (Option Value)) (global : ℕ) (value : Option Value) (object : ObjectNo) → object_of (slice_set values global value) global ≡ Some object
+    → object_named value ≡ Some object
+object_of-same [] global value object is = cc
+object_of-same (one ∷ values) zero value object is = is
+object_of-same (one ∷ values) (suc global) value object is = object_of-same values global value object is
+
+-- where what it is to name is noted, all are
+pub noted-set : (values : List (Option Value)) (owners news : List Owner) (limit below global : ℕ) (value : Option Value)
+    → (Rises owners → Rises news) → (Rises owners → (one : Owner) → IsNoted one owners → IsNoted one news) → below ≤ limit
+    → (AreNoted values owners limit → (object : ObjectNo) → object_named value ≡ Some object → object.0 < below → IsNoted (record { object = object; global = global }) news)
+    → AreNoted values owners limit → AreNoted (slice_set values global value) news below
+noted-set values owners news limit below global value rises kept less own noted = record {
+  rises = rises noted.rises;
+  noted = λ other object names under. ⊎_elim
+      (λ here. subst (λ n. IsNoted (record { object = object; global = n }) news) (sym here)
+      (own noted object (object_of-same values global value object (subst (λ n. object_of (slice_set values global value) n ≡ Some object) here names)) under))
+      (λ apart. kept noted.rises (record { object = object; global = other })
+      (noted.noted other object (sym (object_of-other values global other value apart) ∙ names) (omega (arith, under, less))))
+      (cases_eq other global);
+}
+
+-- The owner of an object -------------------------------------------------------------------------------------------
+
+pub searched-owner : (object : ℕ) (owners : List Owner) (r : Result ℕ ℕ) → IsSearchInRange r (length owners) → IsBinarySearchResult (λ (it : Owner). nat_cmp it.object.0 object) owners r
+    → IfSome (result_ok r) (λ place. option_map (λ (one : Owner). one.object.0) (slice_get owners place) ≡ Some object)
+searched-owner object owners (Err i) range is = tt
+searched-owner object [] (Ok i) range is = absurd (no_less range)
+  where
+    no_less : {n : ℕ} → n < 0 → ⊥
+    no_less lt = omega (arith, lt)
+searched-owner object (first ∷ owners) (Ok i) range is =
+    ap (option_map (λ (one : Owner). one.object.0)) (slice_get-get_or (first ∷ owners) i first range)
+    ∙ ap (λ n. Some n) (equal_is (get_or (first ∷ owners) i first).object.0 object (is first))
+
+-- the one in the place that was found
+pub noted-at : (owners : List Owner) (place : ℕ) (object : ObjectNo) (owner : Owner) → option_map (λ (one : Owner). one.object.0) (slice_get owners place) ≡ Some object.0
+    → slice_get owners place ≡ Some owner → IsNoted (record { object = object; global = owner.global }) owners
+noted-at owners place object owner found there =
+    let number : owner.object.0 ≡ object.0 = same (owner.object.0) (object.0) (sym (ap (option_map (λ (one : Owner). one.object.0)) there) ∙ found) in
+    (place, there ∙ ap (λ n. let named : ObjectNo = record { 0 = n } in let one : Owner = record { object = named; global = owner.global } in Some one) number)
+  where
+    same : (a b : ℕ) → Some a ≡ Some b → a ≡ b
+    same a b e = cc
+
+-- one that is noted and still names the object is its owner
+pub owner-is : (values : List (Option Value)) (owners : List Owner) (limit end global : ℕ) (object : ObjectNo) → AreNoted values owners limit → end ≤ limit
+    → IsNoted (record { object = object; global = global }) owners → object_of values global ≡ Some object → IsOwner values global object.0 end
+owner-is values owners limit end global object noted less own names = record {
+  names = names;
+  first = λ other later is above under.
+      let place = noted.noted other later is (omega (arith, under, less)) in
+      ⊎_elim
+      (λ before. let rises = noted.rises place.0 own.0 (record { object = later; global = other }) (record { object = object; global = global }) before place.1 own.1 in
+      absurd (omega (arith, rises.0, above)))
+      (λ behind. ⊎_elim
+      (λ same. let e = ap (λ (it : Owner). it.global) (same_owner (record { object = object; global = global }) (record { object = later; global = other }) (sym own.1 ∙ (ap (slice_get owners) (sym same) ∙ place.1))) in omega (arith, e))
+      (λ apart. let rises = noted.rises own.0 place.0 (record { object = object; global = global }) (record { object = later; global = other }) (omega (arith, behind, apart)) own.1 place.1 in
+      omega (arith, rises.1))
+      (cases_eq place.0 own.0))
+      (cases_lt place.0 own.0);
+}
+
+-- no global names an object before any has a value
+none-named : (count : ℕ) (global : ℕ) (object : ObjectNo) → object_of (replicate count None) global ≡ Some object → ⊥
+none-named zero global object is = none_some refl is
+none-named (suc count) zero object is = none_some refl is
+none-named (suc count) (suc global) object is = none-named count global object is
+
+pub none-owned : (count limit : ℕ) (values : List (Option Value)) (owners : List Owner) → owners ≡ [] → values ≡ replicate count None → AreNoted values owners limit
+none-owned count limit values owners none is = record {
+  rises = λ place later one other before here there. absurd (none_some (ap (λ os. slice_get os place) none) here);
+  noted = λ global object names under. absurd (none-named count global object (sym (ap (λ vs. object_of vs global) is) ∙ names));
+}

@@ -1,7 +1,0 @@
-use Rattle.std.proofs.Common.{◌≡◌, ◌++◌, drop}
-use Rattle.zk_machine.specs.Agenda.{entry_dues, event_dues, first_of}
-use Rattle.zk_machine.specs.State.{world_of}
-use Rattle.zk_machine.proofs.world.World.due.Given as goal
-
-abbrev pub invariant-loop-index : goal.invariant-loop-index
-invariant-loop-index l = l.first ≡ first_of (entry_dues (world_of l.self) (drop l.index l.globals) ++ event_dues (world_of l.self))

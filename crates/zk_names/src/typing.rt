@@ -350,13 +350,13 @@ pub fn named_type(
     ensures { Tells type_of result (spec.type_of_name (spec.type_to depth (scripts_in names.now)) (scripts_in names.now) (home_of home.entry) name.now) }
 {
     let place = place_in(home, name.place);
-    let Some(one) = names.look_up(alloc, home.module_name, name.text.as_slice())? else {
+    let Some((at, one)) = names.place_of(alloc, home.module_name, name.text.as_slice())? else {
         return Err(Refusal::Broken(one_broken(alloc, Rule::Unknown, place)?));
     };
     match &one.meant {
         Meant::KnownType { known } => Ok(copied_type(alloc, known)?),
         Meant::WrittenType { home: other, tree } => {
-            if names.is_circular(alloc, &one.name, *other, tree)? {
+            if names.is_circle(alloc, at)? {
                 return Err(Refusal::Broken(Items::new(alloc)));
             }
             let behind = behind_names(alloc, depth, names, *other, tree);

@@ -63,19 +63,21 @@ longer old new one place long pushed = ap length pushed ∙ omega (arith, long, 
 
 pub more_steps : (names : List Declared) (old new : List (Vec ℕ Global)) (more : Vec ℕ Global) (place : ℕ) → (length old ≡ place) × AreSteps old names → more.items ≡ steps names place → new ≡ old ++ more ∷ [] →
     (length new ≡ place + 1) × AreSteps new names
-more_steps names old new more place before here pushed =
-    (longer old new more place before.0 pushed,
-    subst (λ (x : List (Vec ℕ Global)). AreSteps x names) (sym pushed)
-    (all_more (λ (at : ℕ) (one : Vec ℕ Global). one.items ≡ steps names at) old more before.1 (here ∙ ap (steps names) (sym before.0))))
+more_steps names old new more place before here pushed = (
+  longer old new more place before.0 pushed,
+  subst (λ (x : List (Vec ℕ Global)). AreSteps x names) (sym pushed)
+      (all_more (λ (at : ℕ) (one : Vec ℕ Global). one.items ≡ steps names at) old more before.1 (here ∙ ap (steps names) (sym before.0))),
+)
 
 pub more_circles : (names : List Declared) (old new : List Bool) (circle : Bool) (place : ℕ) → (length old ≡ place) × AreCircles old names →
     ((scripts : Scripts) → scripts.names ≡ names → circle ≡ is_circle scripts (slice_get scripts.names place)) → new ≡ old ++ circle ∷ [] →
     (length new ≡ place + 1) × AreCircles new names
-more_circles names old new circle place before here pushed =
-    (longer old new circle place before.0 pushed,
-    subst (λ (x : List Bool). AreCircles x names) (sym pushed)
-    (λ scripts e. all_more (λ (at : ℕ) (one : Bool). one ≡ is_circle scripts (slice_get names at)) old circle (before.1 scripts e)
-    (here scripts e ∙ ap (λ (x : List Declared). is_circle scripts (slice_get x place)) e ∙ ap (λ (at : ℕ). is_circle scripts (slice_get names at)) (sym before.0))))
+more_circles names old new circle place before here pushed = (
+  longer old new circle place before.0 pushed,
+  subst (λ (x : List Bool). AreCircles x names) (sym pushed)
+      (λ scripts e. all_more (λ (at : ℕ) (one : Bool). one ≡ is_circle scripts (slice_get names at)) old circle (before.1 scripts e)
+      (here scripts e ∙ ap (λ (x : List Declared). is_circle scripts (slice_get x place)) e ∙ ap (λ (at : ℕ). is_circle scripts (slice_get names at)) (sym before.0))),
+)
 
 at_lent : (items : List LentDeclared) (place : ℕ) (found : Option LentDeclared) → found ≡ slice_get items place → (scripts : Scripts) → scripts.names ≡ declared_lent items →
     slice_get scripts.names place ≡ option_map declared_of found

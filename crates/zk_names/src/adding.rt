@@ -87,11 +87,7 @@ fn add_stated(
 }
 
 /// The places of declarations among some, by the record types to which they add fields.
-fn all_stated(
-    alloc: Global,
-    names: &Names<'_>,
-    stated: &[Stated<'_>],
-) -> Result<Additions, Mem>
+fn all_stated(alloc: Global, names: &Names<'_>, stated: &[Stated<'_>]) -> Result<Additions, Mem>
     ensures { IfOk result (λ made. (number : ℕ) → added_at made number ≡ passing (adds (scripts_in names.now) number) (stated_lent stated.now)) }
 {
     let mut additions = Additions::new(alloc);

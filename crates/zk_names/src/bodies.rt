@@ -136,12 +136,7 @@ fn round_of(one: Stated<'_>) -> u8
 }
 
 /// Adds what the body of a declaration declares, in its round.
-fn add_body<'a>(
-    alloc: Global,
-    round: u8,
-    one: Stated<'a>,
-    table: &mut Table<'a>,
-) -> Result<(), Mem>
+fn add_body<'a>(alloc: Global, round: u8, one: Stated<'a>, table: &mut Table<'a>) -> Result<(), Mem>
     ensures { OnOk result (declared_lent table.new.names.items ≡ with_body round (declared_lent table.old.names.items) (stated_of one.entry)) }
 {
     if round_of(one) != round {

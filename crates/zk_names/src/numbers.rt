@@ -51,11 +51,7 @@ fn add_name(
 }
 
 /// Where names stand first among those of a kind.
-fn names_of(
-    alloc: Global,
-    kind: Kind,
-    names: &[Declared<'_>],
-) -> Result<FirstPlaces<Whole>, Mem>
+fn names_of(alloc: Global, kind: Kind, names: &[Declared<'_>]) -> Result<FirstPlaces<Whole>, Mem>
     ensures { IfOk result (λ found. Stands bytes_eq found (names_of kind (declared_lent names.now))) }
 {
     let mut found = FirstPlaces::new(alloc);
@@ -81,11 +77,7 @@ fn add_spot(
 }
 
 /// Where record types stand first among their kind, or enums.
-fn spots(
-    alloc: Global,
-    records: bool,
-    nodes: &[Node<'_>],
-) -> Result<FirstPlaces<(usize, u64)>, Mem>
+fn spots(alloc: Global, records: bool, nodes: &[Node<'_>]) -> Result<FirstPlaces<(usize, u64)>, Mem>
     ensures { IfOk result (λ found. Stands spot_eq found (spots records (nodes_lent nodes.now))) }
 {
     let mut found = FirstPlaces::new(alloc);

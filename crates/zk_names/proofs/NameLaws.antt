@@ -18,7 +18,9 @@ abbrev pub IsRead : List ℕ → ℕ → Type 0
 IsRead name at = module_in (drop at name) ≡ None
 
 pub read_none : (name : List ℕ) → IsRead name (length name)
-read_none name = ap module_in (drop_of_length-le name search)
+read_none name =
+    let all : length name ≤ length name = omega arith in
+    ap module_in (drop_of_length-le name all)
 
 opened : (name : List ℕ) (at : ℕ) → at < length name → drop at name ≡ get_or name at 0 ∷ drop (at + 1) name
 opened name at within = rw add-one (drop-cons name at 0 within)

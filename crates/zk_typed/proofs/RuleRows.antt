@@ -488,7 +488,6 @@ a_text_of_another_type :
 unfolding file handler told name trees depth_max
 a_text_of_another_type = refl
 
-
 -- event zeek_init() { local s = VALUE; }
 local_value : Expr → List File
 local_value value = file (handler (stmt.Local 20 (name 26 (codes "s")) None (Some (init.Value value)) ∷ []) ∷ [])

@@ -8,6 +8,7 @@ pub mod GatherLaws
 pub mod SearchLaws
 pub mod LeadLaws
 pub mod TypeLaws
+pub mod FollowLaws
 pub mod FieldLaws
 pub mod AddLaws
 pub mod BodyLaws

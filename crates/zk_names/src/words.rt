@@ -117,7 +117,6 @@ fn add_words_in<'a>(
 }
 
 /// Adds the words that `redef enum` adds.
-#[tactic(auto, using(crate::proofs::BodyLaws::words_is))]
 fn add_added_words<'a>(
     alloc: Global,
     known: &Names<'_>,

@@ -1,4 +1,4 @@
-use Rattle.std.proofs.Common.{suc, ◌<◌, length, Some, ap, sym, ◌∙◌, arith}
+use Rattle.std.proofs.Common.{suc, ◌<◌, length, ap, sym, ◌∙◌, arith}
 use Rattle.std.specs.Option.{option_map}
 use Rattle.zk_typed.specs.Resolving.{followed}
 use Rattle.zk_names.specs.Lent.{home_of, text_lent}

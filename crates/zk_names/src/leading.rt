@@ -218,19 +218,28 @@ pub fn all_steps(alloc: Global, table: &Table<'_>) -> Result<Vec<Vec<usize>>, Me
     Ok(all)
 }
 
+/// Whether the name at a place leads back to itself, by a search.
+fn searched_circle(alloc: Global, table: &Table<'_>, place: usize) -> Result<bool, Mem>
+    ensures { IfOk result (λ found. (scripts : Scripts) → scripts.names ≡ declared_lent table.now.names.items → found ≡ is_circle scripts (slice_get scripts.names place)) }
+{
+    match at(&table.names, place) {
+        Some(one) => {
+            let starts = steps(alloc, table, place)?;
+            let found = search(alloc, table, one.name.as_slice(), &starts)?;
+            Ok(found)
+        }
+        None => Ok(false),
+    }
+}
+
 /// Whether the name at a place leads back to itself.
 pub fn is_circle(alloc: Global, table: &Table<'_>, place: usize) -> Result<bool, Mem>
     ensures { IfOk result (λ found. (scripts : Scripts) → scripts.names ≡ declared_lent table.now.names.items → found ≡ is_circle scripts (slice_get scripts.names place)) }
 {
-    if let Some(found) = table.circle_at(place) {
-        return Ok(found);
+    match table.circle_at(place) {
+        Some(found) => Ok(found),
+        None => searched_circle(alloc, table, place),
     }
-    let Some(one) = at(&table.names, place) else {
-        return Ok(false);
-    };
-    let starts = steps(alloc, table, place)?;
-    let found = search(alloc, table, one.name.as_slice(), &starts)?;
-    Ok(found)
 }
 
 /// Whether each name leads back to itself.

@@ -1,4 +1,4 @@
-ghost use Rattle.std.specs.Prelude.{◌≡◌, Some, slice_get, IfOk, IfSome};
+ghost use Rattle.std.specs.Prelude.{◌≡◌, slice_get, IfOk};
 ghost use Rattle.std.specs.List.{list_any};
 ghost use Rattle.std.specs.Option.{option_map};
 ghost use Rattle.zk_typed.specs.Names.{enum_number, find_whole, look_up, record_number};
@@ -6,7 +6,7 @@ ghost use Rattle.zk_typed.specs.Resolving as spec;
 ghost use Rattle.zk_typed.specs.Typing.{number_among};
 ghost use Rattle.zk_typed.specs.Within.{mentions};
 ghost use Rattle.zk_names.specs.Kinds.{is_of};
-ghost use Rattle.zk_names.specs.Leading.{is_circle};
+ghost use Rattle.zk_names.specs.Leading.{is_circle, place_up};
 ghost use Rattle.zk_names.specs.Lent.{declared_lent, declared_of, home_of, nodes_lent, stated_lent};
 ghost use Rattle.zk_names.specs.Scripted.{scripts_in};
 
@@ -56,23 +56,23 @@ impl<'a> Names<'a> {
         self.table.look_up(alloc, from_module, name)
     }
 
-    /// What a name means in a module, with its place among the names.
+    /// Where the name stands among the names that a name means in a module.
     pub(crate) fn place_of(
         &self,
         alloc: Global,
         from_module: &[u8],
         name: &[u8],
-    ) -> Result<Option<(usize, &Declared<'a>)>, Mem>
-        ensures found { IfOk result (λ found. option_map (λ one. declared_of one.1.now) found ≡ look_up (scripts_in self.now).names from_module.now name.now) }
-        ensures place { IfOk result (λ found. IfSome found (λ one. slice_get (scripts_in self.now).names one.0 ≡ Some (declared_of one.1.now))) }
+    ) -> Result<Option<usize>, Mem>
+        ensures { IfOk result (λ place. place ≡ place_up (scripts_in self.now).names from_module.now name.now) }
     {
-        let Some(place) = self.table.place_of(alloc, from_module, name)? else {
-            return Ok(None);
-        };
-        match at(&self.table.names, place) {
-            Some(one) => Ok(Some((place, one))),
-            None => Ok(None),
-        }
+        self.table.place_of(alloc, from_module, name)
+    }
+
+    /// The name at a place.
+    pub(crate) fn name_at(&self, place: usize) -> Option<&Declared<'a>>
+        ensures { option_map (λ one. declared_of one.now) result ≡ slice_get (scripts_in self.now).names place }
+    {
+        at(&self.table.names, place)
     }
 
     /// Whether the name at a place is that of a declared type that leads back to it.

@@ -1,9 +1,10 @@
 -- An index tells where names stand in a list.
-use Rattle.std.specs.Prelude.{◌≡◌, ℕ, suc, Bool, true, false, ◌&&◌, List, [], ◌∷◌, Option, Some, None, if◌then◌else◌}
+use Rattle.std.specs.Prelude.{◌≡◌, ℕ, suc, Bool, true, false, ◌&&◌, List, [], ◌∷◌, ◌++◌, map, flat_map, slice_get, Option, Some, None, if◌then◌else◌}
 use Rattle.std.specs.HashMap.{get}
 use Rattle.std.specs.Option.{option_map}
 use Rattle.std.specs.Str.{bytes_eq}
 use Rattle.zk_typed.specs.Names.{Declared}
+use Rattle.zk_typed.specs.Within.{maybe_one}
 use Rattle.zk_names.specs.declared.index.Index.{Index}
 use Rattle.zk_names.specs.declared.index.Slot.{Slot}
 
@@ -11,6 +12,15 @@ use Rattle.zk_names.specs.declared.index.Slot.{Slot}
 abbrev pub first_place : {A : Type 0} → (A → Bool) → List A → Option ℕ
 first_place passes [] = None
 first_place passes (one ∷ others) = if passes one then Some 0 else option_map suc (first_place passes others)
+
+-- where those stand that pass
+abbrev pub passing : {A : Type 0} → (A → Bool) → List A → List ℕ
+passing passes [] = []
+passing passes (one ∷ others) = (if passes one then 0 ∷ [] else []) ++ map suc (passing passes others)
+
+-- what stands at places
+abbrev pub at_places : {A : Type 0} → List A → List ℕ → List A
+at_places items places = flat_map (λ place. maybe_one (slice_get items place)) places
 
 abbrev pub or_else : Option ℕ → Option ℕ → Option ℕ
 or_else (Some place) other = Some place

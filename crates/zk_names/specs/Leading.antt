@@ -1,10 +1,13 @@
 -- Where names lead by way of the types that they are declared as, with each declared name by its place.
-use Rattle.std.specs.Prelude.{ℕ, Bool, false, ◌&&◌, ◌||◌, List, [], flat_map, Option, Some, None, slice_get}
+use Rattle.std.specs.Prelude.{◌≡◌, ℕ, Bool, false, ◌&&◌, ◌||◌, List, [], flat_map, Option, Some, None, slice_get}
+use Rattle.std.specs.declared.alloc.Global.{Global}
+use Rattle.std.specs.declared.vec.Vec.{Vec}
+use Rattle.std.specs.List.{list_any}
 use Rattle.std.specs.Str.{bytes_eq}
 use Rattle.zk_tree.specs.declared.name.Name.{Name}
 use Rattle.zk_tree.specs.declared.types.Type.{«Type»}
 use Rattle.zk_typed.specs.Names.{Declared, Meant, WrittenType, is_open, whole_name}
-use Rattle.zk_typed.specs.Resolving.{Scripts, leads_by, leads_to}
+use Rattle.zk_typed.specs.Resolving.{Scripts, leads, leads_by, leads_to}
 use Rattle.zk_typed.specs.Within.{maybe_one, mention, mentions}
 use Rattle.zk_names.specs.Indexing.{first_place, or_else}
 
@@ -46,3 +49,21 @@ is_target names target place = has_name target (slice_get names place)
 -- the name at a place leads to a declared type within so many steps
 abbrev pub led : Scripts → List ℕ → ℕ → ℕ → Bool
 led scripts target most place = leads_by (leads_to most scripts target) target (slice_get scripts.names place)
+
+-- where each name leads, of as many names as were looked at
+abbrev pub AreSteps : List (Vec ℕ Global) → List Declared → Type 0
+AreSteps found names = (place : ℕ) (more : Vec ℕ Global) → slice_get found place ≡ Some more → more.items ≡ steps names place
+
+-- what a name means leads back to the name
+abbrev pub meant_circle : Scripts → List ℕ → Meant → Bool
+meant_circle scripts target (WrittenType home tree) = list_any (leads scripts target home) (mentions tree)
+meant_circle scripts target other = false
+
+abbrev pub is_circle : Scripts → Option Declared → Bool
+is_circle scripts None = false
+is_circle scripts (Some one) = meant_circle scripts one.name one.meant
+
+-- whether each name leads back to itself, of as many names as were looked at
+abbrev pub AreCircles : List Bool → List Declared → Type 0
+AreCircles found names =
+    (scripts : Scripts) → scripts.names ≡ names → (place : ℕ) (circle : Bool) → slice_get found place ≡ Some circle → circle ≡ is_circle scripts (slice_get names place)

@@ -3,6 +3,8 @@ ghost use Rattle.std.specs.Option.{option_copied, option_map};
 ghost use Rattle.zk_typed.specs.Names.{is_record};
 ghost use Rattle.zk_typed.specs.Resolving as spec;
 ghost use Rattle.zk_typed.specs.View.{type_of};
+ghost use Rattle.zk_typed.specs.Within.{maybe_one};
+ghost use Rattle.zk_names.specs.Indexing.{at_places};
 ghost use Rattle.zk_names.specs.Fields.{field_of, fields_lent, known_or, node_fields, own_of, predefined_fields, stated_fields};
 ghost use Rattle.zk_names.specs.Lent.{home_of, node_of, nodes_lent, stated_lent, stated_of};
 ghost use Rattle.zk_names.specs.Scripted.{scripts_in};
@@ -12,6 +14,7 @@ use crate::home::{Home, Stated};
 use crate::known::Names;
 use crate::node::Node;
 use crate::predefined::{add_known, known_fields};
+use sqlite_items::at;
 use std::alloc::Global;
 use zk_base::{Mem, RecordNo};
 use zk_tree::{Attr, Decl, Expr, Field, Name, Type};
@@ -100,22 +103,6 @@ fn add_written<'a>(
         all.push(one)?;
     }
     Ok(())
-}
-
-/// The record type of a number, among those of the texts.
-fn record_node<'a>(nodes: &[Node<'a>], number: u32) -> Option<Node<'a>>
-    ensures { option_map node_of result ≡ slice_get (filter is_record (nodes_lent nodes.now)) number }
-{
-    let mut left = number;
-    for node in nodes {
-        if node.is_record() {
-            if left == 0 {
-                return Some(*node);
-            }
-            left -= 1;
-        }
-    }
-    None
 }
 
 /// Adds the fields that stand in the text of a record type.
@@ -213,6 +200,63 @@ fn add_added<'a>(
     Ok(())
 }
 
+/// Adds the fields that the declaration at a place adds to a record type.
+fn add_placed<'a>(
+    alloc: Global,
+    names: &Names<'a>,
+    number: u32,
+    place: usize,
+    all: &mut Vec<FieldInfo<'a>>,
+) -> Result<(), Mem>
+    ensures { OnOk result (fields_lent all.new.items ≡ fields_lent all.old.items ++ flat_map (stated_fields (scripts_in names.now) number) (maybe_one (slice_get (scripts_in names.now).stated place))) }
+{
+    match at(&names.stated, place) {
+        Some(one) => {
+            add_stated_fields(alloc, names, number, *one, all)?;
+            Ok(())
+        }
+        None => Ok(()),
+    }
+}
+
+/// Adds the fields that the declarations at places add to a record type.
+fn add_all_placed<'a>(
+    alloc: Global,
+    names: &Names<'a>,
+    number: u32,
+    places: &[usize],
+    all: &mut Vec<FieldInfo<'a>>,
+) -> Result<(), Mem>
+    ensures { OnOk result (fields_lent all.new.items ≡ fields_lent all.old.items ++ flat_map (stated_fields (scripts_in names.now) number) (at_places (scripts_in names.now).stated places.now)) }
+{
+    for place in places {
+        add_placed(alloc, names, number, *place, all)?;
+    }
+    Ok(())
+}
+
+/// Adds the fields that all declarations add to a record type.
+fn add_additions<'a>(
+    alloc: Global,
+    names: &Names<'a>,
+    number: u32,
+    all: &mut Vec<FieldInfo<'a>>,
+) -> Result<(), Mem>
+    ensures { OnOk result (fields_lent all.new.items ≡ fields_lent all.old.items ++ flat_map (stated_fields (scripts_in names.now) number) (scripts_in names.now).stated) }
+{
+    let Some(additions) = &names.additions else {
+        add_added(alloc, names, number, &names.stated, all)?;
+        return Ok(());
+    };
+    match additions.of(number) {
+        Some(places) => {
+            add_all_placed(alloc, names, number, places, all)?;
+            Ok(())
+        }
+        None => Ok(()),
+    }
+}
+
 /// Adds the fields that stand in a record type's own text.
 fn add_own<'a>(
     alloc: Global,
@@ -240,7 +284,8 @@ impl<'a> Names<'a> {
     fn record_node(&self, number: u32) -> Option<Node<'a>>
         ensures { option_map node_of result ≡ slice_get (filter is_record (scripts_in self.now).nodes) number }
     {
-        record_node(&self.nodes, number)
+        let place = at(&self.records, number as usize)?;
+        at(&self.nodes, *place).copied()
     }
 
     /// The fields that stand in a record type's own text.
@@ -258,7 +303,7 @@ impl<'a> Names<'a> {
     {
         let mut all = Vec::new(alloc);
         add_own(alloc, self, number.0, &mut all)?;
-        add_added(alloc, self, number.0, &self.stated, &mut all)?;
+        add_additions(alloc, self, number.0, &mut all)?;
         Ok(all)
     }
 }

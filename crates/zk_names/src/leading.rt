@@ -3,7 +3,7 @@ ghost use Rattle.std.specs.List.{list_any};
 ghost use Rattle.indexmap.specs.IndexSet.{insert_key};
 ghost use Rattle.zk_typed.specs.Resolving.{Scripts};
 ghost use Rattle.zk_typed.specs.Within.{maybe_one, mentions};
-ghost use Rattle.zk_names.specs.Leading.{is_target, led, meant_steps, mention_places, place_up, places, steps};
+ghost use Rattle.zk_names.specs.Leading.{AreCircles, AreSteps, is_circle, is_target, led, meant_steps, mention_places, place_up, places, steps};
 ghost use Rattle.zk_names.specs.Lent.{declared_lent, meant_of, types_lent};
 
 use crate::declared::Meant;
@@ -151,6 +151,10 @@ fn add_steps(
 ) -> Result<(), Mem>
     ensures { OnOk result (found.new.keys ≡ fold (insert_key nat_eq) found.old.keys (steps (declared_lent table.now.names.items) place)) }
 {
+    if let Some(more) = table.steps_at(place) {
+        add_found(found, more)?;
+        return Ok(());
+    }
     let more = steps(alloc, table, place)?;
     add_found(found, &more)?;
     Ok(())
@@ -200,4 +204,52 @@ pub fn search(
         None => Ok(false),
         Some(_) => Err(Mem),
     }
+}
+
+/// Where each name leads.
+pub fn all_steps(alloc: Global, table: &Table<'_>) -> Result<Vec<Vec<usize>>, Mem>
+    ensures { IfOk result (λ all. AreSteps all.items (declared_lent table.now.names.items)) }
+{
+    let mut all = Vec::new(alloc);
+    for place in 0..table.names.len() {
+        let more = steps(alloc, table, place)?;
+        all.push(more)?;
+    }
+    Ok(all)
+}
+
+/// Whether the name at a place leads back to itself, by a search.
+fn searched_circle(alloc: Global, table: &Table<'_>, place: usize) -> Result<bool, Mem>
+    ensures { IfOk result (λ found. (scripts : Scripts) → scripts.names ≡ declared_lent table.now.names.items → found ≡ is_circle scripts (slice_get scripts.names place)) }
+{
+    match at(&table.names, place) {
+        Some(one) => {
+            let starts = steps(alloc, table, place)?;
+            let found = search(alloc, table, one.name.as_slice(), &starts)?;
+            Ok(found)
+        }
+        None => Ok(false),
+    }
+}
+
+/// Whether the name at a place leads back to itself.
+pub fn is_circle(alloc: Global, table: &Table<'_>, place: usize) -> Result<bool, Mem>
+    ensures { IfOk result (λ found. (scripts : Scripts) → scripts.names ≡ declared_lent table.now.names.items → found ≡ is_circle scripts (slice_get scripts.names place)) }
+{
+    match table.circle_at(place) {
+        Some(found) => Ok(found),
+        None => searched_circle(alloc, table, place),
+    }
+}
+
+/// Whether each name leads back to itself.
+pub fn all_circles(alloc: Global, table: &Table<'_>) -> Result<Vec<bool>, Mem>
+    ensures { IfOk result (λ all. AreCircles all.items (declared_lent table.now.names.items)) }
+{
+    let mut all = Vec::new(alloc);
+    for place in 0..table.names.len() {
+        let found = is_circle(alloc, table, place)?;
+        all.push(found)?;
+    }
+    Ok(all)
 }

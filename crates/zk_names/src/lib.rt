@@ -1,15 +1,17 @@
 //! The names that scripts declare, found by module.
 #![tactic(auto)]
 
+mod adding;
+mod additions;
 mod arguing;
 mod bodies;
 mod calls;
 mod copying;
-mod counting;
 mod created;
 mod declared;
 mod field;
 mod fielding;
+mod first_places;
 mod gathering;
 mod given;
 mod home;
@@ -22,7 +24,7 @@ mod leaves;
 mod making;
 mod name;
 mod node;
-mod numbering;
+mod numbers;
 mod order;
 mod outright;
 mod predefined;

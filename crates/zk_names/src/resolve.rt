@@ -1,4 +1,4 @@
-ghost use Rattle.std.specs.Prelude.{◌≡◌, IfOk};
+ghost use Rattle.std.specs.Prelude.{◌≡◌, slice_get, IfOk};
 ghost use Rattle.std.specs.List.{list_any};
 ghost use Rattle.std.specs.Option.{option_map};
 ghost use Rattle.zk_typed.specs.Names.{enum_number, find_whole, look_up, record_number};
@@ -6,18 +6,18 @@ ghost use Rattle.zk_typed.specs.Resolving as spec;
 ghost use Rattle.zk_typed.specs.Typing.{number_among};
 ghost use Rattle.zk_typed.specs.Within.{mentions};
 ghost use Rattle.zk_names.specs.Kinds.{is_of};
+ghost use Rattle.zk_names.specs.Leading.{is_circle, place_up};
 ghost use Rattle.zk_names.specs.Lent.{declared_lent, declared_of, home_of, nodes_lent, stated_lent};
 ghost use Rattle.zk_names.specs.Scripted.{scripts_in};
 
-use crate::counting::{enum_number, record_number};
 use crate::declared::Declared;
 use crate::home::{Home, Stated};
 use crate::kind::Kind;
 use crate::known::Names;
-use crate::leading::{add_place, mentioned, search};
+use crate::leading::{add_place, is_circle, mentioned, search};
 use crate::node::Node;
-use crate::numbering::number_among;
 use crate::whole::Whole;
+use sqlite_items::at;
 use std::alloc::Global;
 use zk_base::Mem;
 use zk_tree::{Name, Type};
@@ -56,6 +56,33 @@ impl<'a> Names<'a> {
         self.table.look_up(alloc, from_module, name)
     }
 
+    /// Where the name stands among the names that a name means in a module.
+    pub(crate) fn place_of(
+        &self,
+        alloc: Global,
+        from_module: &[u8],
+        name: &[u8],
+    ) -> Result<Option<usize>, Mem>
+        ensures { IfOk result (λ place. place ≡ place_up (scripts_in self.now).names from_module.now name.now) }
+    {
+        self.table.place_of(alloc, from_module, name)
+    }
+
+    /// The name at a place.
+    pub(crate) fn name_at(&self, place: usize) -> Option<&Declared<'a>>
+        ensures { option_map (λ one. declared_of one.now) result ≡ slice_get (scripts_in self.now).names place }
+    {
+        at(&self.table.names, place)
+    }
+
+    /// Whether the name at a place is that of a declared type that leads back to it.
+    pub(crate) fn is_circle(&self, alloc: Global, place: usize) -> Result<bool, Mem>
+        ensures { IfOk result (λ found. found ≡ is_circle (scripts_in self.now) (slice_get (scripts_in self.now).names place)) }
+    {
+        let found = is_circle(alloc, &self.table, place)?;
+        Ok(found)
+    }
+
     /// What a whole name means, as it is seen from a module.
     pub fn find_whole(
         &self,
@@ -74,7 +101,7 @@ impl<'a> Names<'a> {
     pub fn number_among(&self, kind: Kind, one: &Declared<'_>) -> Result<u32, Mem>
         ensures { IfOk result (λ number. number ≡ number_among (is_of kind) (scripts_in self.now) (declared_of one.now)) }
     {
-        let number = number_among(&self.table.names, kind, one.name.as_slice())?;
+        let number = self.numbers.name_number(kind, one.name.as_slice())?;
         Ok(number)
     }
 
@@ -82,14 +109,16 @@ impl<'a> Names<'a> {
     pub fn record_number(&self, file: usize, place: u64) -> Result<u32, Mem>
         ensures { IfOk result (λ number. number ≡ record_number (scripts_in self.now).nodes file place) }
     {
-        record_number(&self.nodes, file, place)
+        let number = self.numbers.record_number(file, place)?;
+        Ok(number)
     }
 
     /// The number of the enum whose text begins at a place.
     pub fn enum_number(&self, file: usize, place: u64) -> Result<u32, Mem>
         ensures { IfOk result (λ number. number ≡ enum_number (scripts_in self.now).nodes file place) }
     {
-        enum_number(&self.nodes, file, place)
+        let number = self.numbers.enum_number(file, place)?;
+        Ok(number)
     }
 
     /// Whether a name leads to a declared type of a whole name, by way of the names that types mention.

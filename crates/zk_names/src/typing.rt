@@ -1,4 +1,4 @@
-ghost use Rattle.std.specs.Prelude.{◌≡◌, List, IfOk};
+ghost use Rattle.std.specs.Prelude.{◌≡◌, List, slice_get, IfOk};
 ghost use Rattle.std.specs.Option.{option_map};
 ghost use Rattle.std.specs.List.{list_any};
 ghost use Rattle.zk_typed.specs.Checked.{Checked};
@@ -338,6 +338,39 @@ fn behind_names<'a>(
     }
 }
 
+/// The type that the name at a place names, by what it stands for, whose parts nest at most so deep.
+#[cycle(typing)]
+fn placed_type(
+    alloc: Global,
+    depth: u8,
+    names: &Names<'_>,
+    at: usize,
+    place: Place,
+) -> Result<ValueType, Refusal>
+    ensures { Tells type_of result (spec.named_type (spec.behind_names (spec.type_to depth (scripts_in names.now)) (scripts_in names.now)) (scripts_in names.now) place (slice_get (scripts_in names.now).names at)) }
+{
+    let Some(one) = names.name_at(at) else {
+        return Err(Refusal::Broken(one_broken(alloc, Rule::Unknown, place)?));
+    };
+    match &one.meant {
+        Meant::KnownType { known } => Ok(copied_type(alloc, known)?),
+        Meant::WrittenType { home, tree } => {
+            if names.is_circle(alloc, at)? {
+                return Err(Refusal::Broken(Items::new(alloc)));
+            }
+            let behind = behind_names(alloc, depth, names, *home, tree);
+            unless_deep(alloc, place, behind)
+        }
+        Meant::Word { .. }
+        | Meant::Variable { .. }
+        | Meant::Event { .. }
+        | Meant::Hook { .. }
+        | Meant::Function { .. }
+        | Meant::BuiltInFunction { .. }
+        | Meant::Log { .. } => Err(Refusal::Broken(one_broken(alloc, Rule::WrongType, place)?)),
+    }
+}
+
 /// The type that a name names, by what it stands for, whose parts nest at most so deep.
 #[cycle(typing)]
 pub fn named_type(
@@ -350,24 +383,8 @@ pub fn named_type(
     ensures { Tells type_of result (spec.type_of_name (spec.type_to depth (scripts_in names.now)) (scripts_in names.now) (home_of home.entry) name.now) }
 {
     let place = place_in(home, name.place);
-    let Some(one) = names.look_up(alloc, home.module_name, name.text.as_slice())? else {
-        return Err(Refusal::Broken(one_broken(alloc, Rule::Unknown, place)?));
-    };
-    match &one.meant {
-        Meant::KnownType { known } => Ok(copied_type(alloc, known)?),
-        Meant::WrittenType { home: other, tree } => {
-            if names.is_circular(alloc, &one.name, *other, tree)? {
-                return Err(Refusal::Broken(Items::new(alloc)));
-            }
-            let behind = behind_names(alloc, depth, names, *other, tree);
-            unless_deep(alloc, place, behind)
-        }
-        Meant::Word { .. }
-        | Meant::Variable { .. }
-        | Meant::Event { .. }
-        | Meant::Hook { .. }
-        | Meant::Function { .. }
-        | Meant::BuiltInFunction { .. }
-        | Meant::Log { .. } => Err(Refusal::Broken(one_broken(alloc, Rule::WrongType, place)?)),
+    match names.place_of(alloc, home.module_name, name.text.as_slice())? {
+        Some(at) => placed_type(alloc, depth, names, at, place),
+        None => Err(Refusal::Broken(one_broken(alloc, Rule::Unknown, place)?)),
     }
 }

@@ -18,5 +18,7 @@ pub mod StatementCallLaws
 pub mod StreamLaws
 pub mod TypeNameLaws
 pub mod PlaceLaws
+pub mod WayLaws
 pub mod CircleLaws
 pub mod PassingLaws
+pub mod FieldPlaceLaws

@@ -1,10 +1,8 @@
 -- Where those of a list stand that pass.
-use Rattle.std.proofs.Common.{◌≡◌, ℕ, zero, suc, ◌+◌, ◌<◌, Bool, true, false, List, [], ◌∷◌, ◌++◌, length, get_or, take, map, filter, flat_map, Option, Some, None, slice_get, refl, ap, sym, ◌∙◌, arith, append-nil, append_assoc, if◌then◌else◌}
-use Rattle.std.proofs.lemmas.Grind.{flat_map-append}
-use Rattle.std.proofs.lemmas.List.{map-append, take_more}
+use Rattle.std.proofs.Common.{◌≡◌, ℕ, zero, suc, ◌+◌, ◌<◌, Bool, true, false, List, [], ◌∷◌, ◌++◌, length, get_or, take, map, filter, Option, Some, None, slice_get, refl, ap, sym, ◌∙◌, arith, append-nil, append_assoc, if◌then◌else◌}
+use Rattle.std.proofs.lemmas.List.{length-map, map-append, take_more}
 use Rattle.std.specs.Option.{option_and_then, option_map}
-use Rattle.zk_typed.specs.Within.{maybe_one}
-use Rattle.zk_names.specs.Indexing.{at_places, passing}
+use Rattle.zk_names.specs.Indexing.{passing}
 use Rattle.zk_names.proofs.IndexLaws.{get_of_map}
 
 shifted : (b : Bool) (place : ℕ) → map suc (if b then place ∷ [] else []) ≡ (if b then suc place ∷ [] else [])
@@ -54,25 +52,14 @@ nth_passing q [] zero = refl
 nth_passing q [] (suc at) = refl
 nth_passing q (one ∷ others) at = nth_by q one others at (q one) refl (nth_passing q others)
 
-later_places : {A : Type 0} (one : A) (others : List A) (places : List ℕ) → at_places (one ∷ others) (map suc places) ≡ at_places others places
-later_places one others [] = refl
-later_places one others (place ∷ places) = ap (λ more. maybe_one (slice_get others place) ++ more) (later_places one others places)
+-- as many stand there as pass
+pub passing_length : {A : Type 0} (q : A → Bool) (items : List A) → length (passing q items) ≡ length (filter q items)
+passing_length q [] = refl
+passing_length q (one ∷ others) = by_one (q one) refl
+  where
+    behind : length (map suc (passing q others)) ≡ length (filter q others)
+    behind = length-map (passing q others) suc ∙ passing_length q others
 
-at_by : {A : Type 0} (q : A → Bool) (one : A) (others : List A) (b : Bool) → q one ≡ b → at_places others (passing q others) ≡ filter q others →
-    at_places (one ∷ others) (passing q (one ∷ others)) ≡ filter q (one ∷ others)
-at_by q one others true e rest = rw e (ap (λ more. one ∷ more) (later_places one others (passing q others) ∙ rest))
-at_by q one others false e rest = rw e (later_places one others (passing q others) ∙ rest)
-
--- in these places stand those that pass
-pub at_passing : {A : Type 0} (q : A → Bool) (items : List A) → at_places items (passing q items) ≡ filter q items
-at_passing q [] = refl
-at_passing q (one ∷ others) = at_by q one others (q one) refl (at_passing q others)
-
--- what stands in one place more
-pub placed_more : {A B : Type 0} (f : A → List B) (items : List A) (places : List ℕ) (at place : ℕ) → at < length places → place ≡ get_or places at place →
-    flat_map f (at_places items (take at places)) ++ flat_map f (maybe_one (slice_get items place)) ≡ flat_map f (at_places items (take (at + 1) places))
-placed_more f items places at place within is =
-    let e : take (at + 1) places ≡ take at places ++ place ∷ [] = take_more places at place within ∙ ap (λ y. take at places ++ y ∷ []) (sym is) in
-    sym (ap (λ ys. flat_map f (at_places items ys)) e ∙ ap (flat_map f) (flat_map-append (λ p. maybe_one (slice_get items p)) (take at places) (place ∷ [])) ∙
-    flat_map-append f (at_places items (take at places)) (at_places items (place ∷ [])) ∙
-    ap (λ y. flat_map f (at_places items (take at places)) ++ flat_map f y) (append-nil (maybe_one (slice_get items place))))
+    by_one : (b : Bool) → q one ≡ b → length (passing q (one ∷ others)) ≡ length (filter q (one ∷ others))
+    by_one true e = rw e (ap suc behind)
+    by_one false e = rw e behind

@@ -1,10 +1,11 @@
 -- An index tells where names stand in a list.
-use Rattle.std.specs.Prelude.{◌≡◌, ℕ, suc, Bool, true, false, ◌&&◌, List, [], ◌∷◌, ◌++◌, map, flat_map, slice_get, Option, Some, None, if◌then◌else◌}
+use Rattle.std.specs.Prelude.{◌≡◌, ℕ, suc, Bool, true, false, ◌&&◌, List, [], ◌∷◌, ◌++◌, map, slice_get, Option, Some, None, if◌then◌else◌}
+use Rattle.std.specs.declared.alloc.Global.{Global}
+use Rattle.std.specs.declared.vec.Vec.{Vec}
 use Rattle.std.specs.HashMap.{get}
 use Rattle.std.specs.Option.{option_map}
 use Rattle.std.specs.Str.{bytes_eq}
 use Rattle.zk_typed.specs.Names.{Declared}
-use Rattle.zk_typed.specs.Within.{maybe_one}
 use Rattle.zk_names.specs.declared.index.Index.{Index}
 use Rattle.zk_names.specs.declared.index.Slot.{Slot}
 
@@ -18,9 +19,21 @@ abbrev pub passing : {A : Type 0} → (A → Bool) → List A → List ℕ
 passing passes [] = []
 passing passes (one ∷ others) = (if passes one then 0 ∷ [] else []) ++ map suc (passing passes others)
 
--- what stands at places
-abbrev pub at_places : {A : Type 0} → List A → List ℕ → List A
-at_places items places = flat_map (λ place. maybe_one (slice_get items place)) places
+abbrev pub items_of : Option (Vec ℕ Global) → List ℕ
+items_of None = []
+items_of (Some all) = all.items
+
+-- the list at a place; there is none past the end
+abbrev pub items_at : List (Vec ℕ Global) → ℕ → List ℕ
+items_at lists place = items_of (slice_get lists place)
+
+abbrev pub is_marked : Option Bool → Bool
+is_marked None = false
+is_marked (Some mark) = mark
+
+-- the mark at a place; there is none past the end
+abbrev pub mark_at : List Bool → ℕ → Bool
+mark_at marks place = is_marked (slice_get marks place)
 
 abbrev pub or_else : Option ℕ → Option ℕ → Option ℕ
 or_else (Some place) other = Some place

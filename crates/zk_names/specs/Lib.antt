@@ -13,4 +13,4 @@ pub mod Words
 pub mod Streams
 pub mod Calls
 pub mod Leaves
-pub mod Adding
+pub mod FieldPlaces

@@ -1,17 +1,15 @@
-ghost use Rattle.std.specs.Prelude.{◌≡◌, Some};
+ghost use Rattle.std.specs.Prelude.{◌≡◌};
 ghost use Rattle.zk_typed.specs.Names.{is_record};
-ghost use Rattle.zk_typed.specs.Resolving.{Scripts};
-ghost use Rattle.zk_names.specs.declared.additions.Additions.{Additions as AllAdded};
-ghost use Rattle.zk_names.specs.Adding.{AreAdded};
 ghost use Rattle.zk_names.specs.Indexing.{passing};
-ghost use Rattle.zk_names.specs.Lent.{declared_lent, nodes_lent, stated_lent};
+ghost use Rattle.zk_names.specs.Leading.{AreCircles, HasWays};
+ghost use Rattle.zk_names.specs.Lent.{declared_lent, nodes_lent};
 ghost use Rattle.zk_names.specs.Numbering.{IsNumbered};
 
-use crate::additions::Additions;
 use crate::home::Stated;
 use crate::node::Node;
 use crate::numbers::Numbers;
 use crate::table::Table;
+use crate::ways::Ways;
 
 /// What all scripts declare: the declarations in load order, their record types and enums, and their names.
 #[derive(Drop)]
@@ -22,10 +20,11 @@ pub struct Names<'a> {
     /// Where the record types stand among the nodes.
     pub(crate) records: Vec<usize>,
     pub(crate) numbers: Numbers,
-    /// The declarations that add to record types, once they are told apart.
-    pub(crate) additions: Option<Additions>,
+    pub(crate) ways: Ways,
+    /// Whether names are those of declared types that lead back to them, by their places.
+    pub(crate) circles: Vec<bool>,
     ghost recorded: { records.items ≡ passing is_record (nodes_lent nodes.items) },
     ghost numbered: { IsNumbered numbers (nodes_lent nodes.items) (declared_lent table.names.items) },
-    ghost added: { (scripts : Scripts) → scripts.stated ≡ stated_lent stated.items → scripts.nodes ≡ nodes_lent nodes.items → scripts.names ≡ declared_lent table.names.items
-        → (all : AllAdded) → additions ≡ Some all → AreAdded all scripts },
+    ghost led: { HasWays ways (declared_lent table.names.items) },
+    ghost circled: { AreCircles circles.items (declared_lent table.names.items) },
 }

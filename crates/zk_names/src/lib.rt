@@ -1,16 +1,17 @@
 //! The names that scripts declare, found by module.
 #![tactic(auto)]
 
-mod adding;
-mod additions;
 mod arguing;
 mod bodies;
 mod calls;
+mod circles;
 mod copying;
 mod created;
 mod declared;
 mod field;
+mod field_places;
 mod fielding;
+mod fields;
 mod first_places;
 mod gathering;
 mod given;
@@ -36,6 +37,7 @@ mod table;
 mod type_names;
 mod types;
 mod typing;
+mod ways;
 mod whole;
 mod words;
 

@@ -5,16 +5,16 @@ ghost use Rattle.zk_names.specs.Lent.{declared_lent, files_of, nodes_lent, state
 ghost use Rattle.zk_names.specs.Scripted.{scripts_in};
 ghost use Rattle.zk_names.specs.Words.{known_scripts, with_body};
 
-use crate::adding::all_additions;
 use crate::bodies::add_bodies;
+use crate::circles::all_circles;
 use crate::given::add_predefined;
 use crate::home::Stated;
 use crate::known::Names;
-use crate::leading::{all_circles, all_steps};
 use crate::node::{Node, all_nodes, record_places};
 use crate::numbers::Numbers;
 use crate::order::load_order;
 use crate::table::Table;
+use crate::ways::Ways;
 use crate::words::{add_all_outright, add_all_words};
 use std::alloc::Global;
 use zk_base::{Bytes, Mem};
@@ -34,13 +34,16 @@ fn made<'a>(
 {
     let records = record_places(alloc, &nodes)?;
     let numbers = Numbers::of(alloc, &nodes, &table.names)?;
+    let ways = Ways::of(alloc, &table)?;
+    let circles = all_circles(alloc, &table, &ways)?;
     Ok(Names {
         stated,
         nodes,
         table,
         records,
         numbers,
-        additions: None,
+        ways,
+        circles,
     })
 }
 
@@ -72,56 +75,13 @@ fn all_names<'a>(alloc: Global, known: &Names<'a>) -> Result<Table<'a>, Mem>
     Ok(table)
 }
 
-/// The same names, with where they lead.
-fn led<'a>(alloc: Global, table: Table<'a>) -> Result<Table<'a>, Mem>
-    ensures { IfOk result (λ led. declared_lent led.names.items ≡ declared_lent table.entry.names.items) }
-{
-    let steps = all_steps(alloc, &table)?;
-    let table = table.with_steps(steps);
-    let circles = all_circles(alloc, &table)?;
-    Ok(table.with_circles(circles))
-}
-
-/// The same, with the declarations that add to each record type.
-#[tactic(auto, unfolding(crate::specs::Scripted::scripts_in))]
-fn with_additions<'a>(alloc: Global, names: Names<'a>) -> Result<Names<'a>, Mem>
-    ensures { IfOk result (λ made. scripts_in made ≡ scripts_in names.entry) }
-{
-    let additions = all_additions(alloc, &names)?;
-    let Names {
-        stated,
-        nodes,
-        table,
-        records,
-        numbers,
-        additions: _,
-    } = names;
-    Ok(Names {
-        stated,
-        nodes,
-        table,
-        records,
-        numbers,
-        additions: Some(additions),
-    })
-}
-
 /// The names of scripts.
 pub fn names<'a>(alloc: Global, files: &'a [(Bytes, Tree)]) -> Result<Names<'a>, Mem>
     ensures { IfOk result (λ names. scripts_in names ≡ scripts_of (files_of files.now)) }
 {
     let known = known_names(alloc, files)?;
-    let all = all_names(alloc, &known)?;
-    let table = led(alloc, all)?;
-    let Names {
-        stated,
-        nodes,
-        table: _,
-        records: _,
-        numbers: _,
-        additions: _,
-    } = known;
-    let plain = made(alloc, stated, nodes, table)?;
-    let names = with_additions(alloc, plain)?;
+    let table = all_names(alloc, &known)?;
+    let Names { stated, nodes, .. } = known;
+    let names = made(alloc, stated, nodes, table)?;
     Ok(names)
 }

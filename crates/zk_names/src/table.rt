@@ -1,12 +1,11 @@
-ghost use Rattle.std.specs.Prelude.{◌≡◌, [], ◌∷◌, ◌++◌, slice_get, OnOk, OnErr, IfOk, IfSome};
+ghost use Rattle.std.specs.Prelude.{◌≡◌, [], ◌∷◌, ◌++◌, OnOk, OnErr, IfOk};
 ghost use Rattle.std.specs.List.{list_any};
 ghost use Rattle.std.specs.Option.{option_map};
 ghost use Rattle.std.specs.Str.{bytes_eq};
 ghost use Rattle.zk_typed.specs.Names.{find_whole, look_up};
-ghost use Rattle.zk_typed.specs.Resolving.{Scripts};
 ghost use Rattle.zk_names.specs.Lent.{declared_lent, declared_of};
 ghost use Rattle.zk_names.specs.Indexing.{Indexes};
-ghost use Rattle.zk_names.specs.Leading.{AreCircles, AreSteps, is_circle, place_up, place_whole, steps};
+ghost use Rattle.zk_names.specs.Leading.{first_or_end, place_up, place_whole};
 
 use crate::declared::Declared;
 use crate::index::Index;
@@ -21,13 +20,7 @@ use zk_base::Mem;
 pub struct Table<'a> {
     pub names: Vec<Declared<'a>>,
     index: Index,
-    /// Where names lead, of as many as were looked at.
-    steps: Vec<Vec<usize>>,
-    /// Whether names lead back to themselves, of as many as were looked at.
-    circles: Vec<bool>,
     ghost indexed: { Indexes index (declared_lent names.items) },
-    ghost stepped: { AreSteps steps.items (declared_lent names.items) },
-    ghost circled: { AreCircles circles.items (declared_lent names.items) },
 }
 
 impl<'a> Table<'a> {
@@ -38,8 +31,6 @@ impl<'a> Table<'a> {
         Table {
             names: Vec::new(alloc),
             index: Index::new(alloc),
-            steps: Vec::new(alloc),
-            circles: Vec::new(alloc),
         }
     }
 
@@ -50,9 +41,6 @@ impl<'a> Table<'a> {
     {
         let name = Whole::copy_of(alloc, &one.name)?;
         self.names.reserve(1)?;
-        // A name that is added may be what others mean.
-        self.steps = Vec::new(alloc);
-        self.circles = Vec::new(alloc);
         self.index.add(name, one.exported, self.names.len())?;
         let Ok(()) = self.names.push(one) else {
             unreachable!()
@@ -116,49 +104,13 @@ impl<'a> Table<'a> {
         }
     }
 
-    /// The same names, with where they lead.
-    pub fn with_steps(self, steps: Vec<Vec<usize>>) -> Table<'a>
-        requires { AreSteps steps.items (declared_lent self.names.items) }
-        ensures { declared_lent result.names.items ≡ declared_lent self.entry.names.items }
+    /// Where a whole name stands first, or how many names there are.
+    pub fn first_named(&self, whole: &Whole) -> usize
+        ensures { result ≡ first_or_end (declared_lent self.now.names.items) whole.now }
     {
-        Table {
-            names: self.names,
-            index: self.index,
-            steps,
-            circles: self.circles,
-        }
-    }
-
-    /// The same names, with whether they lead back to themselves.
-    pub fn with_circles(self, circles: Vec<bool>) -> Table<'a>
-        requires { AreCircles circles.items (declared_lent self.names.items) }
-        ensures { declared_lent result.names.items ≡ declared_lent self.entry.names.items }
-    {
-        Table {
-            names: self.names,
-            index: self.index,
-            steps: self.steps,
-            circles,
-        }
-    }
-
-    /// Where the name at a place leads, where that was looked at.
-    pub fn steps_at(&self, place: usize) -> Option<&[usize]>
-        ensures { IfSome result (λ more. more.now ≡ steps (declared_lent self.now.names.items) place) }
-    {
-        match at(&self.steps, place) {
-            Some(more) => Some(more),
-            None => None,
-        }
-    }
-
-    /// Whether the name at a place leads back to itself, where that was looked at.
-    pub fn circle_at(&self, place: usize) -> Option<bool>
-        ensures { IfSome result (λ found. (scripts : Scripts) → scripts.names ≡ declared_lent self.now.names.items → found ≡ is_circle scripts (slice_get scripts.names place)) }
-    {
-        match at(&self.circles, place) {
-            Some(found) => Some(*found),
-            None => None,
+        match self.index.find(whole, true) {
+            Some(place) => place,
+            None => self.names.len(),
         }
     }
 

@@ -95,7 +95,7 @@ fn record_of(source: &Source<'_>, number: u32) -> Result<RecordType, Mem>
     ensures { IfOk result (λ made. view.record_of made ≡ spec.record_of (scripts_from source.now) number) }
 {
     let alloc = source.alloc;
-    let fields = source.scripts.names.fields_of(alloc, RecordNo(number))?;
+    let fields = source.scripts.fields_of(alloc, RecordNo(number))?;
     let all = program_fields(alloc, fields.as_slice())?;
     Ok(RecordType {
         fields: Sequence::from(all),

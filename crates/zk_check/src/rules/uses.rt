@@ -30,7 +30,7 @@ impl<'a> Bodied<'a> {
         let ground = &self.valued.ground;
         match at(self.logs, number.0 as usize) {
             Some(log) => match log.columns {
-                Some(columns) => ground.names.leaves(ground.alloc, columns),
+                Some(columns) => self.source.scripts.leaves(ground.alloc, columns),
                 None => Ok(Vec::new(ground.alloc)),
             },
             None => Ok(Vec::new(ground.alloc)),

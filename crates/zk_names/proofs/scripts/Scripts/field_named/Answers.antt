@@ -1,0 +1,29 @@
+use Rattle.std.proofs.Common.{ℕ, List, Option, slice_get, ap, sym, ◌∙◌}
+use Rattle.std.specs.Option.{option_map}
+use Rattle.zk_typed.specs.Making.{field_named}
+use Rattle.zk_typed.specs.Resolving.{FieldInfo, fields_of}
+use Rattle.zk_names.specs.declared.field_places.RecordFields.{RecordFields}
+use Rattle.zk_names.specs.FieldPlaces.{field_places, named}
+use Rattle.zk_names.specs.Scripted.{scripts_in}
+use Rattle.zk_names.proofs.FieldPlaceLaws.{field_found_at, none_placed}
+use Rattle.zk_names.proofs.scripts.Scripts.field_named.Goals as goal
+
+pub returns-in-None : goal.returns-in-None
+returns-in-None c =
+    let scripts = scripts_in c.args.self.now.names in
+    let number = c.args.number.0 in
+    sym (ap (field_named c.args.name.now 0) (none_placed scripts number (c.args.self.now.placed.1 number (sym (c.in-None.ensures ∙ ap (λ (x : List RecordFields). slice_get x number) c.deref.ensures.value)))))
+
+pub returns-in-Some-field_at : goal.returns-in-Some-field_at
+returns-in-Some-field_at c =
+    let scripts = scripts_in c.args.self.now.names in
+    let number = c.args.number.0 in
+    let has = c.args.self.now.placed.0 number c.in-Some.fields.now (sym (c.in-Some.ensures ∙ ap (λ (x : List RecordFields). slice_get x number) c.deref.ensures.value)) in
+    field_found_at c.args.name.now (fields_of scripts number) c.in_ok-field.field _ (c.in_ok-field.ensures (field_places scripts number) (named (fields_of scripts number)) has) c.in_ok-field_at.ensures
+
+pub returns-in-None-field_at : goal.returns-in-None-field_at
+returns-in-None-field_at c =
+    let scripts = scripts_in c.args.self.now.names in
+    let number = c.args.number.0 in
+    let has = c.args.self.now.placed.0 number c.in-Some.fields.now (sym (c.in-Some.ensures ∙ ap (λ (x : List RecordFields). slice_get x number) c.deref.ensures.value)) in
+    field_found_at c.args.name.now (fields_of scripts number) c.in_ok-field.field _ (c.in_ok-field.ensures (field_places scripts number) (named (fields_of scripts number)) has) c.in_ok-field_at.ensures

@@ -52,12 +52,12 @@ pub one_more_field : {A : Type 0} (text : A → List ℕ) (added : Option ℕ) (
 one_more_field text added fields at field old new places names name within is said before pushed =
     let e : take (at + 1) fields ≡ take at fields ++ field ∷ [] = take_more fields at field within ∙ ap (λ y. take at fields ++ y ∷ []) (sym is) in
     let placed : (places ++ places_from added 0 (take at fields)) ++ record { added = added; at = at } ∷ [] ≡ places ++ places_from added 0 (take (at + 1) fields) =
-        append_assoc places (places_from added 0 (take at fields)) (record { added = added; at = at } ∷ []) ∙
-        ap (λ (x : List FieldPlace). places ++ x)
-        (ap (λ (n : ℕ). places_from added 0 (take at fields) ++ record { added = added; at = n } ∷ []) (sym (taken fields at within)) ∙ sym (places_push added 0 (take at fields) field) ∙ ap (places_from added 0) (sym e)) in
+    append_assoc places (places_from added 0 (take at fields)) (record { added = added; at = at } ∷ []) ∙
+    ap (λ (x : List FieldPlace). places ++ x)
+    (ap (λ (n : ℕ). places_from added 0 (take at fields) ++ record { added = added; at = n } ∷ []) (sym (taken fields at within)) ∙ sym (places_push added 0 (take at fields) field) ∙ ap (places_from added 0) (sym e)) in
     let spelled : (names ++ map text (take at fields)) ++ name ∷ [] ≡ names ++ map text (take (at + 1) fields) =
-        append_assoc names (map text (take at fields)) (name ∷ []) ∙
-        ap (λ (x : List (List ℕ)). names ++ x) (ap (λ (x : List ℕ). map text (take at fields) ++ x ∷ []) said ∙ sym (map-append text (take at fields) (field ∷ [])) ∙ ap (map text) (sym e)) in
+    append_assoc names (map text (take at fields)) (name ∷ []) ∙
+    ap (λ (x : List (List ℕ)). names ++ x) (ap (λ (x : List ℕ). map text (take at fields) ++ x ∷ []) said ∙ sym (map-append text (take at fields) (field ∷ [])) ∙ ap (map text) (sym e)) in
     subst (λ (x : List FieldPlace). HasPlaces new x (names ++ map text (take (at + 1) fields))) placed
     (subst (HasPlaces new ((places ++ places_from added 0 (take at fields)) ++ record { added = added; at = at } ∷ [])) spelled (pushed (places ++ places_from added 0 (take at fields)) (names ++ map text (take at fields)) before))
 
@@ -99,7 +99,7 @@ pub own_written : (scripts : Scripts) (number left : ℕ) (one : RecordFields) (
     HasPlaces one ([] ++ places_from None 0 (node_texts node)) ([] ++ map field_name (node_texts node)) → HasPlaces one (places_from None 0 (own_fields scripts number)) (named (own_fields scripts number))
 own_written scripts number left one node is at found has =
     let here : node_fields scripts node ≡ own_fields scripts number =
-        ap (node_fields scripts) (found ∙ ap (slice_get (filter is_record scripts.nodes)) at) ∙ ap (own_of scripts number) is ∙ sym (own_is scripts number) in
+    ap (node_fields scripts) (found ∙ ap (slice_get (filter is_record scripts.nodes)) at) ∙ ap (own_of scripts number) is ∙ sym (own_is scripts number) in
     same_fields one (node_fields scripts node) (own_fields scripts number) here
     (subst (λ (x : List FieldPlace). HasPlaces one x (named (node_fields scripts node))) (node_placed scripts node) (subst (HasPlaces one (places_from None 0 (node_texts node))) (node_named scripts node) has))
 
@@ -201,7 +201,7 @@ pub hold_on : (scripts : Scripts) (stated : List LentStated) (at : ℕ) (one : L
 hold_on scripts stated at one records within is held =
     let before = stated_lent (take at stated) in
     let e : stated_lent (take (at + 1) stated) ≡ before ++ stated_of one ∷ [] =
-        ap stated_lent (take_more stated at one within ∙ ap (λ y. take at stated ++ y ∷ []) (sym is)) ∙ map-append stated_of (take at stated) (one ∷ []) in
+    ap stated_lent (take_more stated at one within ∙ ap (λ y. take at stated ++ y ∷ []) (sym is)) ∙ map-append stated_of (take at stated) (one ∷ []) in
     let long : length before ≡ at = length-map (take at stated) stated_of ∙ taken stated at within in
     hold_same records (λ number. so_far scripts before number ++ places_from (Some at) 0 (stated_fields scripts number (stated_of one))) (so_far scripts (stated_lent (take (at + 1) stated)))
     (λ number. named_so_far scripts before number ++ named (stated_fields scripts number (stated_of one))) (named_so_far scripts (stated_lent (take (at + 1) stated)))

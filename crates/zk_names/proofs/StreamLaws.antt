@@ -1,5 +1,5 @@
 -- What the calls of `create_stream` say of one log.
-use Rattle.std.proofs.Common.{◌≡◌, ℕ, Bool, true, false, List, [], ◌∷◌, ◌++◌, map, filter, flat_map, Option, Some, None, refl, ap, sym, ◌∙◌, if◌then◌else◌}
+use Rattle.std.proofs.Common.{◌≡◌, ℕ, Bool, true, false, List, [], ◌∷◌, ◌++◌, map, filter, flat_map, Option, Some, None, refl, ap, sym, ◌∙◌, cond, if◌then◌else◌}
 use Rattle.std.specs.Prelude.{bytes_eq}
 use Rattle.std.proofs.lemmas.Grind.{flat_map-append}
 use Rattle.std.proofs.lemmas.List.Elements.{filter-append}
@@ -13,6 +13,7 @@ use Rattle.zk_typed.specs.LoadOrder.{Home, Stated}
 use Rattle.zk_typed.specs.LogCalls.{Call, item_expr, settings, creates, created_in, decl_calls, all_calls, log_type, one_type}
 use Rattle.zk_typed.specs.Names.{Declared}
 use Rattle.zk_typed.specs.Resolving.{Scripts}
+use Rattle.zk_names.specs.Same.{same_bytes}
 use Rattle.zk_names.specs.Streams.{word_in, others_type, items_created, call_created, created_by, stated_created, of_log, joined, so_far, with_stream}
 
 abbrev call_with : Home → Expr → Name → List Item → Call
@@ -96,3 +97,38 @@ above first second more (Some other) h = rw h refl
 pub one_more : (first : Option RecordNo) (more : List (Option RecordNo)) → so_far (first ∷ more) ≡ Some (with_stream first (so_far more))
 one_more first [] = refl
 one_more first (second ∷ more) = ap Some (above first second more (one_type (second ∷ more)) refl)
+
+-- Logs by their names ------------------------------------------------------------------------------------------------
+
+type_by : (all : List (Option RecordNo)) (told : Option (Option RecordNo)) → Some told ≡ so_far all → told ≡ one_type all
+type_by [] told e = cc
+type_by (first ∷ more) told e = cc
+
+pub type_told : (all : List (Option RecordNo)) (told : Option (Option RecordNo)) (got : Option (Option (Option RecordNo))) → Some told ≡ got → got ≡ so_far all → told ≡ one_type all
+type_told all told got is kept = type_by all told (is ∙ kept)
+
+pub type_absent : (all : List (Option RecordNo)) (got : Option (Option (Option RecordNo))) → None ≡ got → got ≡ so_far all → None ≡ one_type all
+type_absent [] got is kept = refl
+type_absent (first ∷ more) got is kept = cc
+
+far_by : (word key : List ℕ) (columns : Option RecordNo) (created : List (List ℕ × Option RecordNo)) (b : Bool) → bytes_eq key word ≡ b →
+    cond b (Some (with_stream columns (so_far (of_log word created)))) (so_far (of_log word created)) ≡ so_far (of_log word ((key, columns) ∷ created))
+far_by word key columns created true e = rw e (sym (one_more columns (of_log word created)))
+far_by word key columns created false e = rw e refl
+
+same_word : (key word : List ℕ) (created : List (List ℕ × Option RecordNo)) → bytes_eq key word ≡ true → of_log key created ≡ of_log word created
+same_word key word created e = ap (λ (x : List ℕ). of_log x created) (same_bytes key word e)
+
+told_by : (word key : List ℕ) (columns : Option RecordNo) (created : List (List ℕ × Option RecordNo)) (b : Bool) → bytes_eq key word ≡ b →
+    cond b (Some (with_stream columns (so_far (of_log key created)))) (so_far (of_log word created)) ≡ cond b (Some (with_stream columns (so_far (of_log word created)))) (so_far (of_log word created))
+told_by word key columns created true e = ap (λ (x : List (Option RecordNo)). Some (with_stream columns (so_far x))) (same_word key word created e)
+told_by word key columns created false e = refl
+
+-- what is kept of each log, once a stream before the others is added
+pub types_more : (created : List (List ℕ × Option RecordNo)) (key : List ℕ) (columns : Option RecordNo) (told : Option (Option RecordNo)) (old new : List ℕ → Option (Option (Option RecordNo))) →
+    ((word : List ℕ) → old word ≡ so_far (of_log word created)) → told ≡ with_stream columns (old key) → ((word : List ℕ) → new word ≡ cond (bytes_eq key word) (Some told) (old word)) →
+    (word : List ℕ) → new word ≡ so_far (of_log word ((key, columns) ∷ created))
+types_more created key columns told old new kept made changed word =
+    changed word ∙ ap (λ (x : Option (Option RecordNo)). cond (bytes_eq key word) (Some x) (old word)) (made ∙ ap (with_stream columns) (kept key)) ∙
+    ap (cond (bytes_eq key word) (Some (with_stream columns (so_far (of_log key created))))) (kept word) ∙ told_by word key columns created (bytes_eq key word) refl ∙
+    far_by word key columns created (bytes_eq key word) refl

@@ -17,7 +17,13 @@ fn is_circle(alloc: Global, table: &Table<'_>, ways: &Ways, place: usize) -> Res
 {
     match at(&table.names, place) {
         Some(one) => {
-            let found = search(alloc, table, ways, one.name.as_slice(), ways.steps_at(place))?;
+            let found = search(
+                alloc,
+                table,
+                ways,
+                one.name.as_slice(),
+                ways.steps_at(place),
+            )?;
             Ok(found)
         }
         None => Ok(false),

@@ -22,6 +22,7 @@ mod kind;
 mod known;
 mod leading;
 mod leaves;
+mod log_types;
 mod making;
 mod name;
 mod node;
@@ -43,7 +44,6 @@ mod words;
 
 pub use arguing::{columns_type, setting, settings};
 pub use calls::{Call, item_expr};
-pub use created::Created;
 pub use declared::{Declared, LogFunction, Meant, Signature};
 pub use field::FieldInfo;
 pub use fielding::{attr_value, has_attr};

@@ -6,14 +6,15 @@ ghost use Rattle.zk_typed.specs.Resolving as resolving;
 ghost use Rattle.zk_names.specs.FieldPlaces.{AreFields, field_places};
 ghost use Rattle.zk_names.specs.Fields.{field_found, field_of, fields_lent};
 ghost use Rattle.zk_names.specs.Scripted.{scripts_in};
-ghost use Rattle.zk_names.specs.Streams.{created_lent, stated_created};
+ghost use Rattle.zk_names.specs.Streams.{AreTypes, stated_created};
 
-use crate::created::{Created, all_created, type_of_log};
+use crate::created::all_created;
 use crate::field::FieldInfo;
 use crate::field_places::FieldPlace;
 use crate::fielding::{add_placed, placed_field};
 use crate::fields::Fields;
 use crate::known::Names;
+use crate::log_types::LogTypes;
 use sqlite_items::at;
 use std::alloc::Global;
 use zk_base::{Mem, RecordNo};
@@ -24,9 +25,9 @@ use zk_typed::script::FieldNo;
 pub struct Scripts<'a> {
     pub names: Names<'a>,
     fields: Fields,
-    created: Vec<Created>,
+    logs: LogTypes,
     ghost placed: { AreFields fields (scripts_in names) },
-    ghost told: { created_lent created.items ≡ flat_map (stated_created (scripts_in names)) (scripts_in names).stated },
+    ghost told: { AreTypes logs (flat_map (stated_created (scripts_in names)) (scripts_in names).stated) },
 }
 
 impl<'a> Scripts<'a> {
@@ -36,10 +37,11 @@ impl<'a> Scripts<'a> {
     {
         let fields = Fields::of(alloc, &names)?;
         let created = all_created(alloc, &names)?;
+        let logs = LogTypes::of(alloc, &created)?;
         Ok(Scripts {
             names,
             fields,
-            created,
+            logs,
         })
     }
 
@@ -58,13 +60,7 @@ impl<'a> Scripts<'a> {
         ensures { IfOk result (λ fields. fields_lent fields.items ≡ resolving.fields_of (scripts_in self.now.names) number.0) }
     {
         let mut all = Vec::new(alloc);
-        add_placed(
-            alloc,
-            &self.names,
-            number.0,
-            self.places(number),
-            &mut all,
-        )?;
+        add_placed(alloc, &self.names, number.0, self.places(number), &mut all)?;
         Ok(all)
     }
 
@@ -103,10 +99,10 @@ impl<'a> Scripts<'a> {
 
     /// The record type of a log by the log's whole name: None where the log has no stream or streams of
     /// different types, and a type that isn't known where its streams are broken.
-    #[tactic(auto, using(crate::proofs::StreamLaws::told_of_log))]
-    pub fn log_type(&self, word: &[u8]) -> Option<Option<RecordNo>>
-        ensures { result ≡ spec.log_type (scripts_in self.now.names) word.now }
+    pub fn log_type(&self, alloc: Global, word: &[u8]) -> Result<Option<Option<RecordNo>>, Mem>
+        ensures { IfOk result (λ told. told ≡ spec.log_type (scripts_in self.now.names) word.now) }
     {
-        type_of_log(&self.created, word)
+        let told = self.logs.log_type(alloc, word)?;
+        Ok(told)
     }
 }

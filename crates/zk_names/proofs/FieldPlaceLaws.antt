@@ -1,5 +1,7 @@
 -- Where the fields of record types stand, and which is the first of a name.
-use Rattle.std.proofs.Common.{◌≡◌, ℕ, zero, suc, ◌+◌, ◌-◌, ◌<◌, ◌≤◌, ◌⊎◌, inl, inr, Bool, true, false, List, [], ◌∷◌, ◌++◌, length, get_or, take, map, filter, flat_map, nat_eq, Option, Some, None, slice_get, if◌then◌else◌, refl, ap, sym, ◌∙◌, subst, arith, append-nil, append_assoc}
+use Rattle.std.proofs.Common.{◌≡◌, ℕ, zero, suc, ◌+◌, ◌-◌, ◌<◌, ◌≤◌, ◌⊎◌, inl, inr, Bool, true, false, List, [], ◌∷◌, ◌++◌, length, get_or, take, map, filter, flat_map, nat_eq, Option, Some, None, slice_get, slice_set, if◌then◌else◌, refl, ap, sym, ◌∙◌, subst, arith, append-nil, append_assoc}
+use Rattle.std.proofs.lemmas.Bool.{eq-eqb}
+use Rattle.std.proofs.lemmas.Bool.Decides.{Decides-eqb}
 use Rattle.std.proofs.lemmas.Grind.{flat_map-append}
 use Rattle.std.proofs.lemmas.List.{length-map, map-append, take_more}
 use Rattle.std.specs.Option.{option_and_then, option_map}
@@ -24,7 +26,7 @@ use Rattle.zk_names.specs.Fields.{decl_fields, known_lent, known_of, node_fields
 use Rattle.zk_names.specs.Lent.{stated_lent, stated_of}
 use Rattle.zk_names.proofs.FieldLaws.{own_is}
 use Rattle.zk_names.proofs.IndexLaws.{get_of_map}
-use Rattle.zk_names.proofs.WayLaws.{all_more, longer, none_past, past_end}
+use Rattle.zk_names.proofs.WayLaws.{all_more, longer, none_past, past_end, some_at}
 
 -- Places and names of one text -----------------------------------------------------------------------------------------
 
@@ -138,6 +140,54 @@ hold_same records places more names others placed spelled held = (
   λ number one found. subst (λ (x : List FieldPlace). HasPlaces one x (others number)) (placed number) (subst (HasPlaces one (places number)) (spelled number) (held.0 number one found)),
   λ number none. sym (placed number) ∙ held.1 number none,
 )
+
+set_same : {A : Type 0} (items : List A) (at : ℕ) (one : A) → at < length items → slice_get (slice_set items at one) at ≡ Some one
+set_same [] at one within = absurd (omega (arith, within))
+set_same (first ∷ others) zero one within = refl
+set_same (first ∷ others) (suc at) one within = set_same others at one (omega (arith, within))
+
+set_other : {A : Type 0} (items : List A) (at other : ℕ) (one : A) → (at ≡ other → false ≡ true) → slice_get (slice_set items at one) other ≡ slice_get items other
+set_other [] at other one apart = refl
+set_other (first ∷ others) zero zero one apart = absurd_same (apart refl)
+  where
+    absurd_same : false ≡ true → Some one ≡ Some first
+    absurd_same e = cc
+set_other (first ∷ others) zero (suc other) one apart = refl
+set_other (first ∷ others) (suc at) zero one apart = refl
+set_other (first ∷ others) (suc at) (suc other) one apart = set_other others at other one (λ e. apart (ap suc e))
+
+-- fields that are added to one record type
+pub hold_set : (old : List RecordFields) (index : ℕ) (lent new : RecordFields) (place : ℕ) (fields : List Field) (places : ℕ → List FieldPlace) (names : ℕ → List (List ℕ)) → index < length old → lent ≡ get_or old index lent →
+    ((before : List FieldPlace) (known : List (List ℕ)) → HasPlaces lent before known → HasPlaces new (before ++ places_from (Some place) 0 fields) (known ++ map field_name fields)) →
+    Hold old places names →
+    Hold (slice_set old index new) (λ number. places number ++ places_from (Some place) 0 (if nat_eq index number then fields else [])) (λ number. names number ++ map field_name (if nat_eq index number then fields else []))
+hold_set old index lent new place fields places names within is added held = (
+  λ number one found. there number one (nat_eq index number) refl found,
+  λ number none. gone number (nat_eq index number) refl none,
+)
+  where
+    apart : (number : ℕ) → nat_eq index number ≡ false → index ≡ number → false ≡ true
+    apart number h e = sym h ∙ eq-eqb index number e
+
+    there : (number : ℕ) (one : RecordFields) (b : Bool) → nat_eq index number ≡ b → slice_get (slice_set old index new) number ≡ Some one →
+        HasPlaces one (places number ++ places_from (Some place) 0 (if nat_eq index number then fields else [])) (names number ++ map field_name (if nat_eq index number then fields else []))
+    there number one true e found =
+        let same : index ≡ number = (Decides-eqb index number).0 e in
+        let has : HasPlaces new (places index ++ places_from (Some place) 0 fields) (names index ++ map field_name fields) =
+        added (places index) (names index) (held.0 index lent (some_at old index lent within is)) in
+        let last : Some new ≡ Some one = sym (set_same old index new within) ∙ ap (slice_get (slice_set old index new)) same ∙ found in
+        let new_is : new ≡ one = cc in
+        rw e (subst (λ (x : RecordFields). HasPlaces x (places number ++ places_from (Some place) 0 fields) (names number ++ map field_name fields)) new_is
+        (subst (λ (n : ℕ). HasPlaces new (places n ++ places_from (Some place) 0 fields) (names n ++ map field_name fields)) same has))
+    there number one false e found =
+        rw e (as_before one (places number) (names number) (held.0 number one (sym (set_other old index number new (apart number e)) ∙ found)))
+
+    gone : (number : ℕ) (b : Bool) → nat_eq index number ≡ b → slice_get (slice_set old index new) number ≡ None → places number ++ places_from (Some place) 0 (if nat_eq index number then fields else []) ≡ []
+    gone number true e none =
+        let same : index ≡ number = (Decides-eqb index number).0 e in
+        let some : Some new ≡ None = sym (set_same old index new within) ∙ ap (slice_get (slice_set old index new)) same ∙ none in
+        cc
+    gone number false e none = rw e (append-nil (places number) ∙ held.1 number (sym (set_other old index number new (apart number e)) ∙ none))
 
 -- a declaration that adds nothing
 pub hold_none : (records : List RecordFields) (places : ℕ → List FieldPlace) (names : ℕ → List (List ℕ)) → Hold records places names → Hold records (λ number. places number ++ []) (λ number. names number ++ [])

@@ -1,11 +1,13 @@
-ghost use Rattle.std.specs.Prelude.{◌≡◌, [], ◌∷◌, ◌++◌, ℕ, List, IfOk, OnOk};
+ghost use Rattle.std.specs.Prelude.{◌≡◌, [], ◌∷◌, ◌++◌, ℕ, List, None, map, IfOk, OnOk};
 ghost use Rattle.std.specs.Str.{bytes_eq};
 ghost use Rattle.zk_typed.specs.Names.{count_before};
 
 use crate::first_places::FirstPlaces;
+use crate::predefined::KnownField;
 use crate::whole::Whole;
 use std::alloc::Global;
 use zk_base::Mem;
+use zk_tree::Field;
 
 /// Where a field stands: in its record type's own text, or in that of the declaration of `redef record` at a
 /// place among the declarations; and at which place there, from 0.
@@ -24,7 +26,7 @@ pub struct RecordFields {
 
 impl RecordFields {
     ghost use Rattle.zk_names.specs.declared.field_places.FieldPlace.{FieldPlace as Place};
-    ghost use Rattle.zk_names.specs.FieldPlaces.{HasPlaces};
+    ghost use Rattle.zk_names.specs.FieldPlaces.{HasPlaces, field_name, known_name, places_from};
 
     /// No fields.
     pub fn new(alloc: Global) -> RecordFields
@@ -46,6 +48,31 @@ impl RecordFields {
         let Ok(()) = self.places.push(place) else {
             unreachable!()
         };
+        Ok(())
+    }
+
+    /// Adds the fields of a text.
+    pub fn add_written(
+        &mut self,
+        alloc: Global,
+        added: Option<usize>,
+        fields: &[Field],
+    ) -> Result<(), Mem>
+        ensures { OnOk result ((places : List Place) (names : List (List ℕ)) → HasPlaces self.old places names → HasPlaces self.new (places ++ places_from added 0 fields.now) (names ++ map field_name fields.now)) }
+    {
+        for (at, field) in fields.iter().enumerate() {
+            self.add(alloc, FieldPlace { added, at }, field.name.text.as_slice())?;
+        }
+        Ok(())
+    }
+
+    /// Adds predefined fields.
+    pub fn add_known(&mut self, alloc: Global, fields: &[KnownField]) -> Result<(), Mem>
+        ensures { OnOk result ((places : List Place) (names : List (List ℕ)) → HasPlaces self.old places names → HasPlaces self.new (places ++ places_from None 0 fields.now) (names ++ map known_name fields.now)) }
+    {
+        for (at, field) in fields.iter().enumerate() {
+            self.add(alloc, FieldPlace { added: None, at }, field.name)?;
+        }
         Ok(())
     }
 

@@ -3,16 +3,16 @@ ghost use Rattle.std.specs.Option.{option_map};
 ghost use Rattle.zk_typed.specs.Names.{is_record};
 ghost use Rattle.zk_typed.specs.Resolving as spec;
 ghost use Rattle.zk_names.specs.declared.field_places.FieldPlace.{FieldPlace as Place};
-ghost use Rattle.zk_names.specs.FieldPlaces.{AreOwn, HasPlaces, Hold, field_name, is_among, known_name, named, node_texts, places_from};
+ghost use Rattle.zk_names.specs.FieldPlaces.{AreOwn, HasPlaces, Hold, field_name, is_among, named, node_texts, places_from};
 ghost use Rattle.zk_names.specs.Fields.{stated_fields};
 ghost use Rattle.zk_names.specs.Lent.{home_of, node_of, stated_of};
 ghost use Rattle.zk_names.specs.Scripted.{scripts_in};
 
-use crate::field_places::{FieldPlace, RecordFields};
+use crate::field_places::RecordFields;
 use crate::home::{Home, Stated};
 use crate::known::Names;
 use crate::node::Node;
-use crate::predefined::{KnownField, known_fields};
+use crate::predefined::known_fields;
 use std::alloc::Global;
 use zk_base::Mem;
 use zk_tree::{Decl, Field, Name};
@@ -28,43 +28,14 @@ pub struct Fields {
     pub records: Vec<RecordFields>,
 }
 
-/// Adds the fields of a text.
-fn add_written(
-    alloc: Global,
-    added: Option<usize>,
-    fields: &[Field],
-    all: &mut RecordFields,
-) -> Result<(), Mem>
-    ensures { OnOk result ((places : List Place) (names : List (List ℕ)) → HasPlaces all.old places names → HasPlaces all.new (places ++ places_from added 0 fields.now) (names ++ map field_name fields.now)) }
-{
-    for (at, field) in fields.iter().enumerate() {
-        all.add(alloc, FieldPlace { added, at }, field.name.text.as_slice())?;
-    }
-    Ok(())
-}
-
-/// Adds predefined fields.
-fn add_known(alloc: Global, fields: &[KnownField], all: &mut RecordFields) -> Result<(), Mem>
-    ensures { OnOk result ((places : List Place) (names : List (List ℕ)) → HasPlaces all.old places names → HasPlaces all.new (places ++ places_from None 0 fields.now) (names ++ map known_name fields.now)) }
-{
-    for (at, field) in fields.iter().enumerate() {
-        all.add(alloc, FieldPlace { added: None, at }, field.name)?;
-    }
-    Ok(())
-}
-
-/// Adds the fields that stand in the text of a record type.
-fn add_node(alloc: Global, node: Option<Node<'_>>, all: &mut RecordFields) -> Result<(), Mem>
-    ensures { OnOk result ((places : List Place) (names : List (List ℕ)) → HasPlaces all.old places names
-        → HasPlaces all.new (places ++ places_from None 0 (node_texts (option_map node_of node.entry))) (names ++ map field_name (node_texts (option_map node_of node.entry)))) }
+/// The fields in the text of a record type.
+fn texts_of<'a>(node: Option<Node<'a>>) -> &'a [Field]
+    ensures { result.now ≡ node_texts (option_map node_of node.entry) }
 {
     match node {
-        Some(Node::Record { fields, .. }) => {
-            add_written(alloc, None, fields, all)?;
-            Ok(())
-        }
-        Some(Node::Enum { .. }) => Ok(()),
-        None => Ok(()),
+        Some(Node::Record { fields, .. }) => fields,
+        Some(Node::Enum { .. }) => &[],
+        None => &[],
     }
 }
 
@@ -74,10 +45,16 @@ fn own_fields(alloc: Global, names: &Names<'_>, number: u32) -> Result<RecordFie
 {
     let mut all = RecordFields::new(alloc);
     match known_fields(number) {
-        Some(fields) => add_known(alloc, fields, &mut all)?,
-        None => add_node(alloc, names.record_node(number.saturating_sub(8)), &mut all)?,
+        Some(fields) => {
+            all.add_known(alloc, fields)?;
+            Ok(all)
+        }
+        None => {
+            let node = names.record_node(number.saturating_sub(8));
+            all.add_written(alloc, None, texts_of(node))?;
+            Ok(all)
+        }
     }
-    Ok(all)
 }
 
 /// How many record types there are, with the predefined ones.
@@ -132,27 +109,24 @@ fn named_record(
     }
 }
 
-/// Adds fields of the declaration at a place to the record type of a number, where there is one.
-fn add_to(
+/// Adds fields of the declaration at a place to the record type of a number.
+fn add_at(
     alloc: Global,
-    number: Option<u32>,
+    number: u32,
     place: usize,
     fields: &[Field],
     all: &mut Vec<RecordFields>,
 ) -> Result<(), Mem>
     ensures { OnOk result ((places : ℕ → List Place) (names : ℕ → List (List ℕ)) → Hold all.old.items places names
-        → Hold all.new.items (λ other. places other ++ places_from (Some place) 0 (if is_among other number then fields.now else []))
-        (λ other. names other ++ map field_name (if is_among other number then fields.now else []))) }
+        → Hold all.new.items (λ other. places other ++ places_from (Some place) 0 (if nat_eq number other then fields.now else []))
+        (λ other. names other ++ map field_name (if nat_eq number other then fields.now else []))) }
 {
-    let Some(number) = number else {
-        return Ok(());
-    };
     let index = number as usize;
     // Each record type that a name can name has its number.
     if index >= all.len() {
         return Err(Mem);
     }
-    add_written(alloc, Some(place), fields, &mut all[index])?;
+    all[index].add_written(alloc, Some(place), fields)?;
     Ok(())
 }
 
@@ -174,8 +148,10 @@ fn add_stated(
             name,
             fields,
         } => {
-            let number = named_record(alloc, names, one.home, name)?;
-            add_to(alloc, number, place, fields.as_slice(), all)?;
+            if let Some(number) = named_record(alloc, names, one.home, name)? {
+                add_at(alloc, number, place, fields.as_slice(), all)?;
+                return Ok(());
+            }
             Ok(())
         }
         Decl::Module { .. }

@@ -1,6 +1,6 @@
 -- Where those of a list stand that pass.
 use Rattle.std.proofs.Common.{◌≡◌, ℕ, zero, suc, ◌+◌, ◌<◌, Bool, true, false, List, [], ◌∷◌, ◌++◌, length, get_or, take, map, filter, Option, Some, None, slice_get, refl, ap, sym, ◌∙◌, arith, append-nil, append_assoc, if◌then◌else◌}
-use Rattle.std.proofs.lemmas.List.{length-map, map-append, take_more}
+use Rattle.std.proofs.lemmas.List.{map-append, take_more}
 use Rattle.std.specs.Option.{option_and_then, option_map}
 use Rattle.zk_names.specs.Indexing.{passing}
 use Rattle.zk_names.proofs.IndexLaws.{get_of_map}
@@ -51,15 +51,3 @@ pub nth_passing : {A : Type 0} (q : A → Bool) (items : List A) (at : ℕ) → 
 nth_passing q [] zero = refl
 nth_passing q [] (suc at) = refl
 nth_passing q (one ∷ others) at = nth_by q one others at (q one) refl (nth_passing q others)
-
--- as many stand there as pass
-pub passing_length : {A : Type 0} (q : A → Bool) (items : List A) → length (passing q items) ≡ length (filter q items)
-passing_length q [] = refl
-passing_length q (one ∷ others) = by_one (q one) refl
-  where
-    behind : length (map suc (passing q others)) ≡ length (filter q others)
-    behind = length-map (passing q others) suc ∙ passing_length q others
-
-    by_one : (b : Bool) → q one ≡ b → length (passing q (one ∷ others)) ≡ length (filter q (one ∷ others))
-    by_one true e = rw e (ap suc behind)
-    by_one false e = rw e behind

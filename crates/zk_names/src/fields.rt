@@ -1,6 +1,5 @@
-ghost use Rattle.std.specs.Prelude.{◌≡◌, ◌+◌, ◌++◌, ℕ, List, [], None, Some, filter, length, map, nat_eq, IfOk, OnOk, if◌then◌else◌};
+ghost use Rattle.std.specs.Prelude.{◌≡◌, ◌++◌, ℕ, List, [], None, Some, length, map, nat_eq, IfOk, OnOk, if◌then◌else◌};
 ghost use Rattle.std.specs.Option.{option_map};
-ghost use Rattle.zk_typed.specs.Names.{is_record};
 ghost use Rattle.zk_typed.specs.Resolving as spec;
 ghost use Rattle.zk_names.specs.declared.field_places.FieldPlace.{FieldPlace as Place};
 ghost use Rattle.zk_names.specs.FieldPlaces.{AreOwn, HasPlaces, Hold, field_name, is_among, named, node_texts, places_from};
@@ -11,16 +10,13 @@ ghost use Rattle.zk_names.specs.Scripted.{scripts_in};
 use crate::field_places::RecordFields;
 use crate::home::{Home, Stated};
 use crate::known::Names;
-use crate::node::Node;
+use crate::node::{Node, record_count};
 use crate::predefined::known_fields;
 use std::alloc::Global;
 use zk_base::Mem;
 use zk_tree::{Decl, Field, Name};
 use zk_typed::Refusal;
 use zk_typed::script::ValueType;
-
-/// How many record types the predefined ones are.
-const RECORDS: u32 = 8;
 
 /// The fields of all record types, by the numbers of these.
 #[derive(Drop)]
@@ -57,17 +53,6 @@ fn own_fields(alloc: Global, names: &Names<'_>, number: u32) -> Result<RecordFie
     }
 }
 
-/// How many record types there are, with the predefined ones.
-fn record_count(names: &Names<'_>) -> Result<u32, Mem>
-    ensures { IfOk result (λ count. count ≡ 8 + length (filter is_record (scripts_in names.now).nodes)) }
-{
-    let Ok(written) = u32::try_from(names.records.len()) else {
-        return Err(Mem);
-    };
-    let count = written.checked_add(RECORDS).ok_or(Mem)?;
-    Ok(count)
-}
-
 /// The fields that stand in the own texts of the record types before a number.
 fn own_before(alloc: Global, names: &Names<'_>, count: u32) -> Result<Vec<RecordFields>, Mem>
     ensures { IfOk result (λ all. (length all.items ≡ count) × AreOwn all.items (scripts_in names.now)) }
@@ -84,7 +69,7 @@ fn own_before(alloc: Global, names: &Names<'_>, count: u32) -> Result<Vec<Record
 fn all_own(alloc: Global, names: &Names<'_>) -> Result<Vec<RecordFields>, Mem>
     ensures { IfOk result (λ all. Hold all.items (λ number. places_from None 0 (spec.own_fields (scripts_in names.now) number)) (λ number. named (spec.own_fields (scripts_in names.now) number))) }
 {
-    let count = record_count(names)?;
+    let count = record_count(names.nodes())?;
     let all = own_before(alloc, names, count)?;
     Ok(all)
 }

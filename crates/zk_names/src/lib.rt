@@ -54,7 +54,7 @@ pub use known::Names;
 pub use leaves::Leaf;
 pub use making::names;
 pub use name::{has_module, module_of, whole_name};
-pub use node::{Node, add_decl_nodes};
+pub use node::{Node, add_decl_nodes, record_count};
 pub use outright::{outright_name, written};
 pub use scripts::Scripts;
 pub use signing::body_signature;

@@ -1,4 +1,4 @@
-ghost use Rattle.std.specs.Prelude.{◌≡◌, ◌++◌, [], ◌∷◌, flat_map, OnOk, IfOk, if◌then◌else◌};
+ghost use Rattle.std.specs.Prelude.{◌≡◌, ◌+◌, ◌++◌, [], ◌∷◌, filter, flat_map, length, OnOk, IfOk, if◌then◌else◌};
 ghost use Rattle.zk_tree.specs.declared.decl.Decl.{out-Decl};
 ghost use Rattle.zk_typed.specs.Within.{within};
 ghost use Rattle.zk_typed.specs.Names.{all_nodes, decl_nodes, is_record, node, type_nodes};
@@ -12,6 +12,9 @@ use crate::types::add_decl_types;
 use std::alloc::Global;
 use zk_base::Mem;
 use zk_tree::{Field, Name, Type};
+
+/// How many record types the predefined ones are.
+pub const RECORDS: u32 = 8;
 
 /// A `record {` or an `enum {` in a text: each is a type of its own.
 #[derive(Clone, Copy, Debug)]
@@ -154,4 +157,17 @@ pub fn record_places(alloc: Global, nodes: &[Node<'_>]) -> Result<Vec<usize>, Me
         add_record(node, place, &mut places)?;
     }
     Ok(places)
+}
+
+/// How many record types there are, with the predefined ones. More than numbers are more than memory holds.
+pub fn record_count(nodes: &[Node<'_>]) -> Result<u32, Mem>
+    ensures { IfOk result (λ count. count ≡ 8 + length (filter is_record (nodes_lent nodes.now))) }
+{
+    let mut count = RECORDS;
+    for node in nodes {
+        if node.is_record() {
+            count = count.checked_add(1).ok_or(Mem)?;
+        }
+    }
+    Ok(count)
 }

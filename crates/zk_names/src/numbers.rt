@@ -8,13 +8,10 @@ ghost use Rattle.zk_names.specs.Numbering.{IsNumbered, Stands, names_of, of_kind
 use crate::declared::Declared;
 use crate::first_places::FirstPlaces;
 use crate::kind::Kind;
-use crate::node::Node;
+use crate::node::{Node, RECORDS};
 use crate::whole::Whole;
 use std::alloc::Global;
 use zk_base::Mem;
-
-/// How many record types the predefined ones are.
-const RECORDS: u32 = 8;
 
 /// How many enums the predefined ones are.
 const ENUMS: u32 = 3;

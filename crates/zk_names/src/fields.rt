@@ -115,7 +115,32 @@ fn add_at(
     Ok(())
 }
 
+/// Adds fields of the declaration at a place to the record type of a name, where the name names one.
+fn add_named(
+    alloc: Global,
+    names: &Names<'_>,
+    home: Home<'_>,
+    name: &Name,
+    fields: &[Field],
+    place: usize,
+    all: &mut Vec<RecordFields>,
+) -> Result<(), Mem>
+    ensures { OnOk result ((places : ℕ → List Place) (texts : ℕ → List (List ℕ)) → Hold all.old.items places texts
+        → Hold all.new.items (λ number. places number ++ places_from (Some place) 0 (if spec.is_that number (spec.type_named (scripts_in names.now) (home_of home.entry) name.now) then map (spec.written_field (scripts_in names.now) (home_of home.entry)) fields.now else []))
+        (λ number. texts number ++ named (if spec.is_that number (spec.type_named (scripts_in names.now) (home_of home.entry) name.now) then map (spec.written_field (scripts_in names.now) (home_of home.entry)) fields.now else []))) }
+{
+    let found = named_record(alloc, names, home, name)?;
+    match found {
+        Some(number) => {
+            add_at(alloc, number, place, fields, all)?;
+            Ok(())
+        }
+        None => Ok(()),
+    }
+}
+
 /// Adds the fields of the declaration at a place to the record type to which it adds them.
+#[tactic(auto, using(crate::proofs::FieldPlaceLaws::hold_none))]
 fn add_stated(
     alloc: Global,
     names: &Names<'_>,
@@ -133,10 +158,7 @@ fn add_stated(
             name,
             fields,
         } => {
-            if let Some(number) = named_record(alloc, names, one.home, name)? {
-                add_at(alloc, number, place, fields.as_slice(), all)?;
-                return Ok(());
-            }
+            add_named(alloc, names, one.home, name, fields.as_slice(), place, all)?;
             Ok(())
         }
         Decl::Module { .. }

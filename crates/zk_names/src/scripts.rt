@@ -91,7 +91,8 @@ impl<'a> Scripts<'a> {
             record: number,
             field,
         };
-        match self.field_at(alloc, one)? {
+        let found = self.field_at(alloc, one)?;
+        match found {
             Some(found) => Ok(Some((field, found))),
             None => Ok(None),
         }

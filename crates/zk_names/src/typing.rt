@@ -177,7 +177,7 @@ fn next_place(names: &Names<'_>, place: usize) -> Option<usize>
     ensures is { option_and_then (text_at (scripts_in names.now).names) result ≡ next_of (scripts_in names.now) (text_at (scripts_in names.now).names place) }
     ensures text { IfSome result (λ next. is_some (text_at (scripts_in names.now).names next) ≡ true) }
 {
-    let Some((_, tree)) = names.text_at(place) else {
+    let Some((_home, tree)) = names.text_at(place) else {
         return None;
     };
     match tree {
@@ -403,7 +403,8 @@ pub fn named_type(
     ensures { Tells type_of result (spec.type_of_name (spec.type_to depth (scripts_in names.now)) (scripts_in names.now) (home_of home.entry) name.now) }
 {
     let place = place_in(home, name.place);
-    match names.place_of(alloc, home.module_name, name.text.as_slice())? {
+    let found = names.place_of(alloc, home.module_name, name.text.as_slice())?;
+    match found {
         Some(named) => placed_type(alloc, depth, names, named, place),
         None => Err(Refusal::Broken(one_broken(alloc, Rule::Unknown, place)?)),
     }

@@ -14,16 +14,16 @@ returns-in-None c =
     let number = c.args.number.0 in
     sym (ap (field_named c.args.name.now 0) (none_placed scripts number (c.args.self.now.placed.1 number (sym (c.in-None.ensures ∙ ap (λ (x : List RecordFields). slice_get x number) c.deref.ensures.value)))))
 
-pub returns-in-Some-field_at : goal.returns-in-Some-field_at
-returns-in-Some-field_at c =
+pub returns-in-Some-found : goal.returns-in-Some-found
+returns-in-Some-found c =
     let scripts = scripts_in c.args.self.now.names in
     let number = c.args.number.0 in
     let has = c.args.self.now.placed.0 number c.in-Some.fields.now (sym (c.in-Some.ensures ∙ ap (λ (x : List RecordFields). slice_get x number) c.deref.ensures.value)) in
-    field_found_at c.args.name.now (fields_of scripts number) c.in_ok-field.field _ (c.in_ok-field.ensures (field_places scripts number) (named (fields_of scripts number)) has) c.in_ok-field_at.ensures
+    field_found_at c.args.name.now (fields_of scripts number) c.in_ok-field.field _ (c.in_ok-field.ensures (field_places scripts number) (named (fields_of scripts number)) has) c.in_ok-found.ensures
 
-pub returns-in-None-field_at : goal.returns-in-None-field_at
-returns-in-None-field_at c =
+pub returns-in-None-found : goal.returns-in-None-found
+returns-in-None-found c =
     let scripts = scripts_in c.args.self.now.names in
     let number = c.args.number.0 in
     let has = c.args.self.now.placed.0 number c.in-Some.fields.now (sym (c.in-Some.ensures ∙ ap (λ (x : List RecordFields). slice_get x number) c.deref.ensures.value)) in
-    field_found_at c.args.name.now (fields_of scripts number) c.in_ok-field.field _ (c.in_ok-field.ensures (field_places scripts number) (named (fields_of scripts number)) has) c.in_ok-field_at.ensures
+    field_found_at c.args.name.now (fields_of scripts number) c.in_ok-field.field _ (c.in_ok-field.ensures (field_places scripts number) (named (fields_of scripts number)) has) c.in_ok-found.ensures

@@ -173,6 +173,7 @@ impl<'a> Names<'a> {
 }
 
 /// The field at a place in a text.
+#[tactic(auto, using(crate::proofs::IndexLaws::get_of_map))]
 fn written_at<'a>(
     alloc: Global,
     names: &Names<'_>,
@@ -259,6 +260,7 @@ fn added_field<'a>(
 }
 
 /// The field of a record type that stands at a place.
+#[tactic(auto, using(crate::proofs::FieldLaws::own_is, crate::proofs::FieldPlaceLaws::field_own, crate::proofs::FieldPlaceLaws::field_added))]
 pub fn placed_field<'a>(
     alloc: Global,
     names: &Names<'a>,
@@ -269,7 +271,27 @@ pub fn placed_field<'a>(
 {
     match one.added {
         None => own_field(alloc, names, number, one.at),
-        Some(place) => added_field(alloc, names, at(names.stated(), place), one.at),
+        Some(place) => added_field(alloc, names, names.stated_at(place), one.at),
+    }
+}
+
+/// Adds the field of a record type that stands at a place.
+fn add_field<'a>(
+    alloc: Global,
+    names: &Names<'a>,
+    number: u32,
+    one: FieldPlace,
+    all: &mut Vec<FieldInfo<'a>>,
+) -> Result<(), Mem>
+    ensures { OnOk result (fields_lent all.new.items ≡ fields_lent all.old.items ++ maybe_one (field_at (scripts_in names.now) number one)) }
+{
+    let made = placed_field(alloc, names, number, one)?;
+    match made {
+        Some(field) => {
+            all.push(field)?;
+            Ok(())
+        }
+        None => Ok(()),
     }
 }
 
@@ -284,9 +306,7 @@ pub fn add_placed<'a>(
     ensures { OnOk result (fields_lent all.new.items ≡ fields_lent all.old.items ++ flat_map (λ one. maybe_one (field_at (scripts_in names.now) number one)) places.now) }
 {
     for place in places {
-        if let Some(field) = placed_field(alloc, names, number, *place)? {
-            all.push(field)?;
-        }
+        add_field(alloc, names, number, *place, all)?;
     }
     Ok(())
 }

@@ -364,6 +364,7 @@ pub fn add_known(fields: &'static [KnownField], all: &mut Vec<FieldInfo<'_>>) ->
 }
 
 /// The predefined field at a place.
+#[tactic(auto, using(crate::proofs::IndexLaws::get_of_map))]
 pub fn known_at(fields: &'static [KnownField], place: usize) -> Option<FieldInfo<'static>>
     ensures { option_map field_of result ≡ slice_get (known_lent fields.now) place }
 {

@@ -5,7 +5,7 @@ ghost use Rattle.zk_typed.specs.Resolving as spec;
 ghost use Rattle.zk_typed.specs.Typing.{number_among};
 ghost use Rattle.zk_names.specs.Kinds.{is_of};
 ghost use Rattle.zk_names.specs.Leading.{is_circle, place_up, steps, text_at, text_in};
-ghost use Rattle.zk_names.specs.Lent.{declared_lent, declared_of, home_of, meant_of, nodes_lent, stated_lent, text_lent};
+ghost use Rattle.zk_names.specs.Lent.{declared_lent, declared_of, home_of, meant_of, nodes_lent, stated_lent, stated_of, text_lent};
 ghost use Rattle.zk_names.specs.Scripted.{scripts_in};
 
 use crate::declared::{Declared, Meant};
@@ -36,6 +36,13 @@ impl<'a> Names<'a> {
         ensures { stated_lent result.now ≡ (scripts_in self.now).stated }
     {
         &self.stated
+    }
+
+    /// The declaration at a place among them.
+    pub(crate) fn stated_at(&self, place: usize) -> Option<&Stated<'a>>
+        ensures { option_map (λ one. stated_of one.now) result ≡ slice_get (scripts_in self.now).stated place }
+    {
+        at(&self.stated, place)
     }
 
     /// The records and enums in the texts, in load order.

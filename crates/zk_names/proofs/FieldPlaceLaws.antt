@@ -276,7 +276,7 @@ placed_from view all added at [] stands reads = refl
 placed_from view all added at (one ∷ others) stands reads =
     let here : Some one ≡ view (record { added = added; at = at }) = stands 0 ∙ ap (slice_get all) (omega arith) ∙ sym (reads at) in
     let behind : (k : ℕ) → slice_get others k ≡ slice_get all (suc at + k) = λ k. stands (suc k) ∙ ap (slice_get all) (omega arith) in
-    ap (λ (x : Option _). x ∷ map Some others) here ∙ ap (λ (x : List (Option _)). view (record { added = added; at = at }) ∷ x) (placed_from view all added (suc at) others behind reads)
+    ap (λ x. x ∷ map Some others) here ∙ ap (λ more. view (record { added = added; at = at }) ∷ more) (placed_from view all added (suc at) others behind reads)
 
 stated_placed : (scripts : Scripts) (number place : ℕ) (one : Stated) → slice_get scripts.stated place ≡ Some one →
     map Some (stated_fields scripts number one) ≡ map (field_at scripts number) (places_from (Some place) 0 (stated_fields scripts number one))

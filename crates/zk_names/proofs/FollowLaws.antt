@@ -62,21 +62,25 @@ named_text : (names : List Declared) (place : Option ℕ) → option_and_then (t
 named_text names None = refl
 named_text names (Some place) = refl
 
-next_in : (scripts : Scripts) (home : Home) (name : Name) (found : Option Declared) → look_up scripts.names home.module_name name.text ≡ found → next_text scripts home (tree.Named name) ≡ text_of found
+next_by : (scripts : Scripts) (home : Home) (name : Name) (one : Declared) (meant : Meant) → look_up scripts.names home.module_name name.text ≡ Some one → one.meant ≡ meant → next_text scripts home (tree.Named name) ≡ text_in meant
 unfolding trees
-next_in scripts home name None e = rw e refl
-next_in scripts home name (Some one) e = rw e (of_meant one.meant)
-  where
-    of_meant : (meant : Meant) → _
-    of_meant (WrittenType other inner) = refl
-    of_meant (KnownType type) = refl
-    of_meant (Word number) = refl
-    of_meant (Variable other lasting tree init attrs) = refl
-    of_meant (Event signature) = refl
-    of_meant (Hook signature) = refl
-    of_meant (Function signature) = refl
-    of_meant (BuiltInFunction function) = refl
-    of_meant (Log function) = refl
+next_by scripts home name one (WrittenType other inner) e means = rw (e, means) refl
+next_by scripts home name one (KnownType type) e means = rw (e, means) refl
+next_by scripts home name one (Word number) e means = rw (e, means) refl
+next_by scripts home name one (Variable other lasting given init attrs) e means = rw (e, means) refl
+next_by scripts home name one (Event signature) e means = rw (e, means) refl
+next_by scripts home name one (Hook signature) e means = rw (e, means) refl
+next_by scripts home name one (Function signature) e means = rw (e, means) refl
+next_by scripts home name one (BuiltInFunction function) e means = rw (e, means) refl
+next_by scripts home name one (Log function) e means = rw (e, means) refl
+
+next_none : (scripts : Scripts) (home : Home) (name : Name) → look_up scripts.names home.module_name name.text ≡ None → next_text scripts home (tree.Named name) ≡ None
+unfolding trees
+next_none scripts home name e = rw e refl
+
+next_in : (scripts : Scripts) (home : Home) (name : Name) (found : Option Declared) → look_up scripts.names home.module_name name.text ≡ found → next_text scripts home (tree.Named name) ≡ text_of found
+next_in scripts home name None e = next_none scripts home name e
+next_in scripts home name (Some one) e = next_by scripts home name one one.meant e refl
 
 first_of_one : (place : Option ℕ) → slice_get (maybe_one place) 0 ≡ place
 first_of_one None = refl

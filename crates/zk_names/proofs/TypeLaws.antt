@@ -26,27 +26,21 @@ pub enum_formed : (check : Home → «Type» → Checked ValueType) (scripts : S
 unfolding trees
 enum_formed check scripts home place words comma = refl
 
--- a name that is declared with a meaning
-meaning : List ℕ → Bool → Meant → Declared
-meaning name exported meant = record { name = name; exported = exported; meant = meant }
-
 -- the type of a declared type, unless it leads back to its name
 pub declared_type : (check : Home → «Type» → Checked ValueType) (scripts : Scripts) (place : Place) (one : Declared) (home : Home) (inner : «Type») → one.meant ≡ WrittenType home inner →
     is_circle scripts (Some one) ≡ false → named_type check scripts place (Some one) ≡ unless_deep place (check home inner)
-unfolding meaning
 declared_type check scripts place one home inner is apart =
-    subst (λ (meant : Meant). meant_circle scripts one.name meant ≡ false → named_type check scripts place (Some (meaning one.name one.exported meant)) ≡ unless_deep place (check home inner)) (sym is)
+    subst (λ (meant : Meant). meant_circle scripts one.name meant ≡ false → named_type check scripts place (Some (record { name = one.name; exported = one.exported; meant = meant })) ≡ unless_deep place (check home inner)) (sym is)
     by_circle apart
   where
-    by_circle : list_any (leads scripts one.name home) (mentions inner) ≡ false → named_type check scripts place (Some (meaning one.name one.exported (WrittenType home inner))) ≡ unless_deep place (check home inner)
+    by_circle : list_any (leads scripts one.name home) (mentions inner) ≡ false → named_type check scripts place (Some (record { name = one.name; exported = one.exported; meant = WrittenType home inner })) ≡ unless_deep place (check home inner)
     by_circle e = rw e refl
 
 pub circular_type : (check : Home → «Type» → Checked ValueType) (scripts : Scripts) (place : Place) (one : Declared) (home : Home) (inner : «Type») → one.meant ≡ WrittenType home inner →
     is_circle scripts (Some one) ≡ true → named_type check scripts place (Some one) ≡ elsewhere
-unfolding meaning
 circular_type check scripts place one home inner is circle =
-    subst (λ (meant : Meant). meant_circle scripts one.name meant ≡ true → named_type check scripts place (Some (meaning one.name one.exported meant)) ≡ elsewhere) (sym is)
+    subst (λ (meant : Meant). meant_circle scripts one.name meant ≡ true → named_type check scripts place (Some (record { name = one.name; exported = one.exported; meant = meant })) ≡ elsewhere) (sym is)
     by_circle circle
   where
-    by_circle : list_any (leads scripts one.name home) (mentions inner) ≡ true → named_type check scripts place (Some (meaning one.name one.exported (WrittenType home inner))) ≡ elsewhere
+    by_circle : list_any (leads scripts one.name home) (mentions inner) ≡ true → named_type check scripts place (Some (record { name = one.name; exported = one.exported; meant = WrittenType home inner })) ≡ elsewhere
     by_circle e = rw e refl

@@ -30,6 +30,16 @@ pub struct Scripts<'a> {
     ghost told: { AreTypes logs (flat_map (stated_created (scripts_in names)) (scripts_in names).stated) },
 }
 
+/// A field that is found, with its number.
+fn numbered(number: u32, found: Option<FieldInfo<'_>>) -> Option<(u32, FieldInfo<'_>)>
+    ensures { option_map field_found result ≡ option_map (λ one. (number, one)) (option_map field_of found.entry) }
+{
+    match found {
+        Some(field) => Some((number, field)),
+        None => None,
+    }
+}
+
 impl<'a> Scripts<'a> {
     /// What scripts with these names declare.
     pub fn new(alloc: Global, names: Names<'a>) -> Result<Scripts<'a>, Mem>
@@ -69,7 +79,10 @@ impl<'a> Scripts<'a> {
         ensures { IfOk result (λ field. option_map field_of field ≡ slice_get (resolving.fields_of (scripts_in self.now.names) one.«record».0) one.field) }
     {
         match at(self.places(one.record), one.field as usize) {
-            Some(place) => placed_field(alloc, &self.names, one.record.0, *place),
+            Some(place) => {
+                let made = placed_field(alloc, &self.names, one.record.0, *place)?;
+                Ok(made)
+            }
             None => Ok(None),
         }
     }
@@ -92,10 +105,7 @@ impl<'a> Scripts<'a> {
             field,
         };
         let found = self.field_at(alloc, one)?;
-        match found {
-            Some(found) => Ok(Some((field, found))),
-            None => Ok(None),
-        }
+        Ok(numbered(field, found))
     }
 
     /// The record type of a log by the log's whole name: None where the log has no stream or streams of

@@ -10,12 +10,12 @@ use zk_names::{Declared, Kind, Scripts};
 use zk_typed::script::Log;
 
 /// The record type of the columns of a log, where a stream of it is created.
-fn columns_of(scripts: &Scripts<'_>, word: &[u8]) -> Option<RecordNo>
-    ensures { result ≡ stream_type (scripts_in scripts.now.names) word.now }
+fn columns_of(alloc: Global, scripts: &Scripts<'_>, word: &[u8]) -> Result<Option<RecordNo>, Mem>
+    ensures { IfOk result (λ columns. columns ≡ stream_type (scripts_in scripts.now.names) word.now) }
 {
-    match scripts.log_type(word) {
-        Some(columns) => columns,
-        None => None,
+    match scripts.log_type(alloc, word)? {
+        Some(columns) => Ok(columns),
+        None => Ok(None),
     }
 }
 
@@ -29,7 +29,7 @@ fn add_log(
     ensures { OnOk result (all.new.items ≡ all.old.items ++ logs_by (scripts_in scripts.now.names) (declared_of one.now)) }
 {
     if Kind::LogWord.is_of(one) {
-        let columns = columns_of(scripts, one.name.as_slice());
+        let columns = columns_of(alloc, scripts, one.name.as_slice())?;
         let word = Bytes::copy_of(alloc, one.name.as_slice())?;
         all.push(Log { word, columns })?;
     }

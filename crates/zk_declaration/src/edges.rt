@@ -2,13 +2,13 @@ ghost use Rattle.std.specs.Prelude.{◌≡◌, ◌++◌, ◌+◌, ℕ, length, m
 ghost use Rattle.zk_typed.specs.Names.{is_record};
 ghost use Rattle.zk_typed.specs.Resolving as spec;
 ghost use Rattle.zk_names.specs.Fields.{field_of, fields_lent, stated_fields};
-ghost use Rattle.zk_names.specs.Lent.{home_of, nodes_lent, stated_lent, stated_of};
+ghost use Rattle.zk_names.specs.Lent.{home_of, stated_lent, stated_of};
 ghost use Rattle.zk_names.specs.Scripted.{scripts_in};
 ghost use Rattle.zk_declaration.specs.Edges.{edges_at, is_among, kind_of, kinds, only, redef_fields};
 
 use std::alloc::Global;
 use zk_base::{Mem, RecordNo};
-use zk_names::{FieldInfo, Home, Names, Node, Stated};
+use zk_names::{FieldInfo, Home, Names, Stated, record_count};
 use zk_operator::copied_type;
 use zk_tree::{Decl, Field, Name};
 use zk_typed::Refusal;
@@ -62,19 +62,6 @@ fn add_own(alloc: Global, names: &Names<'_>, owner: u32, edges: &mut Vec<Edge>) 
     let fields = names.own_fields(alloc, RecordNo(owner))?;
     add_all_known(alloc, owner, &fields, edges)?;
     Ok(())
-}
-
-/// How many record types there are.
-fn record_count(nodes: &[Node<'_>]) -> Result<u32, Mem>
-    ensures { IfOk result (λ count. count ≡ 8 + length (filter is_record (nodes_lent nodes.now))) }
-{
-    let mut count = 8_u32;
-    for node in nodes {
-        if node.is_record() {
-            count = count.checked_add(1).ok_or(Mem)?;
-        }
-    }
-    Ok(count)
 }
 
 /// How many record types there are, with the predefined ones.

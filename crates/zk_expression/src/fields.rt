@@ -1,6 +1,6 @@
 ghost use Rattle.std.specs.Prelude.{◌≡◌, ◌∷◌, [], false, IfOk, MatchResult};
 ghost use Rattle.std.specs.Option.{option_map};
-ghost use Rattle.zk_names.specs.Fields.{fields_lent, known_or};
+ghost use Rattle.zk_names.specs.Fields.{field_found as owned_found, fields_lent, known_or};
 ghost use Rattle.zk_operator.specs.Views.{typed_of};
 ghost use Rattle.zk_typed.specs.declared.script.expr.Expr.TheVariants as expr;
 ghost use Rattle.zk_typed.specs.declared.script.primitive.Primitive.TheVariants as primitive;
@@ -12,7 +12,7 @@ ghost use Rattle.zk_expression.specs.declared.fields.Read.TheVariants as read;
 ghost use Rattle.zk_expression.specs.Fields.{IsRead, field_found, typed_field, field_among, is_lone};
 
 use crate::env::Env;
-use sqlite_items::{Items, at};
+use sqlite_items::Items;
 use std::alloc::Global;
 use zk_base::{Mem, RecordNo};
 use zk_names::FieldInfo;
@@ -58,18 +58,17 @@ pub fn known_type(alloc: Global, one: &Option<ValueType>) -> Result<ValueType, R
     }
 }
 
-/// A field of a record type, and its type.
+/// A field that was found in a record type, and its type.
 #[tactic(auto, using(crate::proofs::Steps::type_passed))]
 fn field_in(
     alloc: Global,
     place: Place,
     number: RecordNo,
-    fields: &[FieldInfo<'_>],
-    name: &Name,
+    found: Option<(u32, FieldInfo<'_>)>,
 ) -> Result<(FieldNo, ValueType), Refusal>
-    ensures { Tells typed_field result (field_among place number (making.field_named name.now.text 0 (fields_lent fields.now))) }
+    ensures { Tells typed_field result (field_among place number (option_map owned_found found)) }
 {
-    match field_named(fields, name.text.as_slice())? {
+    match found {
         None => Err(Refusal::Broken(one_broken(alloc, Rule::Field, place)?)),
         Some((field, one)) => match known_type(alloc, &one.field_type) {
             Ok(value_type) => Ok((
@@ -96,8 +95,9 @@ pub fn field_of(
 {
     match &one.value_type {
         ValueType::Record(record) => {
-            let fields = env.scripts.names.fields_of(alloc, *record)?;
-            field_in(alloc, place, *record, &fields, name)
+            let text = name.text.as_slice();
+            let found = env.scripts.field_named(alloc, *record, text)?;
+            field_in(alloc, place, *record, found)
         }
         ValueType::Simple(_)
         | ValueType::Table { .. }
@@ -112,8 +112,7 @@ pub fn field_of(
 pub fn is_wire(alloc: Global, env: &Env<'_>, one: FieldNo) -> Result<bool, Mem>
     ensures { IfOk result (λ wire. wire ≡ making.is_wire (env_of env.now) one) }
 {
-    let fields = env.scripts.names.fields_of(alloc, one.record)?;
-    match at(&fields, one.field as usize) {
+    match env.scripts.field_at(alloc, one)? {
         None => Ok(false),
         Some(field) => Ok(field.wire),
     }

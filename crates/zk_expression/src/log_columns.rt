@@ -144,7 +144,7 @@ fn logged_places(alloc: Global, leaves: &[Leaf]) -> Result<Sequence<u32>, Mem>
 pub fn stream_columns(alloc: Global, env: &Env<'_>, number: RecordNo) -> Result<Sequence<u32>, Mem>
     ensures { IfOk result (λ columns. columns ≡ logs.places_of (λ leaf. leaf.log) 0 (logs.leaves (env_of env.now).scripts number)) }
 {
-    let leaves = env.scripts.names.leaves(alloc, number)?;
+    let leaves = env.scripts.leaves(alloc, number)?;
     logged_places(alloc, &leaves)
 }
 
@@ -180,6 +180,6 @@ pub fn filter_columns(
 ) -> Result<Sequence<u32>, Mem>
     ensures { IfOk result (λ columns. columns ≡ logs.places_of (logs.keeps (option_map (λ names. texts_lent names.now) included.entry) (option_map (λ names. texts_lent names.now) excluded.entry)) 0 (logs.logged (logs.leaves (env_of env.now).scripts number))) }
 {
-    let leaves = env.scripts.names.leaves(alloc, number)?;
+    let leaves = env.scripts.leaves(alloc, number)?;
     kept_places(alloc, included, excluded, &leaves)
 }

@@ -41,15 +41,19 @@ fn word_of<'a>(alloc: Global, env: &Env<'a>, one: &Expr) -> Result<Option<&'a De
 }
 
 /// A word with the record type of its log, where the log has a stream.
-fn typed_word<'a>(env: &Env<'a>, word: Option<&'a Declared<'a>>) -> Option<LogWord<'a>>
-    ensures { option_map log_word_of result ≡ typed_word (env_of env.now) (option_map (λ one. declared_of one.now) word.entry) }
+fn typed_word<'a>(
+    alloc: Global,
+    env: &Env<'a>,
+    word: Option<&'a Declared<'a>>,
+) -> Result<Option<LogWord<'a>>, Mem>
+    ensures { IfOk result (λ made. option_map log_word_of made ≡ typed_word (env_of env.now) (option_map (λ one. declared_of one.now) word.entry)) }
 {
     match word {
-        Some(declared) => match env.scripts.log_type(declared.name.as_slice()) {
-            Some(columns) => Some(LogWord { declared, columns }),
-            None => None,
+        Some(declared) => match env.scripts.log_type(alloc, declared.name.as_slice())? {
+            Some(columns) => Ok(Some(LogWord { declared, columns })),
+            None => Ok(None),
         },
-        None => None,
+        None => Ok(None),
     }
 }
 
@@ -58,7 +62,7 @@ pub fn logged_word<'a>(alloc: Global, env: &Env<'a>, one: &Expr) -> Result<Optio
     ensures { IfOk result (λ word. option_map log_word_of word ≡ logged_word (env_of env.now) one.now) }
 {
     let word = word_of(alloc, env, one)?;
-    Ok(typed_word(env, word))
+    typed_word(alloc, env, word)
 }
 
 /// The number of a log, by its word.

@@ -324,7 +324,7 @@ impl<F: Fn(Global, &Env<'_>, u64, Wanted<'_>, &Expr) -> Result<Typed, Refusal>> 
         requires { Judges self.now.depth (F.pre self.now.part) (F.post self.now.part) }
         ensures { Tells typed_of result (making.record_typed (rules.expr_to self.now.depth (env_of self.now.env.now)) (env_of self.now.env.now) place number items.now) }
     {
-        let fields = self.env.scripts.names.fields_of(self.alloc, number)?;
+        let fields = self.env.scripts.fields_of(self.alloc, number)?;
         match self.each_given(&fields, items) {
             Ok(given) => record_of(self.alloc, self.env, place, number, &fields, items, given),
             Err(refusal) => Err(refusal),

@@ -74,8 +74,11 @@ or_true true true = refl
 or_true true false = refl
 or_true false b = refl
 
+-- the first of a name, exported or not
+pub named_anywhere : (names : List Declared) (whole : List ℕ) → first_place (λ (one : Declared). bytes_eq one.name whole && (one.exported || true)) names ≡ first_place (λ (one : Declared). bytes_eq one.name whole) names
+named_anywhere names whole = same_first (λ (one : Declared). bytes_eq one.name whole && (one.exported || true)) (λ (one : Declared). bytes_eq one.name whole) (λ one. or_true (bytes_eq one.name whole) one.exported) names
+
 -- a name stands in a list where its place is found, exported or not
 pub has_place : (names : List Declared) (whole : List ℕ) → is_some (first_place (λ (one : Declared). bytes_eq one.name whole && (one.exported || true)) names) ≡ list_any (λ (one : Declared). bytes_eq one.name whole) names
 has_place names whole =
-    ap is_some (same_first (λ (one : Declared). bytes_eq one.name whole && (one.exported || true)) (λ (one : Declared). bytes_eq one.name whole) (λ one. or_true (bytes_eq one.name whole) one.exported) names) ∙
-    some_any (λ (one : Declared). bytes_eq one.name whole) names
+    ap is_some (named_anywhere names whole) ∙ some_any (λ (one : Declared). bytes_eq one.name whole) names

@@ -54,7 +54,7 @@ pub none_narrower : {A : Type 0} (p q : A → Bool) → ((one : A) → p one ≡
 none_narrower p q narrow [] none = refl
 none_narrower p q narrow (one ∷ others) none = narrow_by p q one others (p one) refl (narrow one) (none_narrower p q narrow others) none
 
-or_none : (a : Option ℕ) → or_else a None ≡ a
+pub or_none : (a : Option ℕ) → or_else a None ≡ a
 or_none None = refl
 or_none (Some place) = refl
 

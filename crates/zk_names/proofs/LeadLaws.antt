@@ -152,12 +152,13 @@ past_all (x ∷ xs) (suc at) none = omega (arith, past_all xs at none)
 pub laws_of : (scripts : Scripts) (names : List Declared) (target : List ℕ) → scripts.names ≡ names → Leading (λ m v. led scripts target m v) (is_target names target) (steps names)
 laws_of scripts names target e = subst (λ (names : List Declared). Leading (λ m v. led scripts target m v) (is_target names target) (steps names)) e (lead_laws scripts target)
 
+-- as many names are lent as stand for them
+pub lent_length : (items : List LentDeclared) → length (declared_lent items) ≡ length items
+lent_length [] = refl
+lent_length (one ∷ others) = ap suc (lent_length others)
+
 pub as_long : (scripts : Scripts) (items : List LentDeclared) → scripts.names ≡ declared_lent items → length scripts.names ≡ length items
-as_long scripts items e = ap length e ∙ counted items
-  where
-    counted : (items : List LentDeclared) → length (declared_lent items) ≡ length items
-    counted [] = refl
-    counted (one ∷ others) = ap suc (counted others)
+as_long scripts items e = ap length e ∙ lent_length items
 
 pub fold_on : (ks xs : List ℕ) (at x : ℕ) → at < length xs → fold (insert_key nat_eq) ks (take (at + 1) xs) ≡ insert_key nat_eq (fold (insert_key nat_eq) ks (take at xs)) (get_or xs at x)
 fold_on ks xs at x within = ap (fold (insert_key nat_eq) ks) (take_more xs at x within) ∙ fold_more ks (take at xs) (get_or xs at x)

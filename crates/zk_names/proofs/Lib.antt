@@ -4,7 +4,6 @@ pub mod StmtLaws
 pub mod IndexLaws
 pub mod NameLaws
 pub mod StepLaws
-pub mod CountLaws
 pub mod GatherLaws
 pub mod SearchLaws
 pub mod LeadLaws
@@ -18,3 +17,8 @@ pub mod CallLaws
 pub mod StatementCallLaws
 pub mod StreamLaws
 pub mod TypeNameLaws
+pub mod PlaceLaws
+pub mod WayLaws
+pub mod CircleLaws
+pub mod PassingLaws
+pub mod FieldPlaceLaws

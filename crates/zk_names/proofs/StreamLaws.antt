@@ -1,9 +1,9 @@
 -- What the calls of `create_stream` say of one log.
-use Rattle.std.proofs.Common.{◌≡◌, ℕ, Bool, true, false, List, [], ◌∷◌, ◌++◌, map, filter, flat_map, Option, Some, None, refl, ap, sym, ◌∙◌, if◌then◌else◌}
+use Rattle.std.proofs.Common.{◌≡◌, ℕ, suc, ◌+◌, ◌<◌, ◌≤◌, Bool, true, false, List, [], ◌∷◌, ◌++◌, length, get_or, drop, map, filter, flat_map, Option, Some, None, refl, ap, sym, ◌∙◌, subst, cond, add-one, drop-cons, if◌then◌else◌}
 use Rattle.std.specs.Prelude.{bytes_eq}
 use Rattle.std.proofs.lemmas.Grind.{flat_map-append}
 use Rattle.std.proofs.lemmas.List.Elements.{filter-append}
-use Rattle.std.proofs.lemmas.List.{map-append}
+use Rattle.std.proofs.lemmas.List.{drop_all, map-append}
 use Rattle.zk_base.specs.declared.numbers.RecordNo.{RecordNo}
 use Rattle.zk_tree.specs.declared.decl.Decl.{out-Decl}
 use Rattle.zk_tree.specs.declared.expr.Expr.{Expr}
@@ -13,7 +13,10 @@ use Rattle.zk_typed.specs.LoadOrder.{Home, Stated}
 use Rattle.zk_typed.specs.LogCalls.{Call, item_expr, settings, creates, created_in, decl_calls, all_calls, log_type, one_type}
 use Rattle.zk_typed.specs.Names.{Declared}
 use Rattle.zk_typed.specs.Resolving.{Scripts}
-use Rattle.zk_names.specs.Streams.{word_in, others_type, items_created, call_created, created_by, stated_created, of_log, joined, so_far, with_stream}
+use Rattle.zk_names.specs.declared.created.Created.{Created}
+use Rattle.zk_names.specs.declared.log_types.LogTypes.{LogTypes}
+use Rattle.zk_names.specs.Same.{same_bytes}
+use Rattle.zk_names.specs.Streams.{AreTypes, word_in, others_type, items_created, call_created, created_by, created_lent, created_of, stated_created, of_log, joined, so_far, with_stream}
 
 abbrev call_with : Home → Expr → Name → List Item → Call
 call_with home whole name items = record { home = home; whole = whole; name = name; items = items }
@@ -96,3 +99,48 @@ above first second more (Some other) h = rw h refl
 pub one_more : (first : Option RecordNo) (more : List (Option RecordNo)) → so_far (first ∷ more) ≡ Some (with_stream first (so_far more))
 one_more first [] = refl
 one_more first (second ∷ more) = ap Some (above first second more (one_type (second ∷ more)) refl)
+
+-- Logs by their names ------------------------------------------------------------------------------------------------
+
+type_by : (all : List (Option RecordNo)) (told : Option (Option RecordNo)) → Some told ≡ so_far all → told ≡ one_type all
+type_by [] told e = cc
+type_by (first ∷ more) told e = cc
+
+pub type_told : (all : List (Option RecordNo)) (told : Option (Option RecordNo)) (got : Option (Option (Option RecordNo))) → Some told ≡ got → got ≡ so_far all → told ≡ one_type all
+type_told all told got is kept = type_by all told (is ∙ kept)
+
+pub type_absent : (all : List (Option RecordNo)) (got : Option (Option (Option RecordNo))) → None ≡ got → got ≡ so_far all → None ≡ one_type all
+type_absent [] got is kept = refl
+type_absent (first ∷ more) got is kept = cc
+
+far_by : (word key : List ℕ) (columns : Option RecordNo) (created : List (List ℕ × Option RecordNo)) (b : Bool) → bytes_eq key word ≡ b →
+    cond b (Some (with_stream columns (so_far (of_log word created)))) (so_far (of_log word created)) ≡ so_far (of_log word ((key, columns) ∷ created))
+far_by word key columns created true e = rw e (sym (one_more columns (of_log word created)))
+far_by word key columns created false e = rw e refl
+
+same_word : (key word : List ℕ) (created : List (List ℕ × Option RecordNo)) → bytes_eq key word ≡ true → of_log key created ≡ of_log word created
+same_word key word created e = ap (λ (x : List ℕ). of_log x created) (same_bytes key word e)
+
+told_by : (word key : List ℕ) (columns : Option RecordNo) (created : List (List ℕ × Option RecordNo)) (b : Bool) → bytes_eq key word ≡ b →
+    cond b (Some (with_stream columns (so_far (of_log key created)))) (so_far (of_log word created)) ≡ cond b (Some (with_stream columns (so_far (of_log word created)))) (so_far (of_log word created))
+told_by word key columns created true e = ap (λ (x : List (Option RecordNo)). Some (with_stream columns (so_far x))) (same_word key word created e)
+told_by word key columns created false e = refl
+
+-- what is kept of each log, once a stream before the others is added
+pub types_more : (created : List (List ℕ × Option RecordNo)) (key : List ℕ) (columns : Option RecordNo) (told : Option (Option RecordNo)) (old new : List ℕ → Option (Option (Option RecordNo))) →
+    ((word : List ℕ) → old word ≡ so_far (of_log word created)) → told ≡ with_stream columns (old key) → ((word : List ℕ) → new word ≡ cond (bytes_eq key word) (Some told) (old word)) →
+    (word : List ℕ) → new word ≡ so_far (of_log word ((key, columns) ∷ created))
+types_more created key columns told old new kept made changed word =
+    changed word ∙ ap (λ (x : Option (Option RecordNo)). cond (bytes_eq key word) (Some x) (old word)) (made ∙ ap (with_stream columns) (kept key)) ∙
+    ap (cond (bytes_eq key word) (Some (with_stream columns (so_far (of_log key created))))) (kept word) ∙ told_by word key columns created (bytes_eq key word) refl ∙
+    far_by word key columns created (bytes_eq key word) refl
+
+-- of as many streams as there are from the end on
+pub types_none : (created : List Created) (index : ℕ) (types : LogTypes) → length created ≤ index → AreTypes types [] → AreTypes types (created_lent (drop index created))
+types_none created index types past none = subst (AreTypes types) (sym (ap created_lent (drop_all index created past))) none
+
+pub types_step : (created : List Created) (index : ℕ) (one : Created) (old new : LogTypes) → index < length created → one ≡ get_or created index one →
+    ((more : List (List ℕ × Option RecordNo)) → AreTypes old more → AreTypes new (created_of one ∷ more)) → AreTypes old (created_lent (drop (index + 1) created)) → AreTypes new (created_lent (drop index created))
+types_step created index one old new within is added before =
+    let first : drop index created ≡ one ∷ drop (index + 1) created = rw add-one (drop-cons created index one within ∙ ap (λ (x : Created). x ∷ drop (suc index) created) (sym is)) in
+    subst (AreTypes new) (sym (ap created_lent first)) (added (created_lent (drop (index + 1) created)) before)

@@ -33,6 +33,10 @@ field_of field = record {
   home = home_of field.home;
 }
 
+-- a field that is found, with its number
+abbrev pub field_found : ℕ × LentField → ℕ × FieldInfo
+field_found one = (one.0, field_of one.1)
+
 abbrev pub fields_lent : List LentField → List FieldInfo
 fields_lent fields = map field_of fields
 

@@ -1,5 +1,7 @@
 -- An index tells where names stand in a list.
-use Rattle.std.specs.Prelude.{◌≡◌, ℕ, suc, Bool, true, false, ◌&&◌, List, [], ◌∷◌, Option, Some, None, if◌then◌else◌}
+use Rattle.std.specs.Prelude.{◌≡◌, ℕ, suc, Bool, true, false, ◌&&◌, List, [], ◌∷◌, ◌++◌, map, slice_get, Option, Some, None, if◌then◌else◌}
+use Rattle.std.specs.declared.alloc.Global.{Global}
+use Rattle.std.specs.declared.vec.Vec.{Vec}
 use Rattle.std.specs.HashMap.{get}
 use Rattle.std.specs.Option.{option_map}
 use Rattle.std.specs.Str.{bytes_eq}
@@ -11,6 +13,27 @@ use Rattle.zk_names.specs.declared.index.Slot.{Slot}
 abbrev pub first_place : {A : Type 0} → (A → Bool) → List A → Option ℕ
 first_place passes [] = None
 first_place passes (one ∷ others) = if passes one then Some 0 else option_map suc (first_place passes others)
+
+-- where those stand that pass
+abbrev pub passing : {A : Type 0} → (A → Bool) → List A → List ℕ
+passing passes [] = []
+passing passes (one ∷ others) = (if passes one then 0 ∷ [] else []) ++ map suc (passing passes others)
+
+abbrev pub items_of : Option (Vec ℕ Global) → List ℕ
+items_of None = []
+items_of (Some all) = all.items
+
+-- the list at a place; there is none past the end
+abbrev pub items_at : List (Vec ℕ Global) → ℕ → List ℕ
+items_at lists place = items_of (slice_get lists place)
+
+abbrev pub is_marked : Option Bool → Bool
+is_marked None = false
+is_marked (Some mark) = mark
+
+-- the mark at a place; there is none past the end
+abbrev pub mark_at : List Bool → ℕ → Bool
+mark_at marks place = is_marked (slice_get marks place)
 
 abbrev pub or_else : Option ℕ → Option ℕ → Option ℕ
 or_else (Some place) other = Some place

@@ -6,9 +6,11 @@ pub mod Keys
 pub mod Leading
 pub mod Kinds
 pub mod Lent
+pub mod Numbering
 pub mod Same
 pub mod Scripted
 pub mod Words
 pub mod Streams
 pub mod Calls
 pub mod Leaves
+pub mod FieldPlaces

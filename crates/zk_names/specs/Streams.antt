@@ -1,6 +1,7 @@
 -- The streams of logs that scripts create (Zeek manual, Logging Framework).
-use Rattle.std.specs.Prelude.{ℕ, List, [], ◌∷◌, map, filter, flat_map, Option, Some, None, bytes_eq, if◌then◌else◌}
+use Rattle.std.specs.Prelude.{◌≡◌, ℕ, List, [], ◌∷◌, map, filter, flat_map, Option, Some, None, bytes_eq, if◌then◌else◌}
 use Rattle.std.specs.Borrow.{Bor}
+use Rattle.std.specs.HashMap.{get}
 use Rattle.std.specs.Option.{option_map}
 use Rattle.zk_base.specs.declared.numbers.RecordNo.{RecordNo}
 use Rattle.zk_tree.specs.declared.decl.Decl.{out-Decl}
@@ -11,6 +12,7 @@ use Rattle.zk_typed.specs.LogCalls.{Call, item_expr, settings, columns_type, if_
 use Rattle.zk_typed.specs.Names.{Declared, look_up}
 use Rattle.zk_typed.specs.Resolving.{Scripts}
 use Rattle.zk_names.specs.declared.created.Created.{Created}
+use Rattle.zk_names.specs.declared.log_types.LogTypes.{LogTypes}
 
 abbrev pub option_items : Option (Bor (List Item)) → Option (List Item)
 option_items items = option_map (λ items. items.now) items
@@ -74,3 +76,7 @@ so_far (first ∷ more) = Some (one_type (first ∷ more))
 abbrev pub with_stream : Option RecordNo → Option (Option (Option RecordNo)) → Option (Option RecordNo)
 with_stream first None = Some first
 with_stream first (Some told) = joined first told
+
+-- what was said of each log is kept by its name
+abbrev pub AreTypes : LogTypes → List (List ℕ × Option RecordNo) → Type 0
+AreTypes types created = (word : List ℕ) → get bytes_eq types.by_word word ≡ so_far (of_log word created)

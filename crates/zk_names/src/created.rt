@@ -4,7 +4,7 @@ ghost use Rattle.zk_typed.specs.LogCalls as spec;
 ghost use Rattle.zk_names.specs.Calls.{call_of, calls_lent};
 ghost use Rattle.zk_names.specs.Lent.{home_of, stated_lent, stated_of};
 ghost use Rattle.zk_names.specs.Scripted.{scripts_in};
-ghost use Rattle.zk_names.specs.Streams.{call_created, created_by, created_lent, of_log, others_type, stated_created, with_stream};
+ghost use Rattle.zk_names.specs.Streams.{call_created, created_by, created_lent, others_type, stated_created, with_stream};
 
 use crate::arguing::{settings, settings_type, word_in};
 use crate::calls::{Call, item_expr};
@@ -172,7 +172,7 @@ fn agreed(first: Option<RecordNo>, other: Option<RecordNo>) -> Option<Option<Rec
 }
 
 /// What a stream and those behind it say of the type of a log.
-fn with_stream(
+pub fn with_stream(
     first: Option<RecordNo>,
     so_far: Option<Option<Option<RecordNo>>>,
 ) -> Option<Option<RecordNo>>
@@ -183,18 +183,4 @@ fn with_stream(
         Some(None) => None,
         Some(Some(other)) => agreed(first, other),
     }
-}
-
-/// The type of a log by what was said of logs.
-pub fn type_of_log(created: &[Created], word: &[u8]) -> Option<Option<RecordNo>>
-    ensures { result ≡ spec.one_type (of_log word.now (created_lent created.now)) }
-{
-    let mut told = None;
-    for index in (0..created.len()).rev() {
-        let one = &created[index];
-        if one.word.as_slice() == word {
-            told = Some(with_stream(one.columns, told));
-        }
-    }
-    told?
 }

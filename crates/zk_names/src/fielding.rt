@@ -3,18 +3,22 @@ ghost use Rattle.std.specs.Option.{option_copied, option_map};
 ghost use Rattle.zk_typed.specs.Names.{is_record};
 ghost use Rattle.zk_typed.specs.Resolving as spec;
 ghost use Rattle.zk_typed.specs.View.{type_of};
-ghost use Rattle.zk_names.specs.Fields.{field_of, fields_lent, known_or, node_fields, own_of, predefined_fields, stated_fields};
-ghost use Rattle.zk_names.specs.Lent.{home_of, node_of, nodes_lent, stated_lent, stated_of};
+ghost use Rattle.zk_typed.specs.Within.{maybe_one};
+ghost use Rattle.zk_names.specs.FieldPlaces.{added_texts, field_at};
+ghost use Rattle.zk_names.specs.Fields.{field_of, fields_lent, known_or, node_fields, own_of, predefined_fields};
+ghost use Rattle.zk_names.specs.Lent.{home_of, node_of, stated_of};
 ghost use Rattle.zk_names.specs.Scripted.{scripts_in};
 
 use crate::field::FieldInfo;
+use crate::field_places::FieldPlace;
 use crate::home::{Home, Stated};
 use crate::known::Names;
 use crate::node::Node;
-use crate::predefined::{add_known, known_fields};
+use crate::predefined::{add_known, known_at, known_fields};
+use sqlite_items::at;
 use std::alloc::Global;
 use zk_base::{Mem, RecordNo};
-use zk_tree::{Attr, Decl, Expr, Field, Name, Type};
+use zk_tree::{Attr, Decl, Expr, Field, Type};
 use zk_typed::Refusal;
 use zk_typed::script::ValueType;
 
@@ -102,22 +106,6 @@ fn add_written<'a>(
     Ok(())
 }
 
-/// The record type of a number, among those of the texts.
-fn record_node<'a>(nodes: &[Node<'a>], number: u32) -> Option<Node<'a>>
-    ensures { option_map node_of result ≡ slice_get (filter is_record (nodes_lent nodes.now)) number }
-{
-    let mut left = number;
-    for node in nodes {
-        if node.is_record() {
-            if left == 0 {
-                return Some(*node);
-            }
-            left -= 1;
-        }
-    }
-    None
-}
-
 /// Adds the fields that stand in the text of a record type.
 fn add_node_fields<'a>(
     alloc: Global,
@@ -141,76 +129,6 @@ fn add_node_fields<'a>(
         Some(Node::Enum { .. }) => Ok(()),
         None => Ok(()),
     }
-}
-
-/// Whether a name names the record type of a number.
-fn is_that(
-    alloc: Global,
-    names: &Names<'_>,
-    home: Home<'_>,
-    name: &Name,
-    number: u32,
-) -> Result<bool, Mem>
-    ensures { IfOk result (λ found. found ≡ spec.is_that number (spec.type_named (scripts_in names.now) (home_of home.entry) name.now)) }
-{
-    match names.type_named(alloc, home, name) {
-        Ok(ValueType::Record(other)) => Ok(other.0 == number),
-        Ok(ValueType::Simple(_))
-        | Ok(ValueType::Table { .. })
-        | Ok(ValueType::Set { .. })
-        | Ok(ValueType::Vector { .. }) => Ok(false),
-        Err(Refusal::Broken(_)) => Ok(false),
-        Err(Refusal::NoMemory) => Err(Mem),
-    }
-}
-
-/// Adds the fields that a declaration adds to a record type.
-fn add_stated_fields<'a>(
-    alloc: Global,
-    names: &Names<'_>,
-    number: u32,
-    one: Stated<'a>,
-    all: &mut Vec<FieldInfo<'a>>,
-) -> Result<(), Mem>
-    ensures { OnOk result (fields_lent all.new.items ≡ fields_lent all.old.items ++ stated_fields (scripts_in names.now) number (stated_of one.entry)) }
-{
-    match one.decl {
-        Decl::RedefRecord {
-            place: _,
-            name,
-            fields,
-        } => {
-            if is_that(alloc, names, one.home, name, number)? {
-                add_written(alloc, names, one.home, fields.as_slice(), all)?;
-            }
-            Ok(())
-        }
-        Decl::Module { .. }
-        | Decl::Export { .. }
-        | Decl::Load { .. }
-        | Decl::Variable { .. }
-        | Decl::Redef { .. }
-        | Decl::RedefEnum { .. }
-        | Decl::Type { .. }
-        | Decl::Body { .. }
-        | Decl::Function { .. } => Ok(()),
-    }
-}
-
-/// Adds the fields that declarations add to a record type.
-fn add_added<'a>(
-    alloc: Global,
-    names: &Names<'_>,
-    number: u32,
-    stated: &[Stated<'a>],
-    all: &mut Vec<FieldInfo<'a>>,
-) -> Result<(), Mem>
-    ensures { OnOk result (fields_lent all.new.items ≡ fields_lent all.old.items ++ flat_map (stated_fields (scripts_in names.now) number) (stated_lent stated.now)) }
-{
-    for one in stated {
-        add_stated_fields(alloc, names, number, *one, all)?;
-    }
-    Ok(())
 }
 
 /// Adds the fields that stand in a record type's own text.
@@ -237,10 +155,11 @@ fn add_own<'a>(
 
 impl<'a> Names<'a> {
     /// The record type of a number, among those of the texts.
-    fn record_node(&self, number: u32) -> Option<Node<'a>>
+    pub(crate) fn record_node(&self, number: u32) -> Option<Node<'a>>
         ensures { option_map node_of result ≡ slice_get (filter is_record (scripts_in self.now).nodes) number }
     {
-        record_node(&self.nodes, number)
+        let place = at(&self.records, number as usize)?;
+        at(&self.nodes, *place).copied()
     }
 
     /// The fields that stand in a record type's own text.
@@ -251,14 +170,143 @@ impl<'a> Names<'a> {
         add_own(alloc, self, number.0, &mut all)?;
         Ok(all)
     }
+}
 
-    /// The fields of a record type, those of `redef record` last.
-    pub fn fields_of(&self, alloc: Global, number: RecordNo) -> Result<Vec<FieldInfo<'a>>, Mem>
-        ensures { IfOk result (λ fields. fields_lent fields.items ≡ spec.fields_of (scripts_in self.now) number.0) }
-    {
-        let mut all = Vec::new(alloc);
-        add_own(alloc, self, number.0, &mut all)?;
-        add_added(alloc, self, number.0, &self.stated, &mut all)?;
-        Ok(all)
+/// The field at a place in a text.
+#[tactic(auto, using(crate::proofs::IndexLaws::get_of_map))]
+fn written_at<'a>(
+    alloc: Global,
+    names: &Names<'_>,
+    home: Home<'a>,
+    fields: &'a [Field],
+    place: usize,
+) -> Result<Option<FieldInfo<'a>>, Mem>
+    ensures { IfOk result (λ made. option_map field_of made ≡ slice_get (map (spec.written_field (scripts_in names.now) (home_of home.entry)) fields.entry.now) place) }
+{
+    match at(fields, place) {
+        Some(field) => Ok(Some(written_field(alloc, names, home, field)?)),
+        None => Ok(None),
     }
+}
+
+/// The field at a place in the text of a record type.
+fn node_field<'a>(
+    alloc: Global,
+    names: &Names<'_>,
+    node: Option<Node<'a>>,
+    place: usize,
+) -> Result<Option<FieldInfo<'a>>, Mem>
+    ensures { IfOk result (λ made. option_map field_of made ≡ slice_get (node_fields (scripts_in names.now) (option_map node_of node.entry)) place) }
+{
+    match node {
+        Some(
+            Node::Record {
+                home,
+                place: _,
+                fields,
+            },
+        ) => written_at(alloc, names, home, fields, place),
+        Some(Node::Enum { .. }) => Ok(None),
+        None => Ok(None),
+    }
+}
+
+/// The field at a place in a record type's own text.
+fn own_field<'a>(
+    alloc: Global,
+    names: &Names<'a>,
+    number: u32,
+    place: usize,
+) -> Result<Option<FieldInfo<'a>>, Mem>
+    ensures { IfOk result (λ made. option_map field_of made ≡ slice_get (own_of (scripts_in names.now) number (predefined_fields number)) place) }
+{
+    match known_fields(number) {
+        Some(fields) => Ok(known_at(fields, place)),
+        None => {
+            let node = names.record_node(number.saturating_sub(8));
+            node_field(alloc, names, node, place)
+        }
+    }
+}
+
+/// The field at a place in the text of a declaration that adds fields.
+fn added_field<'a>(
+    alloc: Global,
+    names: &Names<'_>,
+    one: Option<&Stated<'a>>,
+    place: usize,
+) -> Result<Option<FieldInfo<'a>>, Mem>
+    ensures { IfOk result (λ made. option_map field_of made ≡ slice_get (added_texts (scripts_in names.now) (option_map (λ one. stated_of one.now) one.entry)) place) }
+{
+    let Some(one) = one else {
+        return Ok(None);
+    };
+    match one.decl {
+        Decl::RedefRecord {
+            place: _,
+            name: _,
+            fields,
+        } => written_at(alloc, names, one.home, fields.as_slice(), place),
+        Decl::Module { .. }
+        | Decl::Export { .. }
+        | Decl::Load { .. }
+        | Decl::Variable { .. }
+        | Decl::Redef { .. }
+        | Decl::RedefEnum { .. }
+        | Decl::Type { .. }
+        | Decl::Body { .. }
+        | Decl::Function { .. } => Ok(None),
+    }
+}
+
+/// The field of a record type that stands at a place.
+#[tactic(auto, using(crate::proofs::FieldLaws::own_is, crate::proofs::FieldPlaceLaws::field_own, crate::proofs::FieldPlaceLaws::field_added))]
+pub fn placed_field<'a>(
+    alloc: Global,
+    names: &Names<'a>,
+    number: u32,
+    one: FieldPlace,
+) -> Result<Option<FieldInfo<'a>>, Mem>
+    ensures { IfOk result (λ made. option_map field_of made ≡ field_at (scripts_in names.now) number one) }
+{
+    match one.added {
+        None => own_field(alloc, names, number, one.at),
+        Some(place) => added_field(alloc, names, names.stated_at(place), one.at),
+    }
+}
+
+/// Adds the field of a record type that stands at a place.
+fn add_field<'a>(
+    alloc: Global,
+    names: &Names<'a>,
+    number: u32,
+    one: FieldPlace,
+    all: &mut Vec<FieldInfo<'a>>,
+) -> Result<(), Mem>
+    ensures { OnOk result (fields_lent all.new.items ≡ fields_lent all.old.items ++ maybe_one (field_at (scripts_in names.now) number one)) }
+{
+    let made = placed_field(alloc, names, number, one)?;
+    match made {
+        Some(field) => {
+            all.push(field)?;
+            Ok(())
+        }
+        None => Ok(()),
+    }
+}
+
+/// Adds the fields of a record type that stand at places.
+pub fn add_placed<'a>(
+    alloc: Global,
+    names: &Names<'a>,
+    number: u32,
+    places: &[FieldPlace],
+    all: &mut Vec<FieldInfo<'a>>,
+) -> Result<(), Mem>
+    ensures { OnOk result (fields_lent all.new.items ≡ fields_lent all.old.items ++ flat_map (λ one. maybe_one (field_at (scripts_in names.now) number one)) places.now) }
+{
+    for place in places {
+        add_field(alloc, names, number, *place, all)?;
+    }
+    Ok(())
 }

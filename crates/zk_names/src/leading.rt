@@ -1,14 +1,17 @@
-ghost use Rattle.std.specs.Prelude.{◌≡◌, [], ◌++◌, flat_map, length, fold, nat_eq, slice_get, OnOk, IfOk};
-ghost use Rattle.std.specs.List.{list_any};
+ghost use Rattle.std.specs.Prelude.{◌≡◌, List, [], ◌++◌, flat_map, length, fold, nat_eq, slice_get, OnOk, IfOk};
+ghost use Rattle.std.specs.List.{list_all, list_any};
 ghost use Rattle.indexmap.specs.IndexSet.{insert_key};
+ghost use Rattle.zk_typed.specs.Names.{Declared};
 ghost use Rattle.zk_typed.specs.Resolving.{Scripts};
 ghost use Rattle.zk_typed.specs.Within.{maybe_one, mentions};
-ghost use Rattle.zk_names.specs.Leading.{is_target, led, meant_steps, mention_places, place_up, places, steps};
+ghost use Rattle.zk_names.specs.Leading.{HasWays, first_or_end, is_target, led, meant_steps, mention_places, place_up, places, settled, steps};
 ghost use Rattle.zk_names.specs.Lent.{declared_lent, meant_of, types_lent};
 
 use crate::declared::Meant;
 use crate::inner::within;
 use crate::table::Table;
+use crate::ways::Ways;
+use crate::whole::Whole;
 use indexmap::IndexSet;
 use sqlite_items::at;
 use std::alloc::Global;
@@ -80,7 +83,7 @@ fn add_mentions(
 }
 
 /// Where the names lead that a type mentions.
-pub fn mentioned(
+fn mentioned(
     alloc: Global,
     table: &Table<'_>,
     from_module: &[u8],
@@ -113,7 +116,7 @@ fn meant_steps(alloc: Global, table: &Table<'_>, meant: &Meant<'_>) -> Result<Ve
 }
 
 /// Where the name at a place leads.
-fn steps(alloc: Global, table: &Table<'_>, place: usize) -> Result<Vec<usize>, Mem>
+pub fn steps(alloc: Global, table: &Table<'_>, place: usize) -> Result<Vec<usize>, Mem>
     ensures { IfOk result (λ found. found.items ≡ steps (declared_lent table.now.names.items) place) }
 {
     match at(&table.names, place) {
@@ -143,16 +146,10 @@ fn found_of(alloc: Global, places: &[usize]) -> Result<IndexSet<usize>, Mem>
 }
 
 /// Adds where the name at a place leads.
-fn add_steps(
-    alloc: Global,
-    table: &Table<'_>,
-    place: usize,
-    found: &mut IndexSet<usize>,
-) -> Result<(), Mem>
-    ensures { OnOk result (found.new.keys ≡ fold (insert_key nat_eq) found.old.keys (steps (declared_lent table.now.names.items) place)) }
+fn add_steps(ways: &Ways, place: usize, found: &mut IndexSet<usize>) -> Result<(), Mem>
+    ensures { OnOk result ((names : List Declared) → HasWays ways.now names → found.new.keys ≡ fold (insert_key nat_eq) found.old.keys (steps names place)) }
 {
-    let more = steps(alloc, table, place)?;
-    add_found(found, &more)?;
+    add_found(found, ways.steps_at(place))?;
     Ok(())
 }
 
@@ -173,13 +170,15 @@ fn is_at(table: &Table<'_>, place: usize, target: &[u8]) -> bool
     }
 }
 
-/// Whether some places lead to a name.
-pub fn search(
+/// Whether some places lead to a name, by a search that looks at each place once.
+fn searched(
     alloc: Global,
     table: &Table<'_>,
+    ways: &Ways,
     target: &[u8],
     starts: &[usize],
 ) -> Result<bool, Mem>
+    requires { HasWays ways.now (declared_lent table.now.names.items) }
     ensures { IfOk result (λ leads. (scripts : Scripts) → scripts.names ≡ declared_lent table.now.names.items → leads ≡ list_any (led scripts target.now (length scripts.names)) starts.now) }
 {
     let most = table.names.len();
@@ -191,7 +190,7 @@ pub fn search(
                 if is_at(table, place, target) {
                     return Ok(true);
                 }
-                add_steps(alloc, table, place, &mut found)?;
+                add_steps(ways, place, &mut found)?;
             }
         }
     }
@@ -200,4 +199,36 @@ pub fn search(
         None => Ok(false),
         Some(_) => Err(Mem),
     }
+}
+
+/// Whether names at places are settled before the first of a name, so that they can't lead to it.
+fn are_before(
+    alloc: Global,
+    table: &Table<'_>,
+    ways: &Ways,
+    target: &[u8],
+    places: &[usize],
+) -> Result<bool, Mem>
+    ensures { IfOk result (λ before. before ≡ list_all (settled ways.now.backward.items (first_or_end (declared_lent table.now.names.items) target.now)) places.now) }
+{
+    let whole = Whole::copy_of(alloc, target)?;
+    Ok(ways.are_settled(table.first_named(&whole), places))
+}
+
+/// Whether some places lead to a name.
+pub fn search(
+    alloc: Global,
+    table: &Table<'_>,
+    ways: &Ways,
+    target: &[u8],
+    starts: &[usize],
+) -> Result<bool, Mem>
+    requires { HasWays ways.now (declared_lent table.now.names.items) }
+    ensures { IfOk result (λ leads. (scripts : Scripts) → scripts.names ≡ declared_lent table.now.names.items → leads ≡ list_any (led scripts target.now (length scripts.names)) starts.now) }
+{
+    if are_before(alloc, table, ways, target, starts)? {
+        return Ok(false);
+    }
+    let found = searched(alloc, table, ways, target, starts)?;
+    Ok(found)
 }

@@ -6,7 +6,7 @@ ghost use Rattle.zk_names.specs.Scripted.{scripts_in};
 ghost use Rattle.zk_typed.specs.View.{type_of};
 
 use crate::field::FieldInfo;
-use crate::known::Names;
+use crate::scripts::Scripts;
 use crate::type_names::type_name;
 use std::alloc::Global;
 use zk_base::{Mem, RecordNo};
@@ -70,15 +70,15 @@ fn own_leaf(alloc: Global, field: &FieldInfo<'_>, one: &ValueType) -> Result<Lea
 fn add_field_leaves(
     alloc: Global,
     depth: u8,
-    names: &Names<'_>,
+    scripts: &Scripts<'_>,
     field: &FieldInfo<'_>,
     all: &mut Vec<Leaf>,
 ) -> Result<(), Mem>
-    ensures { OnOk result (leaves_lent all.new.items ≡ leaves_lent all.old.items ++ spec.field_leaves (spec.leaves_to depth (scripts_in names.now)) (field_of field.now)) }
+    ensures { OnOk result (leaves_lent all.new.items ≡ leaves_lent all.old.items ++ spec.field_leaves (spec.leaves_to depth (scripts_in scripts.now.names)) (field_of field.now)) }
 {
     match &field.field_type {
         Some(ValueType::Record(number)) => {
-            let inner = leaves_to(alloc, depth, names, *number)?;
+            let inner = leaves_to(alloc, depth, scripts, *number)?;
             add_within(alloc, field, &inner, all)?;
             Ok(())
         }
@@ -95,14 +95,14 @@ fn add_field_leaves(
 fn add_fields_leaves(
     alloc: Global,
     depth: u8,
-    names: &Names<'_>,
+    scripts: &Scripts<'_>,
     fields: &[FieldInfo<'_>],
     all: &mut Vec<Leaf>,
 ) -> Result<(), Mem>
-    ensures { OnOk result (leaves_lent all.new.items ≡ leaves_lent all.old.items ++ flat_map (spec.field_leaves (spec.leaves_to depth (scripts_in names.now))) (fields_lent fields.now)) }
+    ensures { OnOk result (leaves_lent all.new.items ≡ leaves_lent all.old.items ++ flat_map (spec.field_leaves (spec.leaves_to depth (scripts_in scripts.now.names))) (fields_lent fields.now)) }
 {
     for field in fields {
-        add_field_leaves(alloc, depth, names, field, all)?;
+        add_field_leaves(alloc, depth, scripts, field, all)?;
     }
     Ok(())
 }
@@ -112,25 +112,25 @@ fn add_fields_leaves(
 fn leaves_to(
     alloc: Global,
     depth: u8,
-    names: &Names<'_>,
+    scripts: &Scripts<'_>,
     number: RecordNo,
 ) -> Result<Vec<Leaf>, Mem>
-    ensures { IfOk result (λ all. leaves_lent all.items ≡ spec.leaves_to depth (scripts_in names.now) number) }
+    ensures { IfOk result (λ all. leaves_lent all.items ≡ spec.leaves_to depth (scripts_in scripts.now.names) number) }
 {
     let mut all = Vec::new(alloc);
     if depth == 0 {
         return Ok(all);
     }
-    let fields = names.fields_of(alloc, number)?;
-    add_fields_leaves(alloc, depth - 1, names, &fields, &mut all)?;
+    let fields = scripts.fields_of(alloc, number)?;
+    add_fields_leaves(alloc, depth - 1, scripts, &fields, &mut all)?;
     Ok(all)
 }
 
-impl Names<'_> {
+impl Scripts<'_> {
     /// The fields of a record type that are no records, those of a nested record in the place of the field that
     /// holds it: what its columns can be.
     pub fn leaves(&self, alloc: Global, number: RecordNo) -> Result<Vec<Leaf>, Mem>
-        ensures { IfOk result (λ all. leaves_lent all.items ≡ spec.leaves (scripts_in self.now) number) }
+        ensures { IfOk result (λ all. leaves_lent all.items ≡ spec.leaves (scripts_in self.now.names) number) }
     {
         leaves_to(alloc, 200, self, number)
     }

@@ -1,20 +1,51 @@
 ghost use Rattle.std.specs.Prelude.{◌≡◌, ◌++◌, fold, flat_map, IfOk};
 ghost use Rattle.zk_typed.specs.Declaring.{predefined_names, scripts_of, with_words};
 ghost use Rattle.zk_typed.specs.LoadOrder.{load_order};
-ghost use Rattle.zk_names.specs.Lent.{declared_lent, files_of};
+ghost use Rattle.zk_names.specs.Lent.{declared_lent, files_of, nodes_lent, stated_lent};
 ghost use Rattle.zk_names.specs.Scripted.{scripts_in};
 ghost use Rattle.zk_names.specs.Words.{known_scripts, with_body};
 
 use crate::bodies::add_bodies;
+use crate::circles::all_circles;
 use crate::given::add_predefined;
+use crate::home::Stated;
 use crate::known::Names;
-use crate::node::all_nodes;
+use crate::node::{Node, all_nodes, record_places};
+use crate::numbers::Numbers;
 use crate::order::load_order;
 use crate::table::Table;
+use crate::ways::Ways;
 use crate::words::{add_all_outright, add_all_words};
 use std::alloc::Global;
 use zk_base::{Bytes, Mem};
 use zk_tree::Tree;
+
+/// What scripts declare by their declarations, their record types and enums, and their names.
+#[tactic(auto, unfolding(crate::specs::Scripted::scripts_in))]
+fn made<'a>(
+    alloc: Global,
+    stated: Vec<Stated<'a>>,
+    nodes: Vec<Node<'a>>,
+    table: Table<'a>,
+) -> Result<Names<'a>, Mem>
+    ensures stated { IfOk result (λ names. (scripts_in names).stated ≡ stated_lent stated.entry.items) }
+    ensures nodes { IfOk result (λ names. (scripts_in names).nodes ≡ nodes_lent nodes.entry.items) }
+    ensures names { IfOk result (λ names. (scripts_in names).names ≡ declared_lent table.entry.names.items) }
+{
+    let records = record_places(alloc, &nodes)?;
+    let numbers = Numbers::of(alloc, &nodes, &table.names)?;
+    let ways = Ways::of(alloc, &table)?;
+    let circles = all_circles(alloc, &table, &ways)?;
+    Ok(Names {
+        stated,
+        nodes,
+        table,
+        records,
+        numbers,
+        ways,
+        circles,
+    })
+}
 
 /// The names that are predefined or declared outright.
 fn known_names<'a>(alloc: Global, files: &'a [(Bytes, Tree)]) -> Result<Names<'a>, Mem>
@@ -25,11 +56,8 @@ fn known_names<'a>(alloc: Global, files: &'a [(Bytes, Tree)]) -> Result<Names<'a
     let mut table = Table::new(alloc);
     add_predefined(alloc, &mut table)?;
     add_all_outright(alloc, &stated, &mut table)?;
-    Ok(Names {
-        stated,
-        nodes,
-        table,
-    })
+    let known = made(alloc, stated, nodes, table)?;
+    Ok(known)
 }
 
 /// All names, by those that are predefined or declared outright.
@@ -53,14 +81,7 @@ pub fn names<'a>(alloc: Global, files: &'a [(Bytes, Tree)]) -> Result<Names<'a>,
 {
     let known = known_names(alloc, files)?;
     let table = all_names(alloc, &known)?;
-    let Names {
-        stated,
-        nodes,
-        table: _,
-    } = known;
-    Ok(Names {
-        stated,
-        nodes,
-        table,
-    })
+    let Names { stated, nodes, .. } = known;
+    let names = made(alloc, stated, nodes, table)?;
+    Ok(names)
 }

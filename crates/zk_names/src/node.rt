@@ -1,8 +1,10 @@
-ghost use Rattle.std.specs.Prelude.{◌≡◌, ◌++◌, [], flat_map, OnOk, IfOk};
+ghost use Rattle.std.specs.Prelude.{◌≡◌, ◌+◌, ◌++◌, [], ◌∷◌, filter, flat_map, length, OnOk, IfOk, if◌then◌else◌};
 ghost use Rattle.zk_tree.specs.declared.decl.Decl.{out-Decl};
 ghost use Rattle.zk_typed.specs.Within.{within};
-ghost use Rattle.zk_typed.specs.Names.{all_nodes, decl_nodes, node, type_nodes};
-ghost use Rattle.zk_names.specs.Lent.{home_of, nodes_lent, stated_lent, types_lent};
+ghost use Rattle.zk_typed.specs.Names.{all_nodes, decl_nodes, is_record, node, type_nodes};
+ghost use Rattle.zk_names.specs.Indexing.{passing};
+ghost use Rattle.zk_names.specs.Lent.{home_of, node_of, nodes_lent, stated_lent, types_lent};
+ghost use Rattle.zk_names.specs.Numbering.{spot};
 
 use crate::home::{Home, Stated};
 use crate::inner::within;
@@ -10,6 +12,9 @@ use crate::types::add_decl_types;
 use std::alloc::Global;
 use zk_base::Mem;
 use zk_tree::{Field, Name, Type};
+
+/// How many record types the predefined ones are.
+pub const RECORDS: u32 = 8;
 
 /// A `record {` or an `enum {` in a text: each is a type of its own.
 #[derive(Clone, Copy, Debug)]
@@ -24,6 +29,28 @@ pub enum Node<'a> {
         place: u64,
         words: &'a [Name],
     },
+}
+
+impl Node<'_> {
+    /// Whether it is a record type.
+    pub fn is_record(&self) -> bool
+        ensures { result ≡ is_record (node_of self.now) }
+    {
+        match self {
+            Node::Record { .. } => true,
+            Node::Enum { .. } => false,
+        }
+    }
+
+    /// Where its text begins: the file and the place in it.
+    pub fn spot(&self) -> (usize, u64)
+        ensures { result ≡ spot (node_of self.now) }
+    {
+        match self {
+            Node::Record { home, place, .. } => (home.file, *place),
+            Node::Enum { home, place, .. } => (home.file, *place),
+        }
+    }
 }
 
 /// Adds the node that a type is.
@@ -108,4 +135,39 @@ pub fn all_nodes<'a>(alloc: Global, stated: &[Stated<'a>]) -> Result<Vec<Node<'a
         add_decl_nodes(alloc, *one, &mut nodes)?;
     }
     Ok(nodes)
+}
+
+/// Adds the place of a record type.
+fn add_record(node: &Node<'_>, place: usize, places: &mut Vec<usize>) -> Result<(), Mem>
+    ensures { OnOk result (places.new.items ≡ places.old.items ++ (if is_record (node_of node.now) then place ∷ [] else [])) }
+{
+    if node.is_record() {
+        places.push(place)?;
+        return Ok(());
+    }
+    Ok(())
+}
+
+/// Where the record types stand among the records and enums of texts.
+pub fn record_places(alloc: Global, nodes: &[Node<'_>]) -> Result<Vec<usize>, Mem>
+    ensures { IfOk result (λ places. places.items ≡ passing is_record (nodes_lent nodes.now)) }
+{
+    let mut places = Vec::new(alloc);
+    for (place, node) in nodes.iter().enumerate() {
+        add_record(node, place, &mut places)?;
+    }
+    Ok(places)
+}
+
+/// How many record types there are, with the predefined ones. More than numbers are more than memory holds.
+pub fn record_count(nodes: &[Node<'_>]) -> Result<u32, Mem>
+    ensures { IfOk result (λ count. count ≡ 8 + length (filter is_record (nodes_lent nodes.now))) }
+{
+    let mut count = RECORDS;
+    for node in nodes {
+        if node.is_record() {
+            count = count.checked_add(1).ok_or(Mem)?;
+        }
+    }
+    Ok(count)
 }

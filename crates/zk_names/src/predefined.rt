@@ -1,9 +1,10 @@
-ghost use Rattle.std.specs.Prelude.{◌≡◌, ◌++◌, OnOk};
+ghost use Rattle.std.specs.Prelude.{◌≡◌, ◌++◌, slice_get, OnOk};
 ghost use Rattle.std.specs.Option.{option_map};
 ghost use Rattle.zk_names.specs.Fields.{field_of, fields_lent, known_lent, known_of, predefined_fields};
 
 use crate::field::FieldInfo;
 use crate::home::Home;
+use sqlite_items::at;
 use zk_base::{Mem, RecordNo};
 use zk_typed::script::{SimpleType, ValueType};
 
@@ -360,4 +361,15 @@ pub fn add_known(fields: &'static [KnownField], all: &mut Vec<FieldInfo<'_>>) ->
         all.push(known_field(*field))?;
     }
     Ok(())
+}
+
+/// The predefined field at a place.
+#[tactic(auto, using(crate::proofs::IndexLaws::get_of_map))]
+pub fn known_at(fields: &'static [KnownField], place: usize) -> Option<FieldInfo<'static>>
+    ensures { option_map field_of result ≡ slice_get (known_lent fields.now) place }
+{
+    match at(fields, place) {
+        Some(field) => Some(known_field(*field)),
+        None => None,
+    }
 }

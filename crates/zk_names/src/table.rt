@@ -5,7 +5,7 @@ ghost use Rattle.std.specs.Str.{bytes_eq};
 ghost use Rattle.zk_typed.specs.Names.{find_whole, look_up};
 ghost use Rattle.zk_names.specs.Lent.{declared_lent, declared_of};
 ghost use Rattle.zk_names.specs.Indexing.{Indexes};
-ghost use Rattle.zk_names.specs.Leading.{place_up, place_whole};
+ghost use Rattle.zk_names.specs.Leading.{first_or_end, place_up, place_whole};
 
 use crate::declared::Declared;
 use crate::index::Index;
@@ -101,6 +101,16 @@ impl<'a> Table<'a> {
                 let whole = Whole::copy_of(alloc, name)?;
                 Ok(self.place_of_whole(from_module, &whole))
             }
+        }
+    }
+
+    /// Where a whole name stands first, or how many names there are.
+    pub fn first_named(&self, whole: &Whole) -> usize
+        ensures { result ≡ first_or_end (declared_lent self.now.names.items) whole.now }
+    {
+        match self.index.find(whole, true) {
+            Some(place) => place,
+            None => self.names.len(),
         }
     }
 

@@ -1,5 +1,5 @@
-ghost use Rattle.std.specs.Prelude.{◌≡◌, List, IfOk};
-ghost use Rattle.std.specs.Option.{option_map};
+ghost use Rattle.std.specs.Prelude.{◌≡◌, List, Some, true, is_some, slice_get, IfSome};
+ghost use Rattle.std.specs.Option.{option_and_then, option_map};
 ghost use Rattle.std.specs.List.{list_any};
 ghost use Rattle.zk_typed.specs.Checked.{Checked};
 ghost use Rattle.zk_typed.specs.declared.script.types.SimpleType as key;
@@ -10,6 +10,7 @@ ghost use Rattle.zk_typed.specs.Tells.{Tells};
 ghost use Rattle.zk_typed.specs.Types as typed;
 ghost use Rattle.zk_typed.specs.View.{type_of};
 ghost use Rattle.zk_names.specs.Keys.{keyed, keys_to, tabled};
+ghost use Rattle.zk_names.specs.Leading.{Text, next_of, text_at};
 ghost use Rattle.zk_names.specs.Lent.{home_of, text_lent};
 ghost use Rattle.zk_names.specs.Scripted.{scripts_in};
 
@@ -18,7 +19,7 @@ use crate::declared::Meant;
 use crate::gathering::appended;
 use crate::home::Home;
 use crate::known::Names;
-use sqlite_items::{Boxed, Items};
+use sqlite_items::{Boxed, Items, at};
 use std::alloc::Global;
 use zk_base::{Mem, RecordNo, Sequence};
 use zk_tree::{Atomic, Name, Place, Type};
@@ -159,46 +160,65 @@ fn unless_deep(
     }
 }
 
-/// The text that a name stands for, with where it stands.
-fn next_text<'a>(
-    alloc: Global,
-    names: &Names<'a>,
-    home: Home<'_>,
-    tree: &Type,
-) -> Result<Option<(Home<'a>, &'a Type)>, Mem>
-    ensures { IfOk result (λ next. option_map text_lent next ≡ spec.next_text (scripts_in names.now) (home_of home.entry) tree.now) }
+/// The first of some places, where a declared type stands there.
+fn first_text(names: &Names<'_>, places: &[usize]) -> Option<usize>
+    ensures is { option_and_then (text_at (scripts_in names.now).names) result ≡ option_and_then (text_at (scripts_in names.now).names) (slice_get places.now 0) }
+    ensures text { IfSome result (λ place. is_some (text_at (scripts_in names.now).names place) ≡ true) }
 {
-    let Type::Named { name } = tree else {
-        return Ok(None);
-    };
-    match names.look_up(alloc, home.module_name, name.text.as_slice())? {
-        Some(one) => match &one.meant {
-            Meant::WrittenType { home, tree } => Ok(Some((*home, tree))),
-            _ => Ok(None),
-        },
-        None => Ok(None),
+    let place = *at(places, 0)?;
+    match names.text_at(place) {
+        Some(_) => Some(place),
+        None => None,
     }
 }
 
-/// The text of a type, with the names followed that stand for others. There is none where names stand for
-/// each other.
-fn followed<'a>(
-    alloc: Global,
-    names: &Names<'a>,
-    home: Home<'a>,
-    tree: &'a Type,
-) -> Result<Option<(Home<'a>, &'a Type)>, Mem>
-    ensures { IfOk result (λ end. option_map text_lent end ≡ spec.followed (scripts_in names.now) (home_of home.entry) tree.entry.now) }
+/// Where the text stands that the text of the declared type at a place stands for, if that is a name.
+fn next_place(names: &Names<'_>, place: usize) -> Option<usize>
+    ensures is { option_and_then (text_at (scripts_in names.now).names) result ≡ next_of (scripts_in names.now) (text_at (scripts_in names.now).names place) }
+    ensures text { IfSome result (λ next. is_some (text_at (scripts_in names.now).names next) ≡ true) }
+{
+    let Some((_home, tree)) = names.text_at(place) else {
+        return None;
+    };
+    match tree {
+        Type::Named { .. } => first_text(names, names.steps_at(place)),
+        Type::Atomic { .. }
+        | Type::Table { .. }
+        | Type::Set { .. }
+        | Type::Vector { .. }
+        | Type::Record { .. }
+        | Type::Enum { .. }
+        | Type::Event { .. }
+        | Type::Hook { .. }
+        | Type::Procedure { .. }
+        | Type::Function { .. } => None,
+    }
+}
+
+/// Where the text stands of the declared type at a place, with the names followed that stand for others. There
+/// is none where names stand for each other.
+fn end_place(names: &Names<'_>, place: usize) -> Option<usize>
+    ensures { (text : Text) → text_at (scripts_in names.now).names place ≡ Some text → option_and_then (text_at (scripts_in names.now).names) result ≡ spec.followed (scripts_in names.now) text.0 text.1 }
 {
     let most = names.declared().len();
-    let mut end = (home, tree);
+    let mut end = place;
     for _step in 0..=most {
-        match next_text(alloc, names, end.0, end.1)? {
+        match next_place(names, end) {
             Some(next) => end = next,
-            None => return Ok(Some(end)),
+            None => return Some(end),
         }
     }
-    Ok(None)
+    None
+}
+
+/// The text of the declared type at a place, with the names followed that stand for others.
+fn end_text<'a>(names: &Names<'a>, place: usize) -> Option<(Home<'a>, &'a Type)>
+    ensures { (text : Text) → text_at (scripts_in names.now).names place ≡ Some text → option_map text_lent result ≡ spec.followed (scripts_in names.now) text.0 text.1 }
+{
+    match end_place(names, place) {
+        Some(end) => names.text_at(end),
+        None => None,
+    }
 }
 
 /// A name that stands for no text.
@@ -321,20 +341,53 @@ fn keys_to(
     all
 }
 
-/// The type of a text with the names in front of it followed, whose parts nest at most so deep.
+/// The type of the declared type at a place, with the names followed that its text stands for, whose parts nest
+/// at most so deep.
 #[cycle(typing)]
-fn behind_names<'a>(
+fn behind_names(
     alloc: Global,
     depth: u8,
-    names: &Names<'a>,
-    home: Home<'a>,
-    tree: &'a Type,
+    names: &Names<'_>,
+    place: usize,
 ) -> Result<ValueType, Refusal>
-    ensures { Tells type_of result (spec.behind_names (spec.type_to depth (scripts_in names.now)) (scripts_in names.now) (home_of home.entry) tree.entry.now) }
+    ensures { (text : Text) → text_at (scripts_in names.now).names place ≡ Some text → Tells type_of result (spec.behind_names (spec.type_to depth (scripts_in names.now)) (scripts_in names.now) text.0 text.1) }
 {
-    match followed(alloc, names, home, tree)? {
+    match end_text(names, place) {
         Some((home, tree)) => formed(alloc, depth, names, home, tree),
         None => Err(Refusal::Broken(Items::new(alloc))),
+    }
+}
+
+/// The type that the name at a place names, by what it stands for, whose parts nest at most so deep.
+#[cycle(typing)]
+fn placed_type(
+    alloc: Global,
+    depth: u8,
+    names: &Names<'_>,
+    named: usize,
+    place: Place,
+) -> Result<ValueType, Refusal>
+    ensures { Tells type_of result (spec.named_type (spec.behind_names (spec.type_to depth (scripts_in names.now)) (scripts_in names.now)) (scripts_in names.now) place (slice_get (scripts_in names.now).names named)) }
+{
+    let Some(one) = names.name_at(named) else {
+        return Err(Refusal::Broken(one_broken(alloc, Rule::Unknown, place)?));
+    };
+    match &one.meant {
+        Meant::KnownType { known } => Ok(copied_type(alloc, known)?),
+        Meant::WrittenType { .. } => {
+            if names.is_circle(named) {
+                return Err(Refusal::Broken(Items::new(alloc)));
+            }
+            let behind = behind_names(alloc, depth, names, named);
+            unless_deep(alloc, place, behind)
+        }
+        Meant::Word { .. }
+        | Meant::Variable { .. }
+        | Meant::Event { .. }
+        | Meant::Hook { .. }
+        | Meant::Function { .. }
+        | Meant::BuiltInFunction { .. }
+        | Meant::Log { .. } => Err(Refusal::Broken(one_broken(alloc, Rule::WrongType, place)?)),
     }
 }
 
@@ -350,24 +403,9 @@ pub fn named_type(
     ensures { Tells type_of result (spec.type_of_name (spec.type_to depth (scripts_in names.now)) (scripts_in names.now) (home_of home.entry) name.now) }
 {
     let place = place_in(home, name.place);
-    let Some(one) = names.look_up(alloc, home.module_name, name.text.as_slice())? else {
-        return Err(Refusal::Broken(one_broken(alloc, Rule::Unknown, place)?));
-    };
-    match &one.meant {
-        Meant::KnownType { known } => Ok(copied_type(alloc, known)?),
-        Meant::WrittenType { home: other, tree } => {
-            if names.is_circular(alloc, &one.name, *other, tree)? {
-                return Err(Refusal::Broken(Items::new(alloc)));
-            }
-            let behind = behind_names(alloc, depth, names, *other, tree);
-            unless_deep(alloc, place, behind)
-        }
-        Meant::Word { .. }
-        | Meant::Variable { .. }
-        | Meant::Event { .. }
-        | Meant::Hook { .. }
-        | Meant::Function { .. }
-        | Meant::BuiltInFunction { .. }
-        | Meant::Log { .. } => Err(Refusal::Broken(one_broken(alloc, Rule::WrongType, place)?)),
+    let found = names.place_of(alloc, home.module_name, name.text.as_slice())?;
+    match found {
+        Some(named) => placed_type(alloc, depth, names, named, place),
+        None => Err(Refusal::Broken(one_broken(alloc, Rule::Unknown, place)?)),
     }
 }

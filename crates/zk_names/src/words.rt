@@ -8,7 +8,6 @@ ghost use Rattle.zk_names.specs.Lent.{declared_lent, home_of, node_of, nodes_len
 ghost use Rattle.zk_names.specs.Scripted.{scripts_in};
 ghost use Rattle.zk_names.specs.Words.{enum_in, enum_of, enum_words, words_in};
 
-use crate::counting::enum_number;
 use crate::declared::Meant;
 use crate::home::{Home, Stated};
 use crate::known::Names;
@@ -41,16 +40,16 @@ fn add_enum_words<'a>(
 /// Adds the words of an enum of a text.
 fn add_node_words<'a>(
     alloc: Global,
-    nodes: &[Node<'_>],
+    known: &Names<'_>,
     node: Node<'a>,
     table: &mut Table<'a>,
 ) -> Result<(), Mem>
-    ensures { OnOk result (declared_lent table.new.names.items ≡ declared_lent table.old.names.items ++ node_words (nodes_lent nodes.now) (node_of node.entry)) }
+    ensures { OnOk result (declared_lent table.new.names.items ≡ declared_lent table.old.names.items ++ node_words (scripts_in known.now).nodes (node_of node.entry)) }
 {
     match node {
         Node::Record { .. } => Ok(()),
         Node::Enum { home, place, words } => {
-            let number = enum_number(nodes, home.file, place)?;
+            let number = known.enum_number(home.file, place)?;
             add_enum_words(alloc, home, words, number, table)?;
             Ok(())
         }
@@ -60,14 +59,14 @@ fn add_node_words<'a>(
 /// Adds the words of enums of a text.
 fn add_nodes_words<'a>(
     alloc: Global,
-    nodes: &[Node<'_>],
+    known: &Names<'_>,
     own: &[Node<'a>],
     table: &mut Table<'a>,
 ) -> Result<(), Mem>
-    ensures { OnOk result (declared_lent table.new.names.items ≡ declared_lent table.old.names.items ++ flat_map (node_words (nodes_lent nodes.now)) (nodes_lent own.now)) }
+    ensures { OnOk result (declared_lent table.new.names.items ≡ declared_lent table.old.names.items ++ flat_map (node_words (scripts_in known.now).nodes) (nodes_lent own.now)) }
 {
     for node in own {
-        add_node_words(alloc, nodes, *node, table)?;
+        add_node_words(alloc, known, *node, table)?;
     }
     Ok(())
 }
@@ -195,7 +194,7 @@ fn add_own_words<'a>(
     ensures { OnOk result (declared_lent table.new.names.items ≡ declared_lent table.old.names.items ++ flat_map (node_words (scripts_in known.now).nodes) (decl_nodes (home_of one.entry.home) (out-Decl one.entry.decl.now))) }
 {
     let own = own_nodes(alloc, one)?;
-    add_nodes_words(alloc, known.nodes(), &own, table)?;
+    add_nodes_words(alloc, known, &own, table)?;
     Ok(())
 }
 

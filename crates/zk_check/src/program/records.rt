@@ -1,7 +1,5 @@
-ghost use Rattle.std.specs.Prelude.{◌≡◌, ◌+◌, filter, length, map, IfOk};
+ghost use Rattle.std.specs.Prelude.{◌≡◌, map, IfOk};
 ghost use Rattle.zk_names.specs.Fields.{field_of, fields_lent};
-ghost use Rattle.zk_names.specs.Lent.{nodes_lent};
-ghost use Rattle.zk_typed.specs.Names.{is_record};
 ghost use Rattle.zk_typed.specs.Predefined as type;
 ghost use Rattle.zk_typed.specs.Programs as spec;
 ghost use Rattle.zk_typed.specs.Resolving.{Scripts};
@@ -13,12 +11,9 @@ use crate::program::bodies::if_checked;
 use std::alloc::Global;
 use zk_base::{Bytes, Mem, RecordNo, Sequence};
 use zk_declaration::Source;
-use zk_names::{FieldInfo, Node};
+use zk_names::{FieldInfo, record_count};
 use zk_operator::{constant_typed, copied_type};
 use zk_typed::script::{DefaultValue, Field, RecordType, SimpleType, ValueType};
-
-/// How many record types are predefined.
-const PREDEFINED: u32 = 8;
 
 /// The empty value of a container's type.
 fn empty_default(one: &ValueType) -> Option<DefaultValue>
@@ -95,31 +90,18 @@ fn record_of(source: &Source<'_>, number: u32) -> Result<RecordType, Mem>
     ensures { IfOk result (λ made. view.record_of made ≡ spec.record_of (scripts_from source.now) number) }
 {
     let alloc = source.alloc;
-    let fields = source.scripts.names.fields_of(alloc, RecordNo(number))?;
+    let fields = source.scripts.fields_of(alloc, RecordNo(number))?;
     let all = program_fields(alloc, fields.as_slice())?;
     Ok(RecordType {
         fields: Sequence::from(all),
     })
 }
 
-/// How many record types the texts have. More than numbers are more than memory holds.
-fn count_records(nodes: &[Node<'_>]) -> Result<u32, Mem>
-    ensures { IfOk result (λ count. count ≡ 8 + length (filter is_record (nodes_lent nodes.now))) }
-{
-    let mut count = PREDEFINED;
-    for node in nodes {
-        if node.is_record() {
-            count = count.checked_add(1).ok_or(Mem)?;
-        }
-    }
-    Ok(count)
-}
-
 /// The record types of a program, the predefined ones first.
 pub fn all_records(source: &Source<'_>) -> Result<Vec<RecordType>, Mem>
     ensures { IfOk result (λ made. map view.record_of made.items ≡ spec.records_of (scripts_from source.now)) }
 {
-    let count = count_records(source.scripts.names.nodes())?;
+    let count = record_count(source.scripts.names.nodes())?;
     let mut all = Vec::new(source.alloc);
     for number in 0..count {
         all.push(record_of(source, number)?)?;

@@ -1,7 +1,7 @@
 ghost use Rattle.std.specs.Prelude.{◌≡◌, ◌++◌, List, IfOk};
 ghost use Rattle.zk_tree.specs.declared.decl.Decl.{out-Decl};
 ghost use Rattle.zk_typed.specs.Errors as spec;
-ghost use Rattle.zk_typed.specs.LogCalls.{decl_calls, logged};
+ghost use Rattle.zk_typed.specs.LogCalls.{decl_calls, leaves, logged};
 ghost use Rattle.zk_typed.specs.Tells.{Tells};
 ghost use Rattle.zk_names.specs.Calls.{call_of};
 ghost use Rattle.zk_names.specs.Leaves.{leaves_lent};
@@ -14,7 +14,7 @@ ghost use Rattle.zk_declaration.specs.Uses.{filter_use};
 
 use crate::rules::bodies::Bodied;
 use sqlite_items::at;
-use zk_base::{Bytes, LogId, Mem};
+use zk_base::{Bytes, LogId, Mem, RecordNo};
 use zk_declaration::{PathUse, Paths, log_call, logged, one_use, require, stream_uses};
 use zk_names::{Call, Leaf, Stated, decl_calls, place_in};
 use zk_operator::also;
@@ -22,6 +22,14 @@ use zk_typed::script::LogCall;
 use zk_typed::{Refusal, Rule};
 
 impl<'a> Bodied<'a> {
+    /// What the columns of a record type can be.
+    fn leaves_of_type(&self, number: RecordNo) -> Result<Vec<Leaf>, Mem>
+        requires { IsBodied self.now }
+        ensures { IfOk result (λ all. leaves_lent all.items ≡ leaves (scripts_in self.now.valued.ground.names.now) number) }
+    {
+        self.source.scripts.leaves(self.valued.ground.alloc, number)
+    }
+
     /// What the columns of a log can be.
     fn leaves_of_log(&self, number: LogId) -> Result<Vec<Leaf>, Mem>
         requires { IsBodied self.now }
@@ -30,7 +38,7 @@ impl<'a> Bodied<'a> {
         let ground = &self.valued.ground;
         match at(self.logs, number.0 as usize) {
             Some(log) => match log.columns {
-                Some(columns) => ground.names.leaves(ground.alloc, columns),
+                Some(columns) => self.leaves_of_type(columns),
                 None => Ok(Vec::new(ground.alloc)),
             },
             None => Ok(Vec::new(ground.alloc)),

@@ -8,5 +8,4 @@ use Rattle.zk_names.proofs.words.add_own_words.Goals as goal
 pub returns : goal.returns
 returns c =
     c.in_ok-add_nodes_words.ensures ∙
-    ap (λ (nodes : List Node). declared_lent c.args.table.now.names.items ++ flat_map (node_words nodes) (nodes_lent c.deref.result.now)) c.nodes.ensures ∙
     ap (λ (own : List Node). declared_lent c.args.table.now.names.items ++ flat_map (node_words (scripts_in c.args.known.now).nodes) own) (ap nodes_lent c.deref.ensures.value ∙ c.in_ok-own.ensures)

@@ -1,15 +1,14 @@
 use Rattle.std.proofs.Common.{ℕ, List, filter, ap, ◌∙◌}
 use Rattle.std.specs.Str.{bytes_eq}
 use Rattle.zk_typed.specs.Names.{Declared, count_before}
-use Rattle.zk_names.specs.declared.declared.Declared.{Declared as LentDeclared}
 use Rattle.zk_names.specs.Kinds.{is_of}
-use Rattle.zk_names.specs.Lent.{declared_lent}
+use Rattle.zk_names.specs.Lent.{declared_lent, nodes_lent}
 use Rattle.zk_names.specs.Scripted.{scripts_in}
 use Rattle.zk_names.proofs.known.Names.number_among.Goals as goal
 
 pub returns : goal.returns
 unfolding scripts_in
 returns c =
-    c.in_ok-number.ensures ∙
-    ap (λ (names : List LentDeclared). count_before (λ (other : Declared). bytes_eq other.name c.as_slice.result.now) (filter (is_of c.args.kind) (declared_lent names))) c.deref.ensures.value ∙
-    ap (λ (name : List ℕ). count_before (λ (other : Declared). bytes_eq other.name name) (filter (is_of c.args.kind) (declared_lent c.args.self.now.table.names.items))) c.as_slice.ensures.value
+    let names = declared_lent c.args.self.now.table.names.items in
+    c.in_ok-number.ensures (nodes_lent c.args.self.now.nodes.items) names c.args.self.now.numbered ∙
+    ap (λ (name : List ℕ). count_before (λ (other : Declared). bytes_eq other.name name) (filter (is_of c.args.kind) names)) c.as_slice.ensures.value

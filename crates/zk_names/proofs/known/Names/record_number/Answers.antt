@@ -1,7 +1,7 @@
-use Rattle.std.proofs.Common.{rules}
+use Rattle.zk_names.specs.Lent.{declared_lent, nodes_lent}
 use Rattle.zk_names.specs.Scripted.{scripts_in}
 use Rattle.zk_names.proofs.known.Names.record_number.Goals as goal
 
 pub returns : goal.returns
 unfolding scripts_in
-returns c = search rules
+returns c = c.in_ok-number.ensures (nodes_lent c.args.self.now.nodes.items) (declared_lent c.args.self.now.table.names.items) c.args.self.now.numbered

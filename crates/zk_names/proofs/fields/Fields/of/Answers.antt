@@ -1,0 +1,22 @@
+use Rattle.std.proofs.Common.{List, subst, take, ap, ◌∙◌}
+use Rattle.zk_typed.specs.LoadOrder.{Stated}
+use Rattle.zk_names.specs.FieldPlaces.{Hold}
+use Rattle.zk_names.specs.Lent.{stated_lent}
+use Rattle.zk_names.specs.Scripted.{scripts_in}
+use Rattle.zk_names.proofs.FieldPlaceLaws.{hold_first, hold_on, named_so_far, so_far}
+use Rattle.zk_names.proofs.fields.Fields.of.Goals as goal
+
+pub loop-place-init : goal.loop-place-init
+loop-place-init c = hold_first (scripts_in c.args.names.now) c.in_ok-records.records.items c.in_ok-records.ensures
+
+pub loop-place-preserved : goal.loop-place-preserved
+loop-place-preserved c =
+    let scripts = scripts_in c.args.names.now in
+    let before = stated_lent (take c.loop-place.place c.stated.result.now) in
+    hold_on scripts c.stated.result.now c.loop-place.place c.one-item.result c.add_stated.new.all.items c.loop-place-test.true c.one-item.is
+    (c.in_ok-add_stated.ensures (so_far scripts before) (named_so_far scripts before) c.loop-place.invariant)
+
+pub returns : goal.returns
+returns c =
+    let scripts = scripts_in c.args.names.now in
+    subst (λ (x : List Stated). Hold c.loop-place.records.items (so_far scripts x) (named_so_far scripts x)) c.stated.ensures c.loop-place.invariant

@@ -1,0 +1,18 @@
+use Rattle.std.proofs.Common.{◌≡◌, ℕ, Bool, true, ◌&&◌, ◌||◌, Some, None, length, Option, unwrap_or, refl, ap, sym, ◌∙◌}
+use Rattle.std.specs.Str.{bytes_eq}
+use Rattle.zk_typed.specs.Names.{Declared}
+use Rattle.zk_names.specs.Indexing.{first_place}
+use Rattle.zk_names.specs.Lent.{declared_lent}
+use Rattle.zk_names.proofs.BodyLaws.{named_anywhere}
+use Rattle.zk_names.proofs.LeadLaws.{lent_length}
+use Rattle.zk_names.proofs.table.Table.first_named.Goals as goal
+
+pub returns-in-Some : goal.returns-in-Some
+returns-in-Some c =
+    let names = declared_lent c.args.self.now.names.items in
+    ap (λ (x : Option ℕ). unwrap_or x (length names)) (c.in-Some.ensures names c.args.self.now.indexed ∙ named_anywhere names c.args.whole.now)
+
+pub returns-in-None : goal.returns-in-None
+returns-in-None c =
+    let names = declared_lent c.args.self.now.names.items in
+    sym (lent_length c.args.self.now.names.items) ∙ ap (λ (x : Option ℕ). unwrap_or x (length names)) (c.in-None.ensures names c.args.self.now.indexed ∙ named_anywhere names c.args.whole.now)

@@ -1,0 +1,15 @@
+use Rattle.std.proofs.Common.{ℕ, List, Some, slice_get, ap, sym, ◌∙◌}
+use Rattle.std.specs.Option.{option_and_then}
+use Rattle.zk_tree.specs.declared.types.Type.{«Type»}
+use Rattle.zk_names.specs.Leading.{text_at}
+use Rattle.zk_names.specs.Lent.{home_of}
+use Rattle.zk_names.specs.Scripted.{scripts_in}
+use Rattle.zk_names.proofs.FollowLaws.{named_next}
+use Rattle.zk_names.proofs.typing.next_place.Goals as goal
+
+pub returns-in-Named-clause-is : goal.returns-in-Named-clause-is
+returns-in-Named-clause-is c =
+    let scripts = scripts_in c.args.names.now in
+    let home = home_of c.in-Some._home in
+    c.first_text.ensures.is ∙ ap (λ (x : List ℕ). option_and_then (text_at scripts.names) (slice_get x 0)) c.steps_at.ensures ∙
+    named_next scripts c.args.place home c.in-Named.name (sym c.in-Some.ensures ∙ ap (λ (tree : «Type»). Some (home, tree)) c.in-Named.is)

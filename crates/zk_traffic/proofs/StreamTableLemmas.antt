@@ -1,7 +1,8 @@
 -- The table of streams behind a segment.
 use Rattle.std.proofs.Common.{◌≡◌, ℕ, ◌+◌, ◌-◌, ◌^◌, ◌<◌, ◌≤◌, Bool, true, false, cond, not, ◌&&◌, List, [], ◌++◌, map, Option, None, Some, unwrap_or, refl, sym, ap, subst, ◌∙◌, arith}
 use Rattle.std.specs.Option.{MatchOption}
-use Rattle.std.specs.Prelude.{is_some, slice_get}
+use Rattle.std.specs.Prelude.{is_some, nat_eq, slice_get, ◌≢◌}
+use Rattle.std.proofs.lemmas.Bool.Decides.{eqb_tells}
 use Rattle.std.proofs.lemmas.List.{append-nil}
 use Rattle.zk_base.specs.declared.network.Side.{Side}
 use Rattle.zk_base.specs.declared.network.Side.TheVariants.{Orig, Resp}
@@ -28,6 +29,13 @@ use Rattle.zk_units.specs.declared.stream_unit.StreamUnit.{StreamUnit}
 use Rattle.zk_units.specs.Standing.{Reads, StandsFor as ReadersStand, held_in as reader_held, no_streams}
 use Rattle.zk_units.specs.Units.{add_all, all_freed, bytes_unread, no_units}
 use Rattle.zk_units.proofs.ReaderLemmas.{none_freed, none_unread}
+
+-- numbers that are apart are told apart
+pub apart_eq : (a b : ℕ) → b ≢ a → nat_eq a b ≡ false
+apart_eq a b apart = elim (eqb_tells a b) [
+      | inl same ↦ absurd (apart (sym same.1))
+      | inr off ↦ off.0
+    ]
 
 some_same : {A : Type 0} {x y : A} → Some x ≡ Some y → x ≡ y
 some_same e = cc

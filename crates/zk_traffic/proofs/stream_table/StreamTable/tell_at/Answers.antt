@@ -7,14 +7,14 @@ use Rattle.zk_traffic.specs.Conversation.{direction_with}
 use Rattle.zk_traffic.specs.Kept.{held_by, held_in}
 use Rattle.zk_traffic.specs.StreamTable.{entry_at}
 use Rattle.zk_traffic.specs.Taken.{segment_of}
-use Rattle.zk_traffic.proofs.StreamTableLemmas.{held_is, kept_as, same_streams, some_has, some_sum, stand_entry, takes_some}
+use Rattle.zk_traffic.proofs.StreamTableLemmas.{apart_eq, held_is, kept_as, same_streams, some_has, some_sum, stand_entry, takes_some}
 use Rattle.zk_units.specs.Standing.{held_in as reader_held}
 use Rattle.zk_traffic.proofs.stream_table.StreamTable.tell_at.Goals as goal
 
 pub returns-clause-others : goal.returns-clause-others
 unfolding entry_at
 returns-clause-others c = λ number apart.
-    (updates-with_value_at c.args.self.now.streams c.args.index c.read.new.self nat_eq_equiv c.pair_mut-streams.ensures.unique c.args.conn.0 c.requires.there.0 c.requires.there.1).2 number apart
+    (updates-with_value_at c.args.self.now.streams c.args.index c.read.new.self nat_eq_equiv c.pair_mut-streams.ensures.unique c.args.conn.0 c.requires.there.0 c.requires.there.1).2 number (apart_eq c.args.conn.0 number apart)
 
 pub returns-clause-taken : goal.returns-clause-taken
 unfolding entry_at

@@ -85,10 +85,12 @@ pub fn live_instances()
 const PLACES: usize = 4;
 
 /// The slots that were noted last at a place: two, since where keys share a place they are mostly two.
+/// Each has 32 bits, so that the hints of many connections lie in a near cache. A greater slot isn't
+/// noted.
 #[derive(Clone, Copy, Debug)]
 struct Hints {
-    last: usize,
-    earlier: usize,
+    last: u32,
+    earlier: u32,
 }
 
 const NO_HINTS: Hints = Hints {
@@ -106,6 +108,9 @@ fn hints_of(hints: &[Hints], key: &Key) -> Hints {
 
 /// Notes a slot at a key's place.
 fn note(hints: &mut [Hints], key: &Key, slot: usize) {
+    let Ok(slot) = u32::try_from(slot) else {
+        return;
+    };
     let place = key.place_among(hints.len());
     if place < hints.len() {
         let earlier = hints[place].last;
@@ -321,6 +326,17 @@ impl Conns {
         self.slot_numbered(conn).is_some()
     }
 
+    /// A small number by which a caller may note where it has what belongs to a live instance: for hints
+    /// alone, as nothing is promised of it. It is most often the same for one instance, and another one
+    /// for each other.
+    pub fn place(&self, conn: ConnNo) -> usize {
+        if self.has_number(self.recent, conn) {
+            self.recent
+        } else {
+            0
+        }
+    }
+
     /// The slot of a live connection: at the key's hints, or through the keys, and then it is noted.
     fn find(&mut self, key: &Key) -> Option<usize>
         ensures same { SameTable self.old self.new }
@@ -342,10 +358,12 @@ impl Conns {
     fn hinted(&self, key: &Key) -> Option<usize>
         ensures { IfSome result (λ slot. has_key (get self.now.slots slot) key.now ≡ true) }
     {
-        let Hints { last, earlier } = hints_of(&self.hints, key);
+        let hints = hints_of(&self.hints, key);
+        let last = hints.last as usize;
         if self.has_key(last, key) {
             return Some(last);
         }
+        let earlier = hints.earlier as usize;
         if self.has_key(earlier, key) {
             return Some(earlier);
         }
@@ -491,6 +509,7 @@ impl Conns {
         }
         self.slots.insert_reserved(instance);
         refile(&self.slots, &mut self.firsts, slot);
+        self.recent = slot;
         Ok(())
     }
 

@@ -94,6 +94,18 @@ record_within number nano bytes place packet is =
     let len : length packet.bytes ≤ captured = omega (arith, ap (λ (p : Packet). length p.bytes) found.1, length-take captured (drop (place + 16) bytes)) in
     omega arith
 
+-- the length of a record at the front of some bytes, by its header
+pub front_len : (number : ℕ → List ℕ → ℕ) (nano : Bool) (bytes : List ℕ) (packet : Packet) → record_by number nano bytes 0 ≡ Some packet
+    → 16 + number 4 (drop 8 bytes) ≡ end_of packet
+front_len number nano bytes packet is =
+    let found = cond_some _ _ _ is in
+    let captured = number 4 (drop 8 bytes) in
+    let tests = and_parts (nat_le (16 + captured) (length bytes)) (nat_le captured 262144) found.0 in
+    let whole = leb-true (16 + captured) (length bytes) tests.0 in
+    let at = record_place number nano bytes 0 packet is in
+    let len : length packet.bytes ≡ captured = omega (arith, ap (λ (p : Packet). length p.bytes) found.1, length-take captured (drop 16 bytes), length-drop 16 bytes) in
+    omega arith
+
 -- the bytes from a place on, in a part and in the file
 part_from : (file : List ℕ) (from place k : ℕ) → drop (place + k) (drop from file) ≡ drop (from + place + k) file
 part_from file from place k =

@@ -15,7 +15,7 @@ use Rattle.zk_pcap.specs.Header.{number_of}
 use Rattle.zk_pcap.specs.Record.{record_by, record_at, is_too_long_by, is_too_long, end_of}
 use Rattle.zk_pcap.specs.Standing.{StandsFor, IsNext, IsFirst, RestIs, first_record, is_packet, placed}
 use Rattle.zk_pcap.specs.View.{packet_of}
-use Rattle.zk_pcap.proofs.FeedLemmas.{record_stays, record_in_part, record_place, record_within, too_long_in_part, stand_in_part}
+use Rattle.zk_pcap.proofs.FeedLemmas.{front_len, record_stays, record_in_part, record_place, record_within, too_long_in_part, stand_in_part}
 use Rattle.zk_pcap.proofs.RecordLemmas.{end_from-stand, stand_alone, stand_more}
 
 -- packets that stand one behind another stand where the same is read and more
@@ -139,6 +139,10 @@ stands_behind old new header file packets packet first stands at is big nano pla
     least n lt = omega arith
 
 -- the first record is one, and it is as long as was found
+one_of : (found : Option Packet) → IsSome found → (first : Packet) × (found ≡ Some first)
+one_of None some = absurd (cc)
+one_of (Some first) some = (first, refl)
+
 first_of : (found : Option Packet) (n : ℕ) → IsSome found → IfSome found (λ packet. n ≡ end_of packet) → (first : Packet) × ((found ≡ Some first) × (n ≡ end_of first))
 first_of None n some is = absurd (cc)
 first_of (Some first) n some is = (first, (refl, is))
@@ -159,13 +163,23 @@ stands_behind_some old new n header file packets packet stands at some is big na
     stands_behind old new header file packets packet first.0 stands at first.1.0 big nano
     (place ∙ ap (λ k. min (old.place + k) (2 ^ 64 - 1)) first.1.1) (held ∙ ap (λ k. drop k (bytes_of old.held)) first.1.1)
 
-pub no_end : (found : Option Packet) → None ≡ option_map end_of found → IsSome found → ⊥
-no_end None none some = absurd (cc)
-no_end (Some packet) none some = absurd (cc)
+-- the record at the front has a header, by which its length is known
+pub first_long : (feed : Feed) → IsSome (first_record feed) → 12 ≤ length (bytes_of feed.held)
+unfolding first_record
+first_long feed some =
+    let read = record_by (number_of feed.big) feed.nano (bytes_of feed.held) 0 in
+    let first = one_of read some in
+    let within = record_within (number_of feed.big) feed.nano (bytes_of feed.held) 0 first.0 first.1 in
+    omega arith
 
-pub end_is : (found : Option Packet) (n : ℕ) → Some n ≡ option_map end_of found → IfSome found (λ packet. n ≡ end_of packet)
-end_is None n is = absurd (cc)
-end_is (Some packet) n is = cc
+pub first_len_is : (feed : Feed) (n : ℕ) → IsSome (first_record feed) → n ≡ 16 + number_of feed.big 4 (drop 8 (bytes_of feed.held))
+    → IfSome (first_record feed) (λ packet. n ≡ end_of packet)
+unfolding first_record
+first_len_is feed n some is =
+    let read = record_by (number_of feed.big) feed.nano (bytes_of feed.held) 0 in
+    let first = one_of read some in
+    subst (λ found. IfSome found (λ packet. n ≡ end_of packet)) (sym first.1)
+    (is ∙ front_len (number_of feed.big) feed.nano (bytes_of feed.held) first.0 first.1)
 
 -- ---- what is left
 

@@ -1,4 +1,4 @@
-ghost use Rattle.std.specs.Prelude.{◌≡◌, ℕ, ◌+◌, ◌<◌, ◌≤◌, ◌^◌, ◌++◌, ◌∷◌, [], List, length, None, Some, IsSome, IfSome, true, IfOk, OnOk, OnErr, ◌↔◌};
+ghost use Rattle.std.specs.Prelude.{◌≡◌, ℕ, ◌+◌, ◌<◌, ◌≤◌, ◌^◌, ◌++◌, ◌∷◌, [], List, length, None, Some, IsSome, IfSome, true, IfOk, OnOk, OnErr, ◌↔◌, drop};
 ghost use Rattle.std.specs.Option.{option_map};
 ghost use Rattle.zk_pcap.specs.Header.{number_of};
 ghost use Rattle.zk_pcap.specs.Capture.{end_from, StandBetween};
@@ -8,7 +8,7 @@ ghost use Rattle.zk_pcap.specs.declared.headers.Header.{Header as HeaderData};
 ghost use Rattle.zk_pcap.specs.declared.records.Packet.{Packet as PacketData};
 
 use crate::headers::HEADER_LEN;
-use crate::records::is_too_long;
+use crate::records::{RECORD_HEADER_LEN, captured_len, is_too_long};
 use crate::{Header, PacketView};
 use byteorder::{BigEndian, ByteOrder, LittleEndian};
 use std::alloc::Global;
@@ -140,22 +140,10 @@ impl Feed {
         requires { IsSome (first_record self.now) }
         ensures { IfSome (first_record self.now) (λ packet. result ≡ end_of packet) }
     {
-        if let Some(end) = self.first_end() {
-            end
-        } else {
-            unreachable!()
-        }
-    }
-
-    /// The place behind the first record, if it is whole.
-    #[tactic(auto, unfolding(crate::specs::Standing::first_record))]
-    fn first_end(&self) -> Option<usize>
-        ensures { result ≡ option_map end_of (first_record self.now) }
-    {
         if self.big {
-            record_end::<BigEndian>(self.held.as_slice(), self.nano)
+            record_len::<BigEndian>(self.held.as_slice())
         } else {
-            record_end::<LittleEndian>(self.held.as_slice(), self.nano)
+            record_len::<LittleEndian>(self.held.as_slice())
         }
     }
 
@@ -173,11 +161,12 @@ impl Feed {
     }
 }
 
-/// The place behind the record at the front of some bytes, if it is whole.
-fn record_end<T: ByteOrder>(bytes: &[u8], nano: bool) -> Option<usize>
-    ensures { result ≡ option_map end_of (record_by T.number_of nano bytes.now 0) }
+/// The length of the record at the front of some bytes, by its header.
+fn record_len<T: ByteOrder>(bytes: &[u8]) -> usize
+    requires { 12 ≤ length bytes.now }
+    ensures { result ≡ 16 + T.number_of 4 (drop 8 bytes.now) }
 {
-    Some(PacketView::read::<T>(bytes, 0, nano)?.end())
+    RECORD_HEADER_LEN + captured_len::<T>(bytes)
 }
 
 /// The place behind the records that stand one behind another from the front of some bytes on.

@@ -48,7 +48,7 @@ impl Packet {
 }
 
 /// The length of a record's header.
-const RECORD_HEADER_LEN: usize = 16;
+pub const RECORD_HEADER_LEN: usize = 16;
 
 // Places of its fields, behind the seconds.
 const FRACTION: usize = 4;
@@ -128,9 +128,18 @@ fn number_at<T: ByteOrder>(file: &[u8], place: usize) -> u32
     T::read_u32(&file[place..])
 }
 
+/// How many bytes were captured, by the record's header that some bytes begin with.
+pub fn captured_len<T: ByteOrder>(bytes: &[u8]) -> usize
+    requires { 12 ≤ length bytes.now }
+    ensures value { result ≡ T.number_of 4 (drop 8 bytes.now) }
+    ensures bound { result < 2 ^ 32 }
+{
+    number_at::<T>(bytes, CAPTURED) as usize
+}
+
 /// Whether some bytes begin with a record that says that more bytes were captured than one may have.
 pub fn is_too_long<T: ByteOrder>(bytes: &[u8]) -> bool
     ensures { result ≡ is_too_long_by T.number_of bytes.now 0 }
 {
-    bytes.len() >= ORIGINAL && number_at::<T>(bytes, CAPTURED) as usize > RECORD_BYTES_MAX
+    bytes.len() >= ORIGINAL && captured_len::<T>(bytes) > RECORD_BYTES_MAX
 }

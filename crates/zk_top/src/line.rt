@@ -10,26 +10,42 @@ use zk_base::{Addr, ConnNo, Moment, Side};
 use zk_conn::{ConnState, Facts};
 use zk_events::{reason_number, state_name};
 use zk_http::{Unit, UnitKind};
-use zk_text::{ADDR_TEXT_MAX, addr_text, proto_name};
+use zk_text::{ADDR_TEXT_MAX, SPAN_TEXT_MAX, addr_text, proto_name, span_text};
 use zk_traffic::{Item, What};
 use zk_value::{push_count, push_span};
+
+/// A moment and its text.
+#[derive(Clone, Copy, Debug)]
+struct Shown<'a> {
+    moment: Moment,
+    text: &'a [u8],
+    ghost is_text: { text.now ≡ span_decimal moment.0 },
+}
 
 /// Adds the line of an item.
 pub fn push_item_line(out: &mut Vec<u8>, item: &Item) -> Result<(), AllocError>
     ensures ok { OnOk result (out.new.items ≡ out.old.items ++ line_of item.now) }
 {
-    push_span(out, item.moment.0)?;
-    push_fields(out, &item.what)?;
+    let mut buffer = [0; SPAN_TEXT_MAX];
+    let Ok(len) = span_text(item.moment.0, &mut buffer) else {
+        unreachable!()
+    };
+    let now = Shown {
+        moment: item.moment,
+        text: &buffer[..len],
+    };
+    out.extend_from_slice(now.text)?;
+    push_fields(out, now, &item.what)?;
     out.push(b'\n')?;
     Ok(())
 }
 
-/// Adds what an item is, and its fields.
-fn push_fields(out: &mut Vec<u8>, what: &What) -> Result<(), AllocError>
+/// Adds what an item is that happens now, and its fields.
+fn push_fields(out: &mut Vec<u8>, now: Shown<'_>, what: &What) -> Result<(), AllocError>
     ensures ok { OnOk result (out.new.items ≡ out.old.items ++ fields_of what.now) }
 {
     match what {
-        What::Seen { own, caplen, len } => push_seen(out, *own, *caplen, *len),
+        What::Seen { own, caplen, len } => push_seen(out, now, *own, *caplen, *len),
         What::Opened { conn, facts } => push_opened(out, *conn, facts),
         What::Established { conn, facts: _ } => push_conn(out, b"established", *conn),
         What::Gap {
@@ -74,13 +90,30 @@ fn push_fields(out: &mut Vec<u8>, what: &What) -> Result<(), AllocError>
     }
 }
 
-fn push_seen(out: &mut Vec<u8>, own: Moment, caplen: u32, len: u32) -> Result<(), AllocError>
+fn push_seen(
+    out: &mut Vec<u8>,
+    now: Shown<'_>,
+    own: Moment,
+    caplen: u32,
+    len: u32,
+) -> Result<(), AllocError>
     ensures ok { OnOk result (out.new.items ≡ out.old.items ++ fields_of (Seen own caplen len)) }
 {
     out.extend_from_slice(b"\tpacket\t")?;
-    push_span(out, own.0)?;
+    push_own(out, now, own)?;
     push_number(out, u64::from(caplen))?;
     push_number(out, u64::from(len))
+}
+
+/// Adds a packet's own time, which is mostly the network time that it makes: that one's text is there.
+fn push_own(out: &mut Vec<u8>, now: Shown<'_>, own: Moment) -> Result<(), AllocError>
+    ensures ok { OnOk result (out.new.items ≡ out.old.items ++ span_decimal own.0) }
+{
+    if own == now.moment {
+        out.extend_from_slice(now.text)
+    } else {
+        push_span(out, own.0)
+    }
 }
 
 fn push_opened(out: &mut Vec<u8>, conn: ConnNo, facts: &Facts) -> Result<(), AllocError>

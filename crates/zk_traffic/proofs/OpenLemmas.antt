@@ -14,6 +14,7 @@ use Rattle.zk_traffic.specs.News.{runs_of}
 use Rattle.zk_traffic.specs.Segments.{segments}
 use Rattle.zk_traffic.specs.Standing.{StandsFor}
 use Rattle.zk_traffic.specs.Table.{IsCurrent}
+use Rattle.zk_traffic.specs.Waiting.{items_in}
 use Rattle.zk_traffic.proofs.RecordLemmas.{items_ended, not_nil}
 
 pub on_ok_is : {A E : Type 0} {P Q : Type 0} (r : Result A E) → OnOk r P → ((a : A) → r ≡ Ok a → P → Q) → OnOk r Q
@@ -21,7 +22,7 @@ on_ok_is (Ok a) p then = then a refl p
 on_ok_is (Err e) p then = tt
 
 pub stands_new : (new : Traffic) (options : Options) (link : ℕ) → new.has_failed ≡ false → new.options ≡ options → new.link ≡ link → new.time ≡ now [] → frags.StandsFor new.frags []
-    → IsCurrent new.connections.table options.buffer [] (now []) → new.connections.items.items ≡ [] → runs_of new.connections.news ≡ [] → StandsFor new options link [] [] false
+    → IsCurrent new.connections.table options.buffer [] (now []) → items_in new.connections.items ≡ [] → runs_of new.connections.news ≡ [] → StandsFor new options link [] [] false
 unfolding items_of items_so_far segments fragments
 stands_new new options link works options_are link_is time_is frags_are table_is items_are no_runs = record {
   works = works;
@@ -37,7 +38,7 @@ stands_new new options link works options_are link_is time_is frags_are table_is
 
 pub stands_ended : (old new : Traffic) (options : Options) (link : ℕ) (records : List Packet) (given : List Item) → StandsFor old options link records given false
     → new.has_failed ≡ false → new.options ≡ old.options → new.link ≡ old.link → new.time ≡ old.time → new.frags ≡ old.frags → new.connections.table.streams.kept ≡ 0
-    → new.connections.items.items ≡ old.connections.items.items ++ map (removed_at (now records)) (live_at options.buffer (segments options link records) (now records))
+    → items_in new.connections.items ≡ items_in old.connections.items ++ map (removed_at (now records)) (live_at options.buffer (segments options link records) (now records))
     → new.connections.news ≡ old.connections.news → StandsFor new options link records given true
 unfolding items_at_end
 stands_ended old new options link records given stands works options_are link_is time_is frags_are none_kept items_are news_are = record {
@@ -47,7 +48,7 @@ stands_ended old new options link records given stands works options_are link_is
   time_is = time_is ∙ stands.time_is;
   frags_are = subst (λ f. frags.StandsFor f (fragments options link records)) (sym frags_are) stands.frags_are;
   table_is = none_kept;
-  items_are = ap (λ l. given ++ l) items_are ∙ sym (append_assoc given old.connections.items.items (items_at_end options link records))
+  items_are = ap (λ l. given ++ l) items_are ∙ sym (append_assoc given (items_in old.connections.items) (items_at_end options link records))
       ∙ ap (λ l. l ++ items_at_end options link records) stands.items_are ∙ sym (items_ended options link records);
   none_fresh = λ none. ap runs_of news_are ∙ stands.none_fresh none;
   fresh_is = λ before last is open_is. absurd (true≢false open_is);

@@ -29,6 +29,7 @@ use Rattle.zk_traffic.specs.Steps.{Step, so_far, steps, steps_behind}
 use Rattle.zk_traffic.specs.Table.{IsCurrent}
 use Rattle.zk_traffic.specs.Taken.{segment_of}
 use Rattle.zk_traffic.specs.Taking.{HasTaken, IsReady, TakesSome, list_of}
+use Rattle.zk_traffic.specs.Waiting.{items_in}
 
 steps_behind-append : {A : Type 0} (before a b : List A) → steps_behind before (a ++ b) ≡ steps_behind before a ++ steps_behind (before ++ a) b
 steps_behind-append before [] b = ap (λ l. steps_behind l b) (sym (append-nil before))
@@ -131,7 +132,7 @@ answered f (Some a) o is = is
 pub takes_none : (limit : ℕ) (segments : List Segment) (t : Moment) (c : Connections) → IsCurrent c.table limit segments t → runs_of c.news ≡ [] → TakesSome limit segments None t c c
 takes_none limit segments t c current no_runs = record {
   current = subst (λ l. IsCurrent c.table limit l t) (sym (append-nil segments)) current;
-  items_are = sym (append-nil c.items.items);
+  items_are = sym (append-nil (items_in c.items));
   runs_are = no_runs;
 }
 
@@ -148,7 +149,7 @@ has_taken old new options link step o ready is options_are link_is time_is frags
       time_is = time_is ∙ ready.time_is;
       frags_are = subst (frags.StandsFor new.frags) (sym (fragments-more options link step)) frags_are;
       current = subst (λ l. IsCurrent new.connections.table buffer l (time_at step)) (ap (λ x. before ++ list_of x) (sym is) ∙ sym (segments-more options link step)) takes.current;
-      items_are = takes.items_are ∙ ap (λ x. old.connections.items.items ++ option_map_or (segment_items buffer before) x []) (sym is);
+      items_are = takes.items_are ∙ ap (λ x. items_in old.connections.items ++ option_map_or (segment_items buffer before) x []) (sym is);
       runs_are = takes.runs_are ∙ ap (λ x. option_map_or (segment_fresh buffer before) x []) (sym is);
     }
 
@@ -185,7 +186,7 @@ not_nil (x ∷ l) p e = cc
 -- behind one more packet
 pub stands_with : (old ready new : Traffic) (options : Options) (link : ℕ) (step : Step Packet) (given : List Item) → StandsFor old options link step.before given false → HasTaken ready new options link step
     → new.has_failed ≡ false
-    → ready.connections.items.items ≡ old.connections.items.items
+    → items_in ready.connections.items ≡ (items_in old.connections.items)
     ++ map removed (in_order (over_between options.buffer (segments options link step.before) (now step.before) (time_at step))) ++ seen options step
     → StandsFor new options link (so_far step) given false
 unfolding items_at
@@ -199,7 +200,7 @@ stands_with old ready new options link step given stands taken works ready_items
   items_are = let a = map removed (in_order (over_between options.buffer (segments options link step.before) (now step.before) (time_at step))) in
       let b = seen options step in
       let c = option_map_or (segment_items options.buffer (segments options link step.before)) (segment_at options link step) [] in
-      let l = old.connections.items.items in
+      let l = items_in old.connections.items in
       ap (λ x. given ++ x) (taken.items_are ∙ ap (λ x. x ++ c) ready_items) ∙ same given l a b c
       ∙ ap (λ x. x ++ ((a ++ b) ++ c)) (stands.items_are ∙ items_open options link step.before)
       ∙ sym (items-more options link step) ∙ sym (items_open options link (so_far step));

@@ -1,7 +1,8 @@
 -- The table of streams behind a segment.
 use Rattle.std.proofs.Common.{◌≡◌, ℕ, ◌+◌, ◌-◌, ◌^◌, ◌<◌, ◌≤◌, Bool, true, false, cond, not, ◌&&◌, List, [], ◌++◌, map, Option, None, Some, unwrap_or, refl, sym, ap, subst, ◌∙◌, arith}
 use Rattle.std.specs.Option.{MatchOption}
-use Rattle.std.specs.Prelude.{is_some}
+use Rattle.std.specs.Prelude.{is_some, nat_eq, slice_get, ◌≢◌}
+use Rattle.std.proofs.lemmas.Bool.Decides.{eqb_tells}
 use Rattle.std.proofs.lemmas.List.{append-nil}
 use Rattle.zk_base.specs.declared.network.Side.{Side}
 use Rattle.zk_base.specs.declared.network.Side.TheVariants.{Orig, Resp}
@@ -19,7 +20,7 @@ use Rattle.zk_traffic.specs.Moves.{HasTaken, IsMove, front_moved, gap_in}
 use Rattle.zk_traffic.specs.News.{runs_of}
 use Rattle.zk_traffic.specs.Places.{gaps_from, runs_from}
 use Rattle.zk_traffic.specs.Segments.{Segment}
-use Rattle.zk_traffic.specs.StreamTable.{HasRead, HasStreams, Takes, entry_at}
+use Rattle.zk_traffic.specs.StreamTable.{HasRead, HasStreams, StandAt, Takes, entry_at}
 use Rattle.zk_traffic.specs.Streams.{AreStreams, IsStream}
 use Rattle.zk_http.specs.Places.{Both, Stream as Placed, of_side}
 use Rattle.zk_units.specs.declared.readers.Readers.{Readers}
@@ -28,6 +29,24 @@ use Rattle.zk_units.specs.declared.stream_unit.StreamUnit.{StreamUnit}
 use Rattle.zk_units.specs.Standing.{Reads, StandsFor as ReadersStand, held_in as reader_held, no_streams}
 use Rattle.zk_units.specs.Units.{add_all, all_freed, bytes_unread, no_units}
 use Rattle.zk_units.proofs.ReaderLemmas.{none_freed, none_unread}
+
+-- numbers that are apart are told apart
+pub apart_eq : (a b : ℕ) → b ≢ a → nat_eq a b ≡ false
+apart_eq a b apart = elim (eqb_tells a b) [
+      | inl same ↦ absurd (apart (sym same.1))
+      | inr off ↦ off.0
+    ]
+
+some_same : {A : Type 0} {x y : A} → Some x ≡ Some y → x ≡ y
+some_same e = cc
+
+-- what is read where the streams of a connection stand are its streams
+pub stand_entry : (table : StreamTable) (index number key : ℕ) (streams : Streams) → StandAt table index number → slice_get table.streams.entries index ≡ Some (key, streams)
+    → (slice_get table.streams.entries index ≡ Some (number, streams)) × (entry_at table number ≡ Some streams)
+stand_entry table index number key streams stand read =
+    let same = some_same (sym stand.1 ∙ read) in
+    let is : stand.0 ≡ streams = ap (λ (e : ℕ × Streams). e.1) same in
+    (stand.1 ∙ ap (λ s. Some (number, s)) is, stand.2 ∙ ap Some is)
 
 -- a sum that was counted
 pub counted_sum : (o : Option ℕ) (sum kept : ℕ) → MatchOption o (2 ^ 64 ≤ sum) (λ n. n ≡ sum) → sum ≤ kept → kept < 2 ^ 64 → unwrap_or o 0 ≡ sum

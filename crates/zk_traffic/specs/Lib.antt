@@ -17,3 +17,4 @@ pub mod Streams
 pub mod StreamTable
 pub mod Queue
 pub mod Taking
+pub mod Waiting

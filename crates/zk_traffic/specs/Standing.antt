@@ -13,6 +13,7 @@ use Rattle.zk_traffic.specs.Items.{fresh_at, items_of}
 use Rattle.zk_traffic.specs.News.{runs_of}
 use Rattle.zk_traffic.specs.Segments.{Segment, segments}
 use Rattle.zk_traffic.specs.Table.{IsCurrent}
+use Rattle.zk_traffic.specs.Waiting.{items_in}
 
 -- A value that has failed for want of memory. It stands for nothing.
 abbrev pub HasFailed : Traffic → Type 0
@@ -20,7 +21,7 @@ HasFailed traffic = traffic.has_failed ≡ true
 
 -- how many items wait to be given
 abbrev pub waiting : Traffic → ℕ
-waiting traffic = length traffic.connections.items.items
+waiting traffic = length (items_in traffic.connections.items)
 
 -- the table as it is behind some segments and at a moment; behind the end it has nothing, and nothing more is known of it
 abbrev pub IsTable : Table → ℕ → List Segment → Moment → Bool → Type 0
@@ -35,7 +36,7 @@ pub record StandsFor (traffic : Traffic) (options : Options) (link : ℕ) (recor
   pub time_is : traffic.time ≡ now records
   pub frags_are : frags.StandsFor traffic.frags (fragments options link records)
   pub table_is : IsTable traffic.connections.table options.buffer (segments options link records) (now records) ended
-  pub items_are : given ++ traffic.connections.items.items ≡ items_of options link records ended
+  pub items_are : given ++ items_in traffic.connections.items ≡ items_of options link records ended
   pub none_fresh : records ≡ [] → runs_of traffic.connections.news ≡ []
   pub fresh_is : (before : List Packet) (last : Packet) → records ≡ before ++ last ∷ [] → ended ≡ false
       → runs_of traffic.connections.news ≡ fresh_at options link (record { before = before; last = last })

@@ -1,6 +1,6 @@
 -- What the table of streams has of a connection, and what a segment does there.
-use Rattle.std.specs.Prelude.{◌≡◌, ℕ, ◌+◌, ◌≤◌, ◌++◌, nat_eq, Option, Some, None}
-use Rattle.std.specs.HashMap as hashed
+use Rattle.std.specs.Prelude.{◌≡◌, ℕ, ◌+◌, ◌≤◌, ◌++◌, nat_eq, slice_get, Option, Some, None}
+use Rattle.indexmap.specs.IndexMap as indexed
 use Rattle.zk_base.specs.declared.network.Side.{Side}
 use Rattle.zk_base.specs.declared.numbers.ConnNo.{ConnNo}
 use Rattle.zk_traffic.specs.declared.news.News.{News}
@@ -19,7 +19,11 @@ use Rattle.zk_units.specs.Standing as readers
 use Rattle.zk_units.specs.Units.{no_units}
 
 unfoldable pub entry_at : StreamTable → ℕ → Option Streams
-entry_at table number = hashed.get nat_eq table.streams number
+entry_at table number = indexed.get nat_eq table.streams number
+
+-- the streams of a connection stand at an index
+abbrev pub StandAt : StreamTable → ℕ → ℕ → Type 0
+StandAt table index number = (streams : Streams) × (slice_get table.streams.entries index ≡ Some (number, streams)) × (entry_at table number ≡ Some streams)
 
 -- all units of the streams were read, and the bytes that are kept are those that are not read, few of each side
 pub record HasRead (limit : ℕ) (reads : Readers) (c : Conversation) : Type 0 where

@@ -13,6 +13,7 @@ use Rattle.zk_traffic.specs.News.{runs_of}
 use Rattle.zk_traffic.specs.Segments.{Segment, segment_at, segments}
 use Rattle.zk_traffic.specs.Steps.{Step, so_far}
 use Rattle.zk_traffic.specs.Table.{IsCurrent}
+use Rattle.zk_traffic.specs.Waiting.{items_in}
 
 abbrev pub list_of : {A : Type 0} → Option A → List A
 list_of None = []
@@ -21,7 +22,7 @@ list_of (Some a) = a ∷ []
 -- the connections have one more segment, where there is one
 pub record TakesSome (limit : ℕ) (before : List Segment) (o : Option Segment) (t : Moment) (old new : Connections) : Type 0 where
   pub current : IsCurrent new.table limit (before ++ list_of o) t
-  pub items_are : new.items.items ≡ old.items.items ++ option_map_or (segment_items limit before) o []
+  pub items_are : items_in new.items ≡ items_in old.items ++ option_map_or (segment_items limit before) o []
   pub runs_are : runs_of new.news ≡ option_map_or (segment_fresh limit before) o []
 
 -- what is due by a moment was removed, and nothing has come there yet
@@ -42,6 +43,6 @@ pub record HasTaken (old new : Traffic) (options : Options) (link : ℕ) (step :
   pub time_is : new.time ≡ time_at step
   pub frags_are : frags.StandsFor new.frags (fragments options link (so_far step))
   pub current : IsCurrent new.connections.table options.buffer (segments options link (so_far step)) (time_at step)
-  pub items_are : new.connections.items.items
-      ≡ old.connections.items.items ++ option_map_or (segment_items options.buffer (segments options link step.before)) (segment_at options link step) []
+  pub items_are : items_in new.connections.items
+      ≡ items_in old.connections.items ++ option_map_or (segment_items options.buffer (segments options link step.before)) (segment_at options link step) []
   pub runs_are : runs_of new.connections.news ≡ fresh_at options link step

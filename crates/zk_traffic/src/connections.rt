@@ -8,16 +8,17 @@ ghost use Rattle.zk_traffic.specs.Segments.{Segment as SegmentData};
 ghost use Rattle.zk_traffic.specs.Table.{IsCurrent};
 ghost use Rattle.zk_traffic.specs.Taken.{segment_of};
 ghost use Rattle.zk_traffic.specs.Taking.{TakesSome};
+ghost use Rattle.zk_traffic.specs.Waiting.{items_in};
 ghost use Rattle.zk_traffic.specs.declared.item.Item.{Item as ItemData};
 ghost use Rattle.zk_traffic.specs.declared.item.What.TheVariants as what;
 
-use crate::item::{Item, What};
+use crate::item::Item;
 use crate::news::News;
-use crate::queue::{give, give_endings, give_gaps, give_opening, give_removed, give_units};
+use crate::queue::{give_endings, give_gaps, give_opening, give_removed, give_units};
 use crate::segment::Segment;
 use crate::table::Table;
+use crate::waiting::{Seen, Waiting};
 use std::alloc::Global;
-use std::collections::VecDeque;
 use zk_base::{Mem, Moment};
 use zk_pcap::PacketView;
 
@@ -26,20 +27,20 @@ use zk_pcap::PacketView;
 pub struct Connections {
     table: Table,
     news: News,
-    items: VecDeque<Item>,
+    items: Waiting,
 }
 
 impl Connections {
     /// No connections and no items. No memory is taken.
     pub fn new(alloc: Global, limit: u64) -> Connections
         ensures table { (t : Moment) → IsCurrent result.table limit [] t }
-        ensures items { result.items.items ≡ [] }
+        ensures items { items_in result.items ≡ [] }
         ensures news { runs_of result.news ≡ [] }
     {
         Connections {
             table: Table::new(alloc, limit),
             news: News::new(alloc),
-            items: VecDeque::new(alloc),
+            items: Waiting::new(alloc),
         }
     }
 
@@ -59,12 +60,12 @@ impl Connections {
 
     /// The next item.
     pub fn next(&mut self) -> Option<Item>
-        ensures some { (item : ItemData) → result ≡ Some item → self.old.items.items ≡ item ∷ self.new.items.items }
-        ensures none { result ≡ None → (self.old.items.items ≡ []) × (self.new.items.items ≡ []) }
+        ensures some { (item : ItemData) → result ≡ Some item → items_in self.old.items ≡ item ∷ items_in self.new.items }
+        ensures none { result ≡ None → (items_in self.old.items ≡ []) × (items_in self.new.items ≡ []) }
         ensures table { self.new.table ≡ self.old.table }
         ensures news { self.new.news ≡ self.old.news }
     {
-        self.items.pop_front()
+        self.items.pop()
     }
 
     /// Begins with another packet.
@@ -82,7 +83,7 @@ impl Connections {
     pub fn remove_due(&mut self, t: Moment) -> Result<(), Mem>
         ensures removed { OnOk result ((limit : ℕ) (segments : List SegmentData) (before : Moment) → IsCurrent self.old.table limit segments before → before.0 ≤ℤ t.0
             → IsCurrent self.new.table limit segments t
-            × (self.new.items.items ≡ self.old.items.items ++ map removed (in_order (over_between limit segments before t)))) }
+            × (items_in self.new.items ≡ items_in self.old.items ++ map removed (in_order (over_between limit segments before t)))) }
         ensures news { self.new.news ≡ self.old.news }
     {
         for _ in 0..u64::MAX {
@@ -98,7 +99,7 @@ impl Connections {
     pub fn end(&mut self, last: Moment) -> Result<(), Mem>
         ensures removed { OnOk result ((limit : ℕ) (segments : List SegmentData) → IsCurrent self.old.table limit segments last
             → (self.new.table.streams.kept ≡ 0)
-            × (self.new.items.items ≡ self.old.items.items ++ map (removed_at last) (live_at limit segments last))) }
+            × (items_in self.new.items ≡ items_in self.old.items ++ map (removed_at last) (live_at limit segments last))) }
         ensures news { self.new.news ≡ self.old.news }
     {
         for _ in 0..u64::MAX {
@@ -116,7 +117,7 @@ impl Connections {
         requires late { t.0 ≤ℤ pos (2 ^ 62) }
         ensures { OnOk result ((limit : ℕ) (segments : List SegmentData) → IsCurrent self.old.table limit segments t → runs_of self.old.news ≡ [] → self.old.news.gaps.items ≡ [] → self.old.news.units.items ≡ []
             → IsCurrent self.new.table limit (segments ++ segment_of t segment.now ∷ []) t
-            × (self.new.items.items ≡ self.old.items.items ++ segment_items limit segments (segment_of t segment.now))
+            × (items_in self.new.items ≡ items_in self.old.items ++ segment_items limit segments (segment_of t segment.now))
             × (runs_of self.new.news ≡ segment_fresh limit segments (segment_of t segment.now))) }
     {
         let done = self.table.take(t, segment, &mut self.news)?;
@@ -143,18 +144,18 @@ impl Connections {
     /// Adds that a packet was captured, where that is wanted.
     pub fn give_seen(&mut self, wanted: bool, t: Moment, p: &PacketView<'_>) -> Result<(), Mem>
         requires captured { length p.now.bytes.now ≤ 262144 }
-        ensures items { OnOk result (self.new.items.items ≡ self.old.items.items ++ when wanted (item t (what.Seen p.now.moment (length p.now.bytes.now) p.now.orig_len))) }
+        ensures items { OnOk result (items_in self.new.items ≡ items_in self.old.items ++ when wanted (item t (what.Seen p.now.moment (length p.now.bytes.now) p.now.orig_len))) }
         ensures table { self.new.table ≡ self.old.table }
         ensures news { self.new.news ≡ self.old.news }
     {
         if !wanted {
             return Ok(());
         }
-        let seen = What::Seen {
+        self.items.push_seen(Seen {
+            moment: t,
             own: p.moment,
             caplen: p.bytes.len() as u32,
             len: p.orig_len,
-        };
-        give(&mut self.items, t, seen)
+        })
     }
 }

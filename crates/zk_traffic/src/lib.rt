@@ -12,6 +12,7 @@ mod stream_table;
 mod streams;
 mod table;
 mod traffic;
+mod waiting;
 
 pub use item::{Item, What};
 pub use news::Fresh;

@@ -2,11 +2,13 @@ ghost use Rattle.std.specs.Prelude.{◌≡◌, [], ◌∷◌, ◌++◌, map, OnO
 ghost use Rattle.zk_conn.specs.declared.facts.Facts.{Facts as FactsData};
 ghost use Rattle.zk_traffic.specs.Items.{item, unit_item, what_said, when};
 ghost use Rattle.zk_traffic.specs.Queue.{Knows, ending_items, gap_item, opening_items, what_of};
+ghost use Rattle.zk_traffic.specs.Waiting.{items_in};
 ghost use Rattle.zk_traffic.specs.declared.item.What.TheVariants as what;
 
 use crate::item::{Item, What};
 use crate::news::Gap;
 use crate::table::{Done, Table, peer};
+use crate::waiting::Waiting;
 use std::collections::VecDeque;
 use zk_base::{ConnNo, Mem, Moment, Side};
 use zk_conn::{Facts, Removed};
@@ -44,16 +46,15 @@ fn what(event: Event, conn: ConnNo, facts: Facts) -> What
 }
 
 /// Adds an item.
-pub fn give(items: &mut VecDeque<Item>, moment: Moment, what: What) -> Result<(), Mem>
-    ensures { OnOk result (items.new.items ≡ items.old.items ++ item moment what ∷ []) }
+pub fn give(items: &mut Waiting, moment: Moment, what: What) -> Result<(), Mem>
+    ensures { OnOk result (items_in items.new ≡ items_in items.old ++ item moment what ∷ []) }
 {
-    items.push_back(Item { moment, what })?;
-    Ok(())
+    items.push(Item { moment, what })
 }
 
 /// Adds that a connection was removed.
-pub fn give_removed(items: &mut VecDeque<Item>, removed: Removed) -> Result<(), Mem>
-    ensures { OnOk result (items.new.items ≡ items.old.items ++ item removed.at (what.Removed removed.conn removed.facts) ∷ []) }
+pub fn give_removed(items: &mut Waiting, removed: Removed) -> Result<(), Mem>
+    ensures { OnOk result (items_in items.new ≡ items_in items.old ++ item removed.at (what.Removed removed.conn removed.facts) ∷ []) }
 {
     let Removed { conn, at, facts } = removed;
     give(items, at, What::Removed { conn, facts })
@@ -61,13 +62,13 @@ pub fn give_removed(items: &mut VecDeque<Item>, removed: Removed) -> Result<(), 
 
 /// Adds an item of a live connection, with what is known of it.
 fn give_event(
-    items: &mut VecDeque<Item>,
+    items: &mut Waiting,
     table: &Table,
     t: Moment,
     conn: ConnNo,
     event: Event,
 ) -> Result<(), Mem>
-    ensures { OnOk result ((known : FactsData) → Knows table.now conn known → items.new.items ≡ items.old.items ++ item t (what_of event conn known) ∷ []) }
+    ensures { OnOk result ((known : FactsData) → Knows table.now conn known → items_in items.new ≡ items_in items.old ++ item t (what_of event conn known) ∷ []) }
 {
     match table.facts(conn) {
         Some(facts) => give(items, t, what(event, conn, facts)),
@@ -77,14 +78,14 @@ fn give_event(
 
 /// Adds an item of a live connection where it happens.
 fn give_if(
-    items: &mut VecDeque<Item>,
+    items: &mut Waiting,
     table: &Table,
     happens: bool,
     t: Moment,
     conn: ConnNo,
     event: Event,
 ) -> Result<(), Mem>
-    ensures { OnOk result ((known : FactsData) → Knows table.now conn known → items.new.items ≡ items.old.items ++ when happens (item t (what_of event conn known))) }
+    ensures { OnOk result ((known : FactsData) → Knows table.now conn known → items_in items.new ≡ items_in items.old ++ when happens (item t (what_of event conn known))) }
 {
     if happens {
         give_event(items, table, t, conn, event)?;
@@ -94,12 +95,12 @@ fn give_if(
 
 /// Adds the items of a segment ahead of the gaps.
 pub fn give_opening(
-    items: &mut VecDeque<Item>,
+    items: &mut Waiting,
     table: &Table,
     t: Moment,
     done: Done,
 ) -> Result<(), Mem>
-    ensures { OnOk result ((known : FactsData) → Knows table.now done.conn known → items.new.items ≡ items.old.items ++ opening_items t done known) }
+    ensures { OnOk result ((known : FactsData) → Knows table.now done.conn known → items_in items.new ≡ items_in items.old ++ opening_items t done known) }
 {
     give_if(items, table, done.opened, t, done.conn, Event::Opened)?;
     give_if(
@@ -114,13 +115,13 @@ pub fn give_opening(
 
 /// Adds the gaps.
 pub fn give_gaps(
-    items: &mut VecDeque<Item>,
+    items: &mut Waiting,
     table: &Table,
     t: Moment,
     conn: ConnNo,
     gaps: &[Gap],
 ) -> Result<(), Mem>
-    ensures { OnOk result ((known : FactsData) → Knows table.now conn known → items.new.items ≡ items.old.items ++ map (gap_item t conn known) gaps.now) }
+    ensures { OnOk result ((known : FactsData) → Knows table.now conn known → items_in items.new ≡ items_in items.old ++ map (gap_item t conn known) gaps.now) }
 {
     for gap in gaps {
         let event = Event::Gap {
@@ -164,13 +165,13 @@ fn what_freed(conn: ConnNo, facts: Facts, freed: Freed) -> What
 
 /// Adds a unit of a live connection, with what is known of it.
 fn give_unit(
-    items: &mut VecDeque<Item>,
+    items: &mut Waiting,
     table: &Table,
     t: Moment,
     conn: ConnNo,
     freed: Freed,
 ) -> Result<(), Mem>
-    ensures { OnOk result ((known : FactsData) → Knows table.now conn known → items.new.items ≡ items.old.items ++ unit_item t conn known freed ∷ []) }
+    ensures { OnOk result ((known : FactsData) → Knows table.now conn known → items_in items.new ≡ items_in items.old ++ unit_item t conn known freed ∷ []) }
 {
     match table.facts(conn) {
         Some(facts) => give(items, t, what_freed(conn, facts, freed)),
@@ -180,13 +181,13 @@ fn give_unit(
 
 /// Adds the units. None are left.
 pub fn give_units(
-    items: &mut VecDeque<Item>,
+    items: &mut Waiting,
     table: &Table,
     t: Moment,
     conn: ConnNo,
     units: &mut VecDeque<Freed>,
 ) -> Result<(), Mem>
-    ensures { OnOk result ((known : FactsData) → Knows table.now conn known → items.new.items ≡ items.old.items ++ map (unit_item t conn known) units.old.items) }
+    ensures { OnOk result ((known : FactsData) → Knows table.now conn known → items_in items.new ≡ items_in items.old ++ map (unit_item t conn known) units.old.items) }
 {
     while let Some(freed) = units.pop_front() {
         give_unit(items, table, t, conn, freed)?;
@@ -196,12 +197,12 @@ pub fn give_units(
 
 /// Adds the items of a segment behind the units.
 pub fn give_endings(
-    items: &mut VecDeque<Item>,
+    items: &mut Waiting,
     table: &Table,
     t: Moment,
     done: Done,
 ) -> Result<(), Mem>
-    ensures { OnOk result ((known : FactsData) → Knows table.now done.conn known → items.new.items ≡ items.old.items ++ ending_items t done known) }
+    ensures { OnOk result ((known : FactsData) → Knows table.now done.conn known → items_in items.new ≡ items_in items.old ++ ending_items t done known) }
 {
     let conn = done.conn;
     give_if(

@@ -140,9 +140,10 @@ impl Table {
         let stops = self.stops(conn, touched.reset, segment);
         let protocol = self.protocol(conn, segment);
         self.read_datagram(side, protocol, segment, news)?;
+        let place = self.conns.place(conn);
         let moves = self
             .streams
-            .take(conn, side, stops, protocol, segment, news)?;
+            .take(conn, place, side, stops, protocol, segment, news)?;
         let reached = self.tell(conn, side, moves.sender);
         let receiver_ended = self.tell(conn, peer(side), moves.receiver);
         Ok(Done {

@@ -3,6 +3,7 @@ use Rattle.zk_traffic.specs.Instances.{live_at}
 use Rattle.zk_traffic.specs.Items.{removed_at}
 use Rattle.zk_traffic.specs.Segments.{segments}
 use Rattle.zk_traffic.specs.Table.{IsCurrent}
+use Rattle.zk_traffic.specs.Waiting.{items_in}
 use Rattle.std.specs.Prelude.{is_err}
 use Rattle.zk_traffic.proofs.OpenLemmas.{on_ok_is, stands_ended}
 use Rattle.zk_traffic.proofs.traffic.Traffic.end.Goals as goal
@@ -12,5 +13,5 @@ returns-clause-ended c = on_ok_is c.end-ended.result c.end-ended.ensures.removed
     let segs = segments options link records in
     let done = removed options.buffer segs (subst (IsCurrent c.args.self.now.connections.table options.buffer segs) (sym stands.time_is) stands.table_is) in
     stands_ended c.args.self.now _ options link records given stands (c.is_err-self.ensures.value ∙ ap is_err is) refl refl refl refl done.0
-    (subst (λ m. c.end-ended.new.self.items.items ≡ c.args.self.now.connections.items.items ++ map (removed_at m) (live_at options.buffer segs m)) stands.time_is done.1)
+    (subst (λ m. items_in c.end-ended.new.self.items ≡ items_in c.args.self.now.connections.items ++ map (removed_at m) (live_at options.buffer segs m)) stands.time_is done.1)
     c.end-ended.ensures.news)

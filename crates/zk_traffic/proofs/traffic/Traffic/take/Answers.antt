@@ -11,6 +11,7 @@ use Rattle.zk_traffic.specs.News.{runs_of}
 use Rattle.zk_traffic.specs.Segments.{segments}
 use Rattle.zk_traffic.specs.Steps.{Step}
 use Rattle.zk_traffic.specs.Table.{IsCurrent}
+use Rattle.zk_traffic.specs.Waiting.{items_in}
 use Rattle.zk_traffic.proofs.GivenLemmas.{on_ok}
 use Rattle.zk_traffic.proofs.RecordLemmas.{not_before, stands_with}
 use Rattle.zk_traffic.proofs.traffic.Traffic.take.Goals as goal
@@ -25,7 +26,7 @@ returns c = record {
       let t_is : t ≡ time_at step = c.latest-self.ensures ∙ ap (λ m. later m p.moment) stands.time_is ∙ sym (now-append records (packet_of p)) in
       let behind : (now records).0 ≤ℤ t.0 = subst (λ (m : Moment). (now records).0 ≤ℤ m.0) (sym t_is) (not_before records (packet_of p)) in
       let due = c.in_ok-remove_due.ensures.removed options.buffer segs (now records) (subst (λ x. IsCurrent x options.buffer segs (now records)) (sym c.begin.ensures.table) stands.table_is) behind in
-      let old_items = c.args.self.now.connections.items.items in
+      let old_items = items_in c.args.self.now.connections.items in
       let news_are = c.give_seen.ensures.news ∙ c.remove_due.ensures.news in
       stands_with c.args.self.now _ c.take_frame.new.self options link step given stands
       (taken options link step refl (record {
@@ -41,7 +42,7 @@ returns c = record {
       (c.take_frame.ensures.works ∙ stands.works)
       (c.in_ok-give_seen.ensures.items
       ∙ ap (λ l. l ++ when c.args.self.now.options.packets (item t (what.Seen p.moment (length p.bytes.now) p.orig_len)))
-      (due.1 ∙ ap (λ q. q.items ++ map removed (in_order (over_between options.buffer segs (now records) t))) c.begin.ensures.items)
+      (due.1 ∙ ap (λ q. items_in q ++ map removed (in_order (over_between options.buffer segs (now records) t))) c.begin.ensures.items)
       ∙ ap (λ m. old_items ++ map removed (in_order (over_between options.buffer segs (now records) m)) ++ when c.args.self.now.options.packets (item m (what.Seen p.moment (length p.bytes.now) p.orig_len))) t_is
       ∙ ap (λ o. old_items ++ map removed (in_order (over_between options.buffer segs (now records) (time_at step))) ++ when o.packets (item (time_at step) (what.Seen p.moment (length p.bytes.now) p.orig_len))) stands.options_are));
 }

@@ -1,7 +1,8 @@
+use crate::address::SharedAddr;
 use crate::shared::SharedBytes;
 use std::alloc::AllocError;
 use std::hash::{Hash, Hasher};
-use zk_base::{Addr, Moment, ObjectNo, Proto, Span};
+use zk_base::{Moment, ObjectNo, Proto, Span};
 
 /// A value that a script computes with (Zeek manual, Types).
 #[derive(Debug, PartialEq, Eq, Drop)]
@@ -19,7 +20,7 @@ pub enum Value {
     /// A length of time, in microseconds.
     Interval(Span),
     /// An address of an internet host.
-    Addr(Addr),
+    Addr(SharedAddr),
     /// A port of a transport protocol.
     Port { port: u16, proto: Proto },
     /// An IPv4 prefix, as the number that its bytes make in network order, and its width in bits.
@@ -44,7 +45,7 @@ impl Clone for Value {
             Value::String(bytes) => Value::String(bytes.clone()?),
             Value::Time(moment) => Value::Time(*moment),
             Value::Interval(span) => Value::Interval(*span),
-            Value::Addr(address) => Value::Addr(*address),
+            Value::Addr(address) => Value::Addr(address.clone()?),
             Value::Port { port, proto } => Value::Port {
                 port: *port,
                 proto: *proto,

@@ -29,11 +29,11 @@ use zk_value::Value;
 /// So many calls may stand within one another.
 pub const DEPTH_MAX: usize = 200;
 
-/// Parameters with these values.
-pub fn params(alloc: Global, values: &[Value]) -> Result<Vec<Option<Value>>, Mem>
+/// Parameters with these values, and room for so many names.
+fn params(alloc: Global, values: &[Value], room: usize) -> Result<Vec<Option<Value>>, Mem>
     ensures { IfOk result (λ names. map field_of names.items ≡ map Some (map value_of values.now)) }
 {
-    let mut names = Vec::new(alloc);
+    let mut names = Vec::with_capacity(alloc, room.max(values.len()))?;
     for value in values {
         match value {
             Value::Count(count) => names.push(Some(Value::Count(*count)))?,
@@ -64,8 +64,9 @@ fn body_names(
     ensures { IfOk result (λ names. map field_of names.items ≡ first_locals locals (reverse (take count (map value_of (reverse stack.now))))) }
 {
     let from = stack.len().saturating_sub(count);
-    let mut names = params(alloc, &stack[from..])?;
-    add_locals(&mut names, locals as usize)?;
+    let locals = locals as usize;
+    let mut names = params(alloc, &stack[from..], locals)?;
+    add_locals(&mut names, locals)?;
     Ok(names)
 }
 
@@ -195,7 +196,8 @@ impl Running {
 pub fn first_names(alloc: Global, args: &[Value], locals: u32) -> Result<Vec<Option<Value>>, Mem>
     ensures { IfOk result (λ names. map field_of names.items ≡ first_locals locals (key_of args.now)) }
 {
-    let mut names = params(alloc, args)?;
-    add_locals(&mut names, locals as usize)?;
+    let locals = locals as usize;
+    let mut names = params(alloc, args, locals)?;
+    add_locals(&mut names, locals)?;
     Ok(names)
 }

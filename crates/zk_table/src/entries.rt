@@ -38,7 +38,7 @@ fn renews(expiry: Option<Expiry>) -> bool
 }
 
 /// The place of an order number, by halves.
-fn search(slots: &[Slot], order: u64) -> Option<usize>
+fn place_by_halves(slots: &[Slot], order: u64) -> Option<usize>
     ensures found { IfSome result (λ place. option_map (λ slot. slot.order) (slice_get slots.now place) ≡ Some order) }
     ensures none { IfNone result ((from below : ℕ) → Ascends from slots.now below → stored_numbered order slots.now ≡ None) }
 {
@@ -55,7 +55,7 @@ fn place_of(slots: &[Slot], next: u64, order: u64) -> Option<usize>
     let place = order.saturating_sub(gone) as usize;
     match slots.get(place) {
         Some(slot) if slot.order == order => Some(place),
-        _ => search(slots, order),
+        _ => place_by_halves(slots, order),
     }
 }
 

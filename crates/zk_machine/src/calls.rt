@@ -13,7 +13,7 @@ ghost use Rattle.zk_machine.specs.Leads.{Leads};
 ghost use Rattle.zk_machine.specs.Running.{awaits_of, held_of, machine_of, Moves};
 ghost use Rattle.zk_machine.specs.State.{state_of};
 
-use crate::ends::Next;
+use crate::ends::{Next, placed};
 use crate::frames::{Awaits, Flow, Frame};
 use crate::halt::Halt;
 use crate::objects::UNFIT;
@@ -103,13 +103,7 @@ impl Running {
     }
 
     /// Calls a function with the last operands, so many of them.
-    pub fn call(
-        &mut self,
-        code: &Code,
-        function: u32,
-        count: usize,
-        awaits: Awaits,
-    ) -> Result<(), Halt>
+    fn call(&mut self, code: &Code, function: u32, count: usize, awaits: Awaits) -> Result<(), Halt>
         ensures { (place : At) → let held = held_of self.old in Moves place result (steps.call (code_of code.now) place (awaits_of awaits) function self.old.at (steps.operands count held) (steps.without count held) (state_of self.old.state)) (machine_of self.new) }
     {
         self.state.tick()?;
@@ -130,18 +124,27 @@ impl Running {
         place: Place,
         function: u32,
         count: usize,
-    ) -> Result<(), Halt>
-        ensures { let held = held_of self.old in Moves place result (steps.call (code_of code.now) place (plain.Result place) function self.old.at (steps.operands count held) (steps.without count held) (state_of self.old.state)) (machine_of self.new) }
+    ) -> Result<Next, Mem>
+        ensures { let held = held_of self.old in Leads result (steps.call (code_of code.now) place (plain.Result place) function self.old.at (steps.operands count held) (steps.without count held) (state_of self.old.state)) self.new }
     {
-        self.call(code, function, count, Awaits::Result { place })
+        placed(
+            place,
+            self.call(code, function, count, Awaits::Result { place }),
+        )
     }
 
     /// Calls a function whose value is not used.
     #[inline(never)]
-    pub fn call_alone(&mut self, code: &Code, function: u32, count: usize) -> Result<(), Halt>
-        ensures { (place : At) → let held = held_of self.old in Moves place result (steps.call (code_of code.now) place plain.Return function self.old.at (steps.operands count held) (steps.without count held) (state_of self.old.state)) (machine_of self.new) }
+    pub fn call_alone(
+        &mut self,
+        code: &Code,
+        place: Place,
+        function: u32,
+        count: usize,
+    ) -> Result<Next, Mem>
+        ensures { let held = held_of self.old in Leads result (steps.call (code_of code.now) place plain.Return function self.old.at (steps.operands count held) (steps.without count held) (state_of self.old.state)) self.new }
     {
-        self.call(code, function, count, Awaits::Return)
+        placed(place, self.call(code, function, count, Awaits::Return))
     }
 
     /// Comes out of the body under way without a value.

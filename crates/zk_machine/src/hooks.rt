@@ -150,9 +150,8 @@ impl Running {
         Ok(())
     }
 
-    /// Calls a hook with the last operands, so many of them.
-    #[inline(never)]
-    pub fn hook(
+    /// Begins the bodies of a hook with the last operands, so many of them.
+    fn begin_bodies(
         &mut self,
         code: &Code,
         place: Place,
@@ -173,15 +172,36 @@ impl Running {
         Ok(())
     }
 
-    /// Writes the record that is the last operand to a log.
+    /// Calls a hook with the last operands, so many of them.
     #[inline(never)]
-    pub fn write(&mut self, code: &Code, place: Place, log: LogId) -> Result<(), Halt>
+    pub fn hook(
+        &mut self,
+        code: &Code,
+        place: Place,
+        number: HookNo,
+        count: usize,
+    ) -> Result<Next, Mem>
+        ensures { Leads result (steps.hook (code_of code.now) place number self.old.at (steps.operands count (held_of self.old)) (steps.without count (held_of self.old)) (state_of self.old.state)) self.new }
+    {
+        placed(place, self.begin_bodies(code, place, number, count))
+    }
+
+    /// Takes a record and writes it to a log.
+    fn write_top(&mut self, code: &Code, place: Place, log: LogId) -> Result<(), Halt>
         ensures { Moves place result (steps.with_top place (held_of self.old) (state_of self.old.state) (steps.write (code_of code.now) place log self.old.at (state_of self.old.state))) (machine_of self.new) }
     {
         match self.stack.pop() {
             Some(row) => self.write_row_of(code, place, log, row),
             None => Err(UNFIT),
         }
+    }
+
+    /// Writes the record that is the last operand to a log.
+    #[inline(never)]
+    pub fn write(&mut self, code: &Code, place: Place, log: LogId) -> Result<Next, Mem>
+        ensures { Leads result (steps.with_top place (held_of self.old) (state_of self.old.state) (steps.write (code_of code.now) place log self.old.at (state_of self.old.state))) self.new }
+    {
+        placed(place, self.write_top(code, place, log))
     }
 
     /// Writes a record to a log.

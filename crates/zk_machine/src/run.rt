@@ -12,7 +12,8 @@ use zk_base::Mem;
 use zk_lower::{Code, Op, code_ends};
 
 impl Running {
-    /// What an operation does.
+    /// What an operation does. The long ones stand out of line and give the whole step, since a result of their
+    /// own would be cleared here at each operation.
     fn operate(&mut self, code: &Code, op: &Op) -> Result<Next, Mem>
         ensures { Leads result (steps.operate (code_of code.now) (op_of op.now) self.old.at (held_of self.old) (state_of self.old.state)) self.new }
     {
@@ -32,7 +33,7 @@ impl Running {
                 place,
                 record,
                 fields,
-            } => placed(*place, self.make(code, *record, fields.as_slice())),
+            } => self.make(code, *place, *record, fields.as_slice()),
             Op::Sum { place } => placed(*place, self.add()),
             Op::Do {
                 place,
@@ -50,10 +51,10 @@ impl Running {
             }
             Op::Unless { place, over } => placed(*place, self.unless(*over)),
             Op::Turn { place, back } => placed(*place, self.turn(*back)),
-            Op::BeginKeys { place } => placed(*place, self.begin_keys()),
-            Op::NextKey { place, names, back } => placed(*place, self.next_key(names, *back)),
-            Op::BeginIndexes { place } => placed(*place, self.begin_indexes()),
-            Op::NextIndex { place, names, back } => placed(*place, self.next_index(names, *back)),
+            Op::BeginKeys { place } => self.begin_keys(*place),
+            Op::NextKey { place, names, back } => self.next_key(*place, names, *back),
+            Op::BeginIndexes { place } => self.begin_indexes(*place),
+            Op::NextIndex { place, names, back } => self.next_index(*place, names, *back),
             Op::EndLoop => {
                 self.end_loop()?;
                 Ok(Next::Goes)
@@ -62,19 +63,17 @@ impl Running {
                 place,
                 function,
                 count,
-            } => placed(*place, self.call_for_value(code, *place, *function, *count)),
+            } => self.call_for_value(code, *place, *function, *count),
             Op::Perform {
                 place,
                 function,
                 count,
-            } => placed(*place, self.call_alone(code, *function, *count)),
+            } => self.call_alone(code, *place, *function, *count),
             Op::End => self.end(code),
             Op::Give => self.give(code),
             Op::Break => self.break_out(code),
-            Op::Hook { place, hook, count } => {
-                placed(*place, self.hook(code, *place, *hook, *count))
-            }
-            Op::Write { place, log } => placed(*place, self.write(code, *place, *log)),
+            Op::Hook { place, hook, count } => self.hook(code, *place, *hook, *count),
+            Op::Write { place, log } => self.write(code, *place, *log),
         }
     }
 

@@ -2,9 +2,11 @@ use crate::address::SharedAddr;
 use crate::shared::SharedBytes;
 use std::alloc::AllocError;
 use std::hash::{Hash, Hasher};
+use std::mem::size_of;
 use zk_base::{Moment, ObjectNo, Proto, Span};
 
-/// A value that a script computes with (Zeek manual, Types).
+/// A value that a script computes with (Zeek manual, Types). It takes 16 bytes: what is larger stands behind
+/// a handle.
 #[derive(Debug, PartialEq, Eq, Drop)]
 pub enum Value {
     /// `T` or `F`.
@@ -30,6 +32,8 @@ pub enum Value {
     /// A record, a vector, a set or a table.
     Object(ObjectNo),
 }
+
+const _: () = prove!(size_of::<Value>() == 16);
 
 /// Another handle to the same value.
 impl Clone for Value {

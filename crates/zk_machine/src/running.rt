@@ -269,15 +269,23 @@ impl Running {
     }
 }
 
+/// Pushes a clone of a value. It stands out of line, so that the push of a count has little to clear.
+#[inline(never)]
+fn push_clone(stack: &mut Vec<Value>, value: &Value) -> Result<(), Mem>
+    ensures { OnOk result (map value_of (reverse stack.new.items) ≡ value_of value.now ∷ map value_of (reverse stack.old.items)) }
+{
+    stack.push(value.clone()?)?;
+    Ok(())
+}
+
 /// Pushes another handle to a value. A count is written anew, since a whole value is slow to copy.
 fn push_handle(stack: &mut Vec<Value>, value: &Value) -> Result<(), Mem>
     ensures { OnOk result (map value_of (reverse stack.new.items) ≡ value_of value.now ∷ map value_of (reverse stack.old.items)) }
 {
     match value {
-        Value::Count(count) => push_count(stack, *count)?,
-        _ => stack.push(value.clone()?)?,
+        Value::Count(count) => push_count(stack, *count),
+        _ => push_clone(stack, value),
     }
-    Ok(())
 }
 
 /// The place behind the next operations, so many of them, where it has a number.

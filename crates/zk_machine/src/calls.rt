@@ -13,7 +13,7 @@ ghost use Rattle.zk_machine.specs.Leads.{Leads};
 ghost use Rattle.zk_machine.specs.Running.{awaits_of, held_of, machine_of, Moves};
 ghost use Rattle.zk_machine.specs.State.{state_of};
 
-use crate::ends::{Next, placed};
+use crate::ends::{Ending, Next, ends, placed};
 use crate::frames::{Awaits, Flow, Frame};
 use crate::halt::Halt;
 use crate::objects::UNFIT;
@@ -127,10 +127,8 @@ impl Running {
     ) -> Result<Next, Mem>
         ensures { let held = held_of self.old in Leads result (steps.call (code_of code.now) place (plain.Result place) function self.old.at (steps.operands count held) (steps.without count held) (state_of self.old.state)) self.new }
     {
-        placed(
-            place,
-            self.call(code, function, count, Awaits::Result { place }),
-        )
+        let done = self.call(code, function, count, Awaits::Result { place });
+        placed(done, place, &mut self.ending)
     }
 
     /// Calls a function whose value is not used.
@@ -144,7 +142,8 @@ impl Running {
     ) -> Result<Next, Mem>
         ensures { let held = held_of self.old in Leads result (steps.call (code_of code.now) place plain.Return function self.old.at (steps.operands count held) (steps.without count held) (state_of self.old.state)) self.new }
     {
-        placed(place, self.call(code, function, count, Awaits::Return))
+        let done = self.call(code, function, count, Awaits::Return);
+        placed(done, place, &mut self.ending)
     }
 
     /// Comes out of the body under way without a value.
@@ -168,8 +167,7 @@ impl Running {
         ensures { Leads result (steps.come_out (code_of code.now) (flow_of flow) (held_of self.old).stack (state_of self.old.state) (held_of self.old).frames) self.new }
     {
         let Some(frame) = self.frames.pop() else {
-            self.given = flow.given();
-            return Ok(Next::Done);
+            return Ok(ends(&mut self.ending, Ending::Done(flow.given())));
         };
         let Frame {
             back,

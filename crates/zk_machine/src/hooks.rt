@@ -12,7 +12,7 @@ ghost use Rattle.zk_machine.specs.Running.{awaits_of, held_of, machine_of, waiti
 ghost use Rattle.zk_machine.specs.State.{state_of};
 
 use crate::calls::{DEPTH_MAX, first_names};
-use crate::ends::{Next, placed};
+use crate::ends::{Ending, Next, ends, placed};
 use crate::frames::{Awaits, Flow, Frame, Waiting, Write};
 use crate::halt::Halt;
 use crate::objects::UNFIT;
@@ -183,7 +183,8 @@ impl Running {
     ) -> Result<Next, Mem>
         ensures { Leads result (steps.hook (code_of code.now) place number self.old.at (steps.operands count (held_of self.old)) (steps.without count (held_of self.old)) (state_of self.old.state)) self.new }
     {
-        placed(place, self.begin_bodies(code, place, number, count))
+        let done = self.begin_bodies(code, place, number, count);
+        placed(done, place, &mut self.ending)
     }
 
     /// Takes a record and writes it to a log.
@@ -201,7 +202,8 @@ impl Running {
     pub fn write(&mut self, code: &Code, place: Place, log: LogId) -> Result<Next, Mem>
         ensures { Leads result (steps.with_top place (held_of self.old) (state_of self.old.state) (steps.write (code_of code.now) place log self.old.at (state_of self.old.state))) self.new }
     {
-        placed(place, self.write_top(code, place, log))
+        let done = self.write_top(code, place, log);
+        placed(done, place, &mut self.ending)
     }
 
     /// Writes a record to a log.
@@ -235,10 +237,13 @@ impl Running {
                     self.stack.push(value)?;
                     Ok(Next::Goes)
                 }
-                None => Ok(Next::Fault {
-                    kind: FaultKind::Unset,
-                    place,
-                }),
+                None => Ok(ends(
+                    &mut self.ending,
+                    Ending::Fault {
+                        kind: FaultKind::Unset,
+                        place,
+                    },
+                )),
             },
             Awaits::Bodies(waiting) => self.resume_hook(code, Box::into_inner(waiting), flow),
         }
@@ -255,10 +260,8 @@ impl Running {
             others,
             write,
         } = waiting;
-        placed(
-            place,
-            self.resume_bodies(code, place, args, others, write, flow),
-        )
+        let done = self.resume_bodies(code, place, args, others, write, flow);
+        placed(done, place, &mut self.ending)
     }
 
     /// Goes on with these bodies of a hook and its write, of which a body came out so.

@@ -99,7 +99,8 @@ impl Running {
     pub fn begin_keys(&mut self, place: Place) -> Result<Next, Mem>
         ensures { Leads result (steps.with_top place (held_of self.old) (state_of self.old.state) (steps.begin_keys place self.old.at (state_of self.old.state))) self.new }
     {
-        placed(place, self.begin_keys_over_top())
+        let done = self.begin_keys_over_top();
+        placed(done, place, &mut self.ending)
     }
 
     /// Goes on with a loop over the indexes of a vector.
@@ -138,7 +139,8 @@ impl Running {
     pub fn begin_indexes(&mut self, place: Place) -> Result<Next, Mem>
         ensures { Leads result (steps.with_top place (held_of self.old) (state_of self.old.state) (steps.begin_indexes place self.old.at (state_of self.old.state))) self.new }
     {
-        placed(place, self.begin_indexes_over_top())
+        let done = self.begin_indexes_over_top();
+        placed(done, place, &mut self.ending)
     }
 
     /// The next turn of the innermost loop, which goes over a vector, or its end.
@@ -171,7 +173,8 @@ impl Running {
     pub fn next_index(&mut self, place: Place, names: &Names, back: usize) -> Result<Next, Mem>
         ensures { Leads result (steps.indexes_step place names.now back self.old.at (held_of self.old) (state_of self.old.state) (held_of self.old).loops) self.new }
     {
-        placed(place, self.next_turn_of_indexes(names, back))
+        let done = self.next_turn_of_indexes(names, back);
+        placed(done, place, &mut self.ending)
     }
 
     /// The next turn of the innermost loop, which goes over a table, or its end.
@@ -189,7 +192,8 @@ impl Running {
     pub fn next_key(&mut self, place: Place, names: &Names, back: usize) -> Result<Next, Mem>
         ensures { Leads result (steps.keys_step place names.now back self.old.at (held_of self.old) (state_of self.old.state) (held_of self.old).loops) self.new }
     {
-        placed(place, self.next_turn_of_keys(names, back))
+        let done = self.next_turn_of_keys(names, back);
+        placed(done, place, &mut self.ending)
     }
 
     /// The next turn of a loop over these keys, the next one last.

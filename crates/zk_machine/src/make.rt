@@ -71,6 +71,7 @@ impl Running {
         ensures { Leads result (steps.by (new_record place number (record_fields (types_in (code_of code.now)) number) (steps.given given.now (steps.operands (length given.now) (held_of self.old))) (state_of self.old.state))
             (steps.push self.old.at (steps.without (length given.now) (held_of self.old)))) self.new }
     {
-        placed(place, self.push_record(code, number, given))
+        let done = self.push_record(code, number, given);
+        placed(done, place, &mut self.ending)
     }
 }

@@ -6,8 +6,9 @@ ghost use Rattle.zk_machine.specs.Leads.{Leads, ran_of};
 ghost use Rattle.zk_machine.specs.Running.{held_of, machine_of};
 ghost use Rattle.zk_machine.specs.State.{state_of};
 
-use crate::ends::{Ending, Next, placed};
+use crate::ends::{Ending, Next, ends, placed};
 use crate::running::Running;
+use std::mem;
 use zk_base::Mem;
 use zk_lower::{Code, Op, code_ends};
 
@@ -22,35 +23,35 @@ impl Running {
                 self.push_handle(value)?;
                 Ok(Next::Goes)
             }
-            Op::Local { place, number } => placed(*place, self.local(*number)),
-            Op::Global { place, number } => placed(*place, self.global(*number)),
+            Op::Local { place, number } => placed(self.local(*number), *place, &mut self.ending),
+            Op::Global { place, number } => placed(self.global(*number), *place, &mut self.ending),
             Op::Apply {
                 place,
                 primitive,
                 count,
-            } => placed(*place, self.apply(primitive, *count)),
+            } => placed(self.apply(primitive, *count), *place, &mut self.ending),
             Op::New {
                 place,
                 record,
                 fields,
             } => self.make(code, *place, *record, fields.as_slice()),
-            Op::Sum { place } => placed(*place, self.add()),
+            Op::Sum { place } => placed(self.add(), *place, &mut self.ending),
             Op::Do {
                 place,
                 action,
                 count,
-            } => placed(*place, self.act(action, *count)),
+            } => placed(self.act(action, *count), *place, &mut self.ending),
             Op::Drop => {
                 self.drop_value()?;
                 Ok(Next::Goes)
             }
-            Op::Tick { place } => placed(*place, self.tick()),
+            Op::Tick { place } => placed(self.tick(), *place, &mut self.ending),
             Op::Jump { over } => {
                 self.jump(*over)?;
                 Ok(Next::Goes)
             }
-            Op::Unless { place, over } => placed(*place, self.unless(*over)),
-            Op::Turn { place, back } => placed(*place, self.turn(*back)),
+            Op::Unless { place, over } => placed(self.unless(*over), *place, &mut self.ending),
+            Op::Turn { place, back } => placed(self.turn(*back), *place, &mut self.ending),
             Op::BeginKeys { place } => self.begin_keys(*place),
             Op::NextKey { place, names, back } => self.next_key(*place, names, *back),
             Op::BeginIndexes { place } => self.begin_indexes(*place),
@@ -83,10 +84,7 @@ impl Running {
     {
         match code.ops.as_slice().get(self.at) {
             Some(op) => self.operate(code, op),
-            None => {
-                self.given = None;
-                Ok(Next::Done)
-            }
+            None => Ok(ends(&mut self.ending, Ending::Done(None))),
         }
     }
 
@@ -98,9 +96,7 @@ impl Running {
             code_ends();
             match self.step(code)? {
                 Next::Goes => {}
-                Next::Done => return Ok(Ending::Done(self.given.take())),
-                Next::Fault { kind, place } => return Ok(Ending::Fault { kind, place }),
-                Next::Spent { place } => return Ok(Ending::Spent { place }),
+                Next::Ends => return Ok(mem::replace(&mut self.ending, Ending::Done(None))),
             }
         }
     }

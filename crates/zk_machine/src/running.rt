@@ -14,6 +14,7 @@ ghost use Rattle.zk_machine.specs.Running.{held_of, machine_of, Moves};
 ghost use Rattle.zk_machine.specs.State.{state_of};
 
 use crate::counts::{counted, stepped_count};
+use crate::ends::Ending;
 use crate::frames::{Frame, Loop};
 use crate::halt::Halt;
 use crate::objects::UNFIT;
@@ -33,8 +34,8 @@ pub struct Running {
     pub loops: Vec<Loop>,
     pub frames: Vec<Frame>,
     pub state: State,
-    /// What the body gave that came to its end.
-    pub given: Option<Value>,
+    /// How the code ends, once it does.
+    pub ending: Ending,
 }
 
 impl Running {

@@ -2,7 +2,6 @@ ghost use Rattle.std.specs.Prelude.{◌≡◌, Err};
 ghost use Rattle.zk_lower.specs.Steps.{Step};
 ghost use Rattle.zk_machine.specs.Leads.{Leads};
 ghost use Rattle.zk_machine.specs.Running.{Moves, machine_of};
-ghost use Rattle.zk_machine.specs.declared.ends.Next.TheVariants as next;
 ghost use Rattle.zk_machine.specs.declared.running.Running as running;
 
 use crate::halt::Halt;
@@ -30,12 +29,10 @@ pub enum Next {
 }
 
 /// Notes how the code ends.
-pub fn ends(ending: &mut Ending, so: Ending) -> Next
-    ensures ending { ending.new ≡ so }
-    ensures next { result ≡ next.Ends }
+pub fn note(ending: &mut Ending, so: Ending)
+    ensures { ending.new ≡ so }
 {
     drop(mem::replace(ending, so));
-    Next::Ends
 }
 
 /// What a step comes to that halts at the statement at a place. It stands out of line, since steps seldom do.
@@ -44,8 +41,14 @@ fn halted(halt: Halt, place: Place, ending: &mut Ending) -> Result<Next, Mem>
     ensures { (step : Step) (now : running.Running) → now.ending ≡ ending.new → Moves {A = Unit {0}} place (Err halt) step (machine_of now) → Leads result step now }
 {
     match halt {
-        Halt::Fault(kind) => Ok(ends(ending, Ending::Fault { kind, place })),
-        Halt::Spent => Ok(ends(ending, Ending::Spent { place })),
+        Halt::Fault(kind) => {
+            note(ending, Ending::Fault { kind, place });
+            Ok(Next::Ends)
+        }
+        Halt::Spent => {
+            note(ending, Ending::Spent { place });
+            Ok(Next::Ends)
+        }
         Halt::NoMemory => Err(Mem),
     }
 }

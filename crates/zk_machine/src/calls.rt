@@ -13,7 +13,7 @@ ghost use Rattle.zk_machine.specs.Leads.{Leads};
 ghost use Rattle.zk_machine.specs.Running.{awaits_of, held_of, machine_of, Moves};
 ghost use Rattle.zk_machine.specs.State.{state_of};
 
-use crate::ends::{Ending, Next, note, placed};
+use crate::ends::{Ending, Next, placed};
 use crate::frames::{Awaits, Flow, Frame};
 use crate::halt::Halt;
 use crate::objects::UNFIT;
@@ -167,7 +167,7 @@ impl Running {
         ensures { Leads result (steps.come_out (code_of code.now) (flow_of flow) (held_of self.old).stack (state_of self.old.state) (held_of self.old).frames) self.new }
     {
         let Some(frame) = self.frames.pop() else {
-            note(&mut self.ending, Ending::Done(flow.given()));
+            self.ending = Ending::Done(flow.given());
             return Ok(Next::Ends);
         };
         let Frame {

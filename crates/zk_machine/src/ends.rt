@@ -5,7 +5,6 @@ ghost use Rattle.zk_machine.specs.Running.{Moves, machine_of};
 ghost use Rattle.zk_machine.specs.declared.running.Running as running;
 
 use crate::halt::Halt;
-use std::mem;
 use zk_base::Mem;
 use zk_tree::Place;
 use zk_typed::FaultKind;
@@ -28,13 +27,6 @@ pub enum Next {
     Ends,
 }
 
-/// Notes how the code ends.
-pub fn note(ending: &mut Ending, so: Ending)
-    ensures { ending.new ≡ so }
-{
-    drop(mem::replace(ending, so));
-}
-
 /// What a step comes to that halts at the statement at a place. It stands out of line, since steps seldom do.
 #[inline(never)]
 fn halted(halt: Halt, place: Place, ending: &mut Ending) -> Result<Next, Mem>
@@ -42,11 +34,11 @@ fn halted(halt: Halt, place: Place, ending: &mut Ending) -> Result<Next, Mem>
 {
     match halt {
         Halt::Fault(kind) => {
-            note(ending, Ending::Fault { kind, place });
+            *ending = Ending::Fault { kind, place };
             Ok(Next::Ends)
         }
         Halt::Spent => {
-            note(ending, Ending::Spent { place });
+            *ending = Ending::Spent { place };
             Ok(Next::Ends)
         }
         Halt::NoMemory => Err(Mem),

@@ -12,7 +12,7 @@ ghost use Rattle.zk_machine.specs.Running.{awaits_of, held_of, machine_of, waiti
 ghost use Rattle.zk_machine.specs.State.{state_of};
 
 use crate::calls::{DEPTH_MAX, first_names};
-use crate::ends::{Ending, Next, note, placed};
+use crate::ends::{Ending, Next, placed};
 use crate::frames::{Awaits, Flow, Frame, Waiting, Write};
 use crate::halt::Halt;
 use crate::objects::UNFIT;
@@ -239,7 +239,7 @@ impl Running {
                 }
                 None => {
                     let kind = FaultKind::Unset;
-                    note(&mut self.ending, Ending::Fault { kind, place });
+                    self.ending = Ending::Fault { kind, place };
                     Ok(Next::Ends)
                 }
             },

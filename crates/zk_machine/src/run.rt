@@ -6,7 +6,7 @@ ghost use Rattle.zk_machine.specs.Leads.{Leads, ran_of};
 ghost use Rattle.zk_machine.specs.Running.{held_of, machine_of};
 ghost use Rattle.zk_machine.specs.State.{state_of};
 
-use crate::ends::{Ending, Next, note, placed};
+use crate::ends::{Ending, Next, placed};
 use crate::running::Running;
 use std::mem;
 use zk_base::Mem;
@@ -85,7 +85,7 @@ impl Running {
         match code.ops.as_slice().get(self.at) {
             Some(op) => self.operate(code, op),
             None => {
-                note(&mut self.ending, Ending::Done(None));
+                self.ending = Ending::Done(None);
                 Ok(Next::Ends)
             }
         }

@@ -7,7 +7,7 @@ ghost use Rattle.zk_builtin.specs.Computes.{Computes};
 
 use crate::fault::{OperatorFault, STRING_LENGTH_MAX};
 use std::alloc::Global;
-use zk_base::{Bytes, Moment, Span};
+use zk_base::{Moment, Span};
 use zk_typed::FaultKind;
 use zk_typed::script::{Binary, Direction, Unary};
 use zk_value::{SharedBytes, Value};
@@ -65,10 +65,7 @@ fn joined(alloc: Global, a: &[u8], b: &[u8]) -> Result<Value, OperatorFault>
     if a.len() > STRING_LENGTH_MAX || b.len() > STRING_LENGTH_MAX - a.len() {
         return Err(OperatorFault::Fault(FaultKind::TooLong));
     }
-    let mut bytes = Vec::with_capacity(alloc, a.len() + b.len())?;
-    bytes.extend_from_slice(a)?;
-    bytes.extend_from_slice(b)?;
-    Ok(Value::String(SharedBytes::of(Bytes::from(bytes))?))
+    Ok(Value::String(SharedBytes::joined(alloc, a, b)?))
 }
 
 /// What an operator before its operand gives (Zeek manual, Operators).

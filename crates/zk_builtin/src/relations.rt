@@ -50,7 +50,7 @@ fn below(a: &Value, b: &Value) -> bool
         (Value::String(a), Value::String(b)) => bytes_below(a.as_slice(), b.as_slice()),
         (Value::Time(a), Value::Time(b)) => a.0 < b.0,
         (Value::Interval(a), Value::Interval(b)) => a.0 < b.0,
-        (Value::Addr(a), Value::Addr(b)) => address_below(*a, *b),
+        (Value::Addr(a), Value::Addr(b)) => address_below(a.get(), b.get()),
         (Value::Port { port: a, proto: p }, Value::Port { port: b, proto: q }) => {
             port_below(*a, *p, *b, *q)
         }
@@ -95,13 +95,23 @@ fn has_prefix(address: u32, prefix: u32, width: u8) -> bool
     u64::from(address) >> other == u64::from(prefix) >> other
 }
 
+/// Whether an address begins with the first bits of a prefix, as no IPv6 address does.
+fn is_under(address: Addr, prefix: u32, width: u8) -> bool
+    ensures { result ≡ primitive.in_subnet (plain.Addr address) (plain.Subnet prefix width) }
+{
+    match address {
+        Addr::V4(address) => has_prefix(address, prefix, width),
+        Addr::V6(_) => false,
+    }
+}
+
 /// Whether an address is in a network (Zeek manual, Types, subnet). None stands in anything else.
 pub fn in_subnet(address: &Value, network: &Value) -> bool
     ensures { result ≡ primitive.in_subnet (value_of address.now) (value_of network.now) }
 {
     match (address, network) {
-        (Value::Addr(Addr::V4(address)), Value::Subnet { prefix, width }) => {
-            has_prefix(*address, *prefix, *width)
+        (Value::Addr(address), Value::Subnet { prefix, width }) => {
+            is_under(address.get(), *prefix, *width)
         }
         _ => false,
     }

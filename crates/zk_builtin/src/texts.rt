@@ -23,7 +23,7 @@ pub fn push_value(out: &mut Vec<u8>, value: &Value) -> Result<(), AllocError>
         Value::String(bytes) => out.extend_from_slice(bytes.as_slice()),
         Value::Time(moment) => push_span(out, moment.0),
         Value::Interval(span) => push_span(out, span.0),
-        Value::Addr(address) => push_addr(out, *address),
+        Value::Addr(address) => push_addr(out, address.get()),
         Value::Port { port, proto } => push_port(out, *port, *proto),
         Value::Subnet { prefix, width } => push_subnet(out, *prefix, *width),
         Value::Enum(word) => out.extend_from_slice(word.as_slice()),

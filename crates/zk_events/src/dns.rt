@@ -12,7 +12,7 @@ use crate::numbers::{
     DNS_UNKNOWN_REPLY, DNS_VIOLATION,
 };
 use crate::sealed::SealedMachine;
-use crate::values::{is_orig, seconds, text};
+use crate::values::{address, is_orig, seconds, text};
 use std::alloc::Global;
 use zk_base::{Addr, Bytes, Mem, ObjectNo, Side};
 use zk_dns::{Answer, AnswerKind, DnsRecord, Question};
@@ -173,12 +173,12 @@ fn raise_kind(
     ensures { OnOk result (Becomes machine.old machine.new (λ program. kind_raises program rtype kind.now (key_of args.items))) }
 {
     match kind {
-        AnswerKind::A(address) => {
-            args.push(Value::Addr(Addr::V4(*address)))?;
+        AnswerKind::A(host) => {
+            args.push(address(alloc, Addr::V4(*host))?)?;
             machine.queue(DNS_A_REPLY, args)
         }
-        AnswerKind::Aaaa(address) => {
-            args.push(Value::Addr(Addr::V6(*address)))?;
+        AnswerKind::Aaaa(host) => {
+            args.push(address(alloc, Addr::V6(*host))?)?;
             machine.queue(DNS_AAAA_REPLY, args)
         }
         AnswerKind::Name(name) => raise_name(alloc, machine, rtype, name.as_slice(), args),

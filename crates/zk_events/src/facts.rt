@@ -7,7 +7,7 @@ ghost use Rattle.zk_events.specs.Turns.{with_facts};
 
 use crate::connections::Objects;
 use crate::sealed::SealedMachine;
-use crate::values::{state_name, text, uid, word};
+use crate::values::{address, state_name, text, uid, word};
 use std::alloc::Global;
 use zk_base::{ConnNo, Mem, ObjectNo, Span};
 use zk_conn::{EndFacts, Facts};
@@ -61,7 +61,7 @@ pub fn renew(
     ensures { OnOk result (Becomes machine.old machine.new (λ program. with_facts conn facts.now objects.now)) }
 {
     let texts = Texts::of(alloc, conn, facts)?;
-    renew_id(machine, objects.id, facts);
+    renew_id(alloc, machine, objects.id, facts)?;
     renew_end(machine, objects.orig, &facts.orig);
     renew_end(machine, objects.resp, &facts.resp);
     renew_connection(machine, objects, facts, texts);
@@ -90,9 +90,16 @@ impl Texts {
     }
 }
 
-fn renew_id(machine: &mut SealedMachine, id: ObjectNo, facts: &Facts)
-    ensures { Becomes machine.old machine.new (λ program. with_fields id 0 (id_fields facts.now)) }
+fn renew_id(
+    alloc: Global,
+    machine: &mut SealedMachine,
+    id: ObjectNo,
+    facts: &Facts,
+) -> Result<(), Mem>
+    ensures { OnOk result (Becomes machine.old machine.new (λ program. with_fields id 0 (id_fields facts.now))) }
 {
+    let orig_h = address(alloc, facts.orig_h)?;
+    let resp_h = address(alloc, facts.resp_h)?;
     let orig_p = Value::Port {
         port: facts.orig_p,
         proto: facts.proto,
@@ -101,10 +108,11 @@ fn renew_id(machine: &mut SealedMachine, id: ObjectNo, facts: &Facts)
         port: facts.resp_p,
         proto: facts.proto,
     };
-    machine.renew_object(id, ORIG_H, Some(Value::Addr(facts.orig_h)));
+    machine.renew_object(id, ORIG_H, Some(orig_h));
     machine.renew_object(id, ORIG_P, Some(orig_p));
-    machine.renew_object(id, RESP_H, Some(Value::Addr(facts.resp_h)));
+    machine.renew_object(id, RESP_H, Some(resp_h));
     machine.renew_object(id, RESP_P, Some(resp_p));
+    Ok(())
 }
 
 fn renew_end(machine: &mut SealedMachine, end: ObjectNo, facts: &EndFacts)

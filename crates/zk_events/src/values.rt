@@ -6,9 +6,9 @@ ghost use Rattle.zk_tree.specs.Value as plain;
 ghost use Rattle.zk_value.specs.Plain.{value_of};
 
 use std::alloc::Global;
-use zk_base::{Bytes, ConnNo, Mem, Side, Span};
+use zk_base::{Addr, Bytes, ConnNo, Mem, Side, Span};
 use zk_conn::ConnState;
-use zk_value::{SharedBytes, Value, push_count};
+use zk_value::{SharedAddr, SharedBytes, Value, push_count};
 
 /// A string of these bytes.
 pub fn text(alloc: Global, bytes: &[u8]) -> Result<Value, Mem>
@@ -22,6 +22,13 @@ pub fn word(alloc: Global, name: &[u8]) -> Result<Value, Mem>
     ensures { IfOk result (λ value. value_of value ≡ plain.Enum name.now) }
 {
     Ok(Value::Enum(SharedBytes::copy_of(alloc, name)?))
+}
+
+/// An address.
+pub fn address(alloc: Global, address: Addr) -> Result<Value, Mem>
+    ensures { IfOk result (λ value. value_of value ≡ plain.Addr address) }
+{
+    Ok(Value::Addr(SharedAddr::of(alloc, address)?))
 }
 
 /// Whether the side is the originator.

@@ -5,7 +5,7 @@ ghost use Rattle.zk_value.specs.Plain.{value_of};
 use std::alloc::Global;
 use zk_base::{Bytes, Mem, Sequence};
 use zk_typed::script::{DefaultValue, Literal, LogCall, Names, Primitive, Shape};
-use zk_value::{SharedBytes, Value};
+use zk_value::{SharedAddr, SharedBytes, Value};
 
 /// The value that a literal names.
 pub fn literal_value(alloc: Global, literal: &Literal) -> Result<Value, Mem>
@@ -16,7 +16,7 @@ pub fn literal_value(alloc: Global, literal: &Literal) -> Result<Value, Mem>
         Literal::Count(count) => Value::Count(*count),
         Literal::String(bytes) => Value::String(SharedBytes::copy_of(alloc, bytes.as_slice())?),
         Literal::Interval(span) => Value::Interval(*span),
-        Literal::Addr(address) => Value::Addr(*address),
+        Literal::Addr(address) => Value::Addr(SharedAddr::of(alloc, *address)?),
         Literal::Port { port, proto } => Value::Port {
             port: *port,
             proto: *proto,

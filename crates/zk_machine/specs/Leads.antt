@@ -19,10 +19,8 @@ ran_of (ending.Done value) state = Gives (field_of value) state
 ran_of (ending.Fault kind place) state = Faults kind place state.world state.units
 ran_of (ending.Spent place) state = Spent place state.world
 
--- The code ends with the value that was given last. Want of memory alone is free.
+-- The code ends as it was noted. Want of memory alone is free.
 abbrev pub Leads : Result next.Next Mem → Step → running.Running → Type 0
 Leads (Ok to.Goes) step now = step ≡ Goes (machine_of now)
-Leads (Ok to.Done) step now = step ≡ Ends (Gives (field_of now.given) (state_of now.state))
-Leads (Ok (to.Fault kind place)) step now = step ≡ Ends (ran_of (ending.Fault kind place) (state_of now.state))
-Leads (Ok (to.Spent place)) step now = step ≡ Ends (ran_of (ending.Spent place) (state_of now.state))
+Leads (Ok to.Ends) step now = step ≡ Ends (ran_of now.ending (state_of now.state))
 Leads (Err mem) step now = Unit {0}

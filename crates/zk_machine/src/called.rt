@@ -213,7 +213,7 @@ impl State {
     {
         match values {
             [value] => match value {
-                Value::Addr(address) => self.address_counts(*address),
+                Value::Addr(address) => self.address_counts(address.get()),
                 _ => Err(UNFIT),
             },
             [] | [_, _, ..] => Err(UNFIT),

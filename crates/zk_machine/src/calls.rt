@@ -13,7 +13,7 @@ ghost use Rattle.zk_machine.specs.Leads.{Leads};
 ghost use Rattle.zk_machine.specs.Running.{awaits_of, held_of, machine_of, Moves};
 ghost use Rattle.zk_machine.specs.State.{state_of};
 
-use crate::ends::Next;
+use crate::ends::{Ending, Next, placed};
 use crate::frames::{Awaits, Flow, Frame};
 use crate::halt::Halt;
 use crate::objects::UNFIT;
@@ -29,11 +29,11 @@ use zk_value::Value;
 /// So many calls may stand within one another.
 pub const DEPTH_MAX: usize = 200;
 
-/// Parameters with these values.
-pub fn params(alloc: Global, values: &[Value]) -> Result<Vec<Option<Value>>, Mem>
+/// Parameters with these values, and room for so many names.
+fn params(alloc: Global, values: &[Value], room: usize) -> Result<Vec<Option<Value>>, Mem>
     ensures { IfOk result (λ names. map field_of names.items ≡ map Some (map value_of values.now)) }
 {
-    let mut names = Vec::new(alloc);
+    let mut names = Vec::with_capacity(alloc, room.max(values.len()))?;
     for value in values {
         match value {
             Value::Count(count) => names.push(Some(Value::Count(*count)))?,
@@ -64,8 +64,9 @@ fn body_names(
     ensures { IfOk result (λ names. map field_of names.items ≡ first_locals locals (reverse (take count (map value_of (reverse stack.now))))) }
 {
     let from = stack.len().saturating_sub(count);
-    let mut names = params(alloc, &stack[from..])?;
-    add_locals(&mut names, locals as usize)?;
+    let locals = locals as usize;
+    let mut names = params(alloc, &stack[from..], locals)?;
+    add_locals(&mut names, locals)?;
     Ok(names)
 }
 
@@ -102,13 +103,7 @@ impl Running {
     }
 
     /// Calls a function with the last operands, so many of them.
-    pub fn call(
-        &mut self,
-        code: &Code,
-        function: u32,
-        count: usize,
-        awaits: Awaits,
-    ) -> Result<(), Halt>
+    fn call(&mut self, code: &Code, function: u32, count: usize, awaits: Awaits) -> Result<(), Halt>
         ensures { (place : At) → let held = held_of self.old in Moves place result (steps.call (code_of code.now) place (awaits_of awaits) function self.old.at (steps.operands count held) (steps.without count held) (state_of self.old.state)) (machine_of self.new) }
     {
         self.state.tick()?;
@@ -129,18 +124,26 @@ impl Running {
         place: Place,
         function: u32,
         count: usize,
-    ) -> Result<(), Halt>
-        ensures { let held = held_of self.old in Moves place result (steps.call (code_of code.now) place (plain.Result place) function self.old.at (steps.operands count held) (steps.without count held) (state_of self.old.state)) (machine_of self.new) }
+    ) -> Result<Next, Mem>
+        ensures { let held = held_of self.old in Leads result (steps.call (code_of code.now) place (plain.Result place) function self.old.at (steps.operands count held) (steps.without count held) (state_of self.old.state)) self.new }
     {
-        self.call(code, function, count, Awaits::Result { place })
+        let done = self.call(code, function, count, Awaits::Result { place });
+        placed(done, place, &mut self.ending)
     }
 
     /// Calls a function whose value is not used.
     #[inline(never)]
-    pub fn call_alone(&mut self, code: &Code, function: u32, count: usize) -> Result<(), Halt>
-        ensures { (place : At) → let held = held_of self.old in Moves place result (steps.call (code_of code.now) place plain.Return function self.old.at (steps.operands count held) (steps.without count held) (state_of self.old.state)) (machine_of self.new) }
+    pub fn call_alone(
+        &mut self,
+        code: &Code,
+        place: Place,
+        function: u32,
+        count: usize,
+    ) -> Result<Next, Mem>
+        ensures { let held = held_of self.old in Leads result (steps.call (code_of code.now) place plain.Return function self.old.at (steps.operands count held) (steps.without count held) (state_of self.old.state)) self.new }
     {
-        self.call(code, function, count, Awaits::Return)
+        let done = self.call(code, function, count, Awaits::Return);
+        placed(done, place, &mut self.ending)
     }
 
     /// Comes out of the body under way without a value.
@@ -164,8 +167,8 @@ impl Running {
         ensures { Leads result (steps.come_out (code_of code.now) (flow_of flow) (held_of self.old).stack (state_of self.old.state) (held_of self.old).frames) self.new }
     {
         let Some(frame) = self.frames.pop() else {
-            self.given = flow.given();
-            return Ok(Next::Done);
+            self.ending = Ending::Done(flow.given());
+            return Ok(Next::Ends);
         };
         let Frame {
             back,
@@ -195,7 +198,8 @@ impl Running {
 pub fn first_names(alloc: Global, args: &[Value], locals: u32) -> Result<Vec<Option<Value>>, Mem>
     ensures { IfOk result (λ names. map field_of names.items ≡ first_locals locals (key_of args.now)) }
 {
-    let mut names = params(alloc, args)?;
-    add_locals(&mut names, locals as usize)?;
+    let locals = locals as usize;
+    let mut names = params(alloc, args, locals)?;
+    add_locals(&mut names, locals)?;
     Ok(names)
 }

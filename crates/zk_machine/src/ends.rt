@@ -1,3 +1,4 @@
+ghost use Rattle.std.specs.Prelude.{◌≡◌, Err};
 ghost use Rattle.zk_lower.specs.Steps.{Step};
 ghost use Rattle.zk_machine.specs.Leads.{Leads};
 ghost use Rattle.zk_machine.specs.Running.{Moves, machine_of};
@@ -19,24 +20,37 @@ pub enum Ending {
     Spent { place: Place },
 }
 
-/// What a step comes to. It is small, since each operation gives one: the value that a body gives stays with
-/// what runs.
+/// What a step comes to. It is small, since each operation gives one: how the code ends stays with what runs.
 #[derive(Clone, Copy, Debug)]
 pub enum Next {
     Goes,
-    Done,
-    Fault { kind: FaultKind, place: Place },
-    Spent { place: Place },
+    Ends,
 }
 
-/// What a step comes to that is of the statement at a place.
-pub fn placed(place: Place, done: Result<(), Halt>) -> Result<Next, Mem>
-    ensures { (step : Step) (now : running.Running) → Moves place done step (machine_of now) → Leads result step now }
+/// What a step comes to that halts at the statement at a place. It stands out of line, since steps seldom do.
+#[inline(never)]
+fn halted(halt: Halt, place: Place, ending: &mut Ending) -> Result<Next, Mem>
+    ensures { (step : Step) (now : running.Running) → now.ending ≡ ending.new → Moves {A = Unit {0}} place (Err halt) step (machine_of now) → Leads result step now }
+{
+    match halt {
+        Halt::Fault(kind) => {
+            *ending = Ending::Fault { kind, place };
+            Ok(Next::Ends)
+        }
+        Halt::Spent => {
+            *ending = Ending::Spent { place };
+            Ok(Next::Ends)
+        }
+        Halt::NoMemory => Err(Mem),
+    }
+}
+
+/// What a step comes to that is of the statement at a place. Where it ends the code, that is noted.
+pub fn placed(done: Result<(), Halt>, place: Place, ending: &mut Ending) -> Result<Next, Mem>
+    ensures { (step : Step) (now : running.Running) → now.ending ≡ ending.new → Moves place done step (machine_of now) → Leads result step now }
 {
     match done {
         Ok(()) => Ok(Next::Goes),
-        Err(Halt::Fault(kind)) => Ok(Next::Fault { kind, place }),
-        Err(Halt::Spent) => Ok(Next::Spent { place }),
-        Err(Halt::NoMemory) => Err(Mem),
+        Err(halt) => halted(halt, place, ending),
     }
 }

@@ -12,7 +12,7 @@ ghost use Rattle.zk_machine.specs.Running.{awaits_of, held_of, machine_of, waiti
 ghost use Rattle.zk_machine.specs.State.{state_of};
 
 use crate::calls::{DEPTH_MAX, first_names};
-use crate::ends::{Next, placed};
+use crate::ends::{Ending, Next, placed};
 use crate::frames::{Awaits, Flow, Frame, Waiting, Write};
 use crate::halt::Halt;
 use crate::objects::UNFIT;
@@ -150,9 +150,8 @@ impl Running {
         Ok(())
     }
 
-    /// Calls a hook with the last operands, so many of them.
-    #[inline(never)]
-    pub fn hook(
+    /// Begins the bodies of a hook with the last operands, so many of them.
+    fn begin_bodies(
         &mut self,
         code: &Code,
         place: Place,
@@ -173,15 +172,38 @@ impl Running {
         Ok(())
     }
 
-    /// Writes the record that is the last operand to a log.
+    /// Calls a hook with the last operands, so many of them.
     #[inline(never)]
-    pub fn write(&mut self, code: &Code, place: Place, log: LogId) -> Result<(), Halt>
+    pub fn hook(
+        &mut self,
+        code: &Code,
+        place: Place,
+        number: HookNo,
+        count: usize,
+    ) -> Result<Next, Mem>
+        ensures { Leads result (steps.hook (code_of code.now) place number self.old.at (steps.operands count (held_of self.old)) (steps.without count (held_of self.old)) (state_of self.old.state)) self.new }
+    {
+        let done = self.begin_bodies(code, place, number, count);
+        placed(done, place, &mut self.ending)
+    }
+
+    /// Takes a record and writes it to a log.
+    fn write_top(&mut self, code: &Code, place: Place, log: LogId) -> Result<(), Halt>
         ensures { Moves place result (steps.with_top place (held_of self.old) (state_of self.old.state) (steps.write (code_of code.now) place log self.old.at (state_of self.old.state))) (machine_of self.new) }
     {
         match self.stack.pop() {
             Some(row) => self.write_row_of(code, place, log, row),
             None => Err(UNFIT),
         }
+    }
+
+    /// Writes the record that is the last operand to a log.
+    #[inline(never)]
+    pub fn write(&mut self, code: &Code, place: Place, log: LogId) -> Result<Next, Mem>
+        ensures { Leads result (steps.with_top place (held_of self.old) (state_of self.old.state) (steps.write (code_of code.now) place log self.old.at (state_of self.old.state))) self.new }
+    {
+        let done = self.write_top(code, place, log);
+        placed(done, place, &mut self.ending)
     }
 
     /// Writes a record to a log.
@@ -215,10 +237,11 @@ impl Running {
                     self.stack.push(value)?;
                     Ok(Next::Goes)
                 }
-                None => Ok(Next::Fault {
-                    kind: FaultKind::Unset,
-                    place,
-                }),
+                None => {
+                    let kind = FaultKind::Unset;
+                    self.ending = Ending::Fault { kind, place };
+                    Ok(Next::Ends)
+                }
             },
             Awaits::Bodies(waiting) => self.resume_hook(code, Box::into_inner(waiting), flow),
         }
@@ -235,10 +258,8 @@ impl Running {
             others,
             write,
         } = waiting;
-        placed(
-            place,
-            self.resume_bodies(code, place, args, others, write, flow),
-        )
+        let done = self.resume_bodies(code, place, args, others, write, flow);
+        placed(done, place, &mut self.ending)
     }
 
     /// Goes on with these bodies of a hook and its write, of which a body came out so.

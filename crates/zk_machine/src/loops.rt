@@ -9,14 +9,18 @@ ghost use Rattle.zk_typed.specs.Does as does;
 ghost use Rattle.zk_typed.specs.Objects.{keys_of, table, vector};
 ghost use Rattle.zk_value.specs.Plain.{value_of, key_of};
 ghost use Rattle.zk_machine.specs.Comes.{Comes};
+ghost use Rattle.zk_machine.specs.Leads.{Leads};
 ghost use Rattle.zk_machine.specs.Running.{held_of, machine_of, Moves};
 ghost use Rattle.zk_machine.specs.State.{state_of};
 
+use crate::ends::{Next, placed};
 use crate::frames::Loop;
 use crate::halt::Halt;
 use crate::objects::UNFIT;
 use crate::running::{Running, behind};
 use crate::state::State;
+use zk_base::Mem;
+use zk_tree::Place;
 use zk_typed::script::Names;
 use zk_value::{Key, Value};
 
@@ -80,15 +84,23 @@ impl Running {
         self.with_keys(over)
     }
 
-    /// Begins a loop over the keys of a table or a set.
-    #[inline(never)]
-    pub fn begin_keys(&mut self) -> Result<(), Halt>
+    /// Begins a loop over the keys of the table or the set that it takes.
+    fn begin_keys_over_top(&mut self) -> Result<(), Halt>
         ensures { (place : At) → Moves place result (steps.with_top place (held_of self.old) (state_of self.old.state) (steps.begin_keys place self.old.at (state_of self.old.state))) (machine_of self.new) }
     {
         match self.stack.pop() {
             Some(over) => self.begin_keys_over(over),
             None => Err(UNFIT),
         }
+    }
+
+    /// Begins a loop over the keys of a table or a set.
+    #[inline(never)]
+    pub fn begin_keys(&mut self, place: Place) -> Result<Next, Mem>
+        ensures { Leads result (steps.with_top place (held_of self.old) (state_of self.old.state) (steps.begin_keys place self.old.at (state_of self.old.state))) self.new }
+    {
+        let done = self.begin_keys_over_top();
+        placed(done, place, &mut self.ending)
     }
 
     /// Goes on with a loop over the indexes of a vector.
@@ -112,9 +124,8 @@ impl Running {
         self.with_indexes(over)
     }
 
-    /// Begins a loop over the indexes of a vector.
-    #[inline(never)]
-    pub fn begin_indexes(&mut self) -> Result<(), Halt>
+    /// Begins a loop over the indexes of the vector that it takes.
+    fn begin_indexes_over_top(&mut self) -> Result<(), Halt>
         ensures { (place : At) → Moves place result (steps.with_top place (held_of self.old) (state_of self.old.state) (steps.begin_indexes place self.old.at (state_of self.old.state))) (machine_of self.new) }
     {
         match self.stack.pop() {
@@ -123,9 +134,17 @@ impl Running {
         }
     }
 
-    /// Begins the next turn over a vector, or goes on behind the end of the loop.
+    /// Begins a loop over the indexes of a vector.
     #[inline(never)]
-    pub fn next_index(&mut self, names: &Names, back: usize) -> Result<(), Halt>
+    pub fn begin_indexes(&mut self, place: Place) -> Result<Next, Mem>
+        ensures { Leads result (steps.with_top place (held_of self.old) (state_of self.old.state) (steps.begin_indexes place self.old.at (state_of self.old.state))) self.new }
+    {
+        let done = self.begin_indexes_over_top();
+        placed(done, place, &mut self.ending)
+    }
+
+    /// The next turn of the innermost loop, which goes over a vector, or its end.
+    fn next_turn_of_indexes(&mut self, names: &Names, back: usize) -> Result<(), Halt>
         ensures { (place : At) → Moves place result (steps.indexes_step place names.now back self.old.at (held_of self.old) (state_of self.old.state) (held_of self.old).loops) (machine_of self.new) }
     {
         match self.loops.pop() {
@@ -149,15 +168,32 @@ impl Running {
         }
     }
 
-    /// Begins the next turn over a table, or goes on behind the end of the loop.
+    /// Begins the next turn over a vector, or goes on behind the end of the loop.
     #[inline(never)]
-    pub fn next_key(&mut self, names: &Names, back: usize) -> Result<(), Halt>
+    pub fn next_index(&mut self, place: Place, names: &Names, back: usize) -> Result<Next, Mem>
+        ensures { Leads result (steps.indexes_step place names.now back self.old.at (held_of self.old) (state_of self.old.state) (held_of self.old).loops) self.new }
+    {
+        let done = self.next_turn_of_indexes(names, back);
+        placed(done, place, &mut self.ending)
+    }
+
+    /// The next turn of the innermost loop, which goes over a table, or its end.
+    fn next_turn_of_keys(&mut self, names: &Names, back: usize) -> Result<(), Halt>
         ensures { (place : At) → Moves place result (steps.keys_step place names.now back self.old.at (held_of self.old) (state_of self.old.state) (held_of self.old).loops) (machine_of self.new) }
     {
         match self.loops.pop() {
             Some(Loop::Keys { over, keys }) => self.key_turn(names, back, over, keys),
             _ => Err(UNFIT),
         }
+    }
+
+    /// Begins the next turn over a table, or goes on behind the end of the loop.
+    #[inline(never)]
+    pub fn next_key(&mut self, place: Place, names: &Names, back: usize) -> Result<Next, Mem>
+        ensures { Leads result (steps.keys_step place names.now back self.old.at (held_of self.old) (state_of self.old.state) (held_of self.old).loops) self.new }
+    {
+        let done = self.next_turn_of_keys(names, back);
+        placed(done, place, &mut self.ending)
     }
 
     /// The next turn of a loop over these keys, the next one last.

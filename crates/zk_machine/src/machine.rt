@@ -69,7 +69,7 @@ impl Running {
                 locals: Vec::new(alloc),
                 units: 0,
             },
-            given: None,
+            ending: Ending::Done(None),
         }
     }
 

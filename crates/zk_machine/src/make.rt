@@ -8,14 +8,17 @@ ghost use Rattle.zk_typed.specs.Objects.{new_record};
 ghost use Rattle.zk_typed.specs.View.{field_of};
 ghost use Rattle.zk_value.specs.Plain.{value_of};
 ghost use Rattle.zk_machine.specs.Comes.{Comes};
+ghost use Rattle.zk_machine.specs.Leads.{Leads};
 ghost use Rattle.zk_machine.specs.Running.{held_of, machine_of, Moves};
 ghost use Rattle.zk_machine.specs.State.{state_of};
 
+use crate::ends::{Next, placed};
 use crate::halt::Halt;
 use crate::running::{Running, cut};
 use crate::state::State;
-use zk_base::RecordNo;
+use zk_base::{Mem, RecordNo};
 use zk_lower::Code;
+use zk_tree::Place;
 use zk_typed::script::Field;
 use zk_value::Value;
 
@@ -44,9 +47,8 @@ fn make_last(
 }
 
 impl Running {
-    /// Pushes a new record whose given fields have the last operands as values.
-    #[inline(never)]
-    pub fn make(&mut self, code: &Code, number: RecordNo, given: &[u32]) -> Result<(), Halt>
+    /// Takes the values of the given fields, and pushes a new record that has them.
+    fn push_record(&mut self, code: &Code, number: RecordNo, given: &[u32]) -> Result<(), Halt>
         ensures { (place : At) → Moves place result (steps.by (new_record place number (record_fields (types_in (code_of code.now)) number) (steps.given given.now (steps.operands (length given.now) (held_of self.old))) (state_of self.old.state))
             (steps.push self.old.at (steps.without (length given.now) (held_of self.old)))) (machine_of self.new) }
     {
@@ -55,5 +57,21 @@ impl Running {
         cut(&mut self.stack, given.len());
         self.push(value)?;
         Ok(())
+    }
+
+    /// Pushes a new record whose given fields have the last operands as values.
+    #[inline(never)]
+    pub fn make(
+        &mut self,
+        code: &Code,
+        place: Place,
+        number: RecordNo,
+        given: &[u32],
+    ) -> Result<Next, Mem>
+        ensures { Leads result (steps.by (new_record place number (record_fields (types_in (code_of code.now)) number) (steps.given given.now (steps.operands (length given.now) (held_of self.old))) (state_of self.old.state))
+            (steps.push self.old.at (steps.without (length given.now) (held_of self.old)))) self.new }
+    {
+        let done = self.push_record(code, number, given);
+        placed(done, place, &mut self.ending)
     }
 }

@@ -1,4 +1,4 @@
-ghost use Rattle.std.specs.Prelude.{◌≡◌, ◌∷◌, map, IfOk};
+ghost use Rattle.std.specs.Prelude.{◌≡◌, ◌∷◌, map};
 ghost use Rattle.std.specs.Option.{option_map};
 ghost use Rattle.zk_tree.specs.declared.place.Place.{Place as At};
 ghost use Rattle.zk_tree.specs.Store as object;
@@ -13,8 +13,7 @@ ghost use Rattle.zk_machine.specs.State.{state_of};
 
 use crate::halt::Halt;
 use crate::state::{State, handles};
-use std::alloc::Global;
-use zk_base::{Mem, ObjectNo};
+use zk_base::ObjectNo;
 use zk_table::Lent;
 use zk_typed::FaultKind;
 use zk_value::{Key, Value};
@@ -168,7 +167,7 @@ impl State {
                 Lent::Record { .. } => Err(UNFIT),
                 Lent::Vector(_) => Err(UNFIT),
                 Lent::Table(_) => {
-                    let key = key_from(self.world.alloc, key)?;
+                    let key = Key::copy_of(self.world.alloc, key)?;
                     self.world
                         .heap
                         .insert(*object, self.world.time, key, element)?;
@@ -198,7 +197,7 @@ impl State {
                 Lent::Record { .. } => Err(UNFIT),
                 Lent::Vector(_) => Err(UNFIT),
                 Lent::Table(_) => {
-                    let key = key_from(self.world.alloc, key)?;
+                    let key = Key::copy_of(self.world.alloc, key)?;
                     self.world.heap.remove(*object, &key);
                     Ok(())
                 }
@@ -222,11 +221,4 @@ impl State {
         let number = self.world.heap.add_vector(items)?;
         Ok(Value::Object(number))
     }
-}
-
-/// The key of these values.
-pub fn key_from(alloc: Global, values: &[Value]) -> Result<Key, Mem>
-    ensures { IfOk result (λ key. key ≡ values.now) }
-{
-    Key::of(handles(alloc, values)?)
 }

@@ -169,7 +169,7 @@ impl State {
         }
         let args = handles(world.alloc, args)?;
         let what = Queued { event, args };
-        world.schedule.add(world.alloc, world.time, delay, what)?;
+        world.schedule.add(world.time, delay, what)?;
         Ok(())
     }
 

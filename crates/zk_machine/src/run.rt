@@ -8,11 +8,13 @@ ghost use Rattle.zk_machine.specs.State.{state_of};
 
 use crate::ends::{Ending, Next, placed};
 use crate::running::Running;
+use std::mem;
 use zk_base::Mem;
 use zk_lower::{Code, Op, code_ends};
 
 impl Running {
-    /// What an operation does.
+    /// What an operation does. The long ones stand out of line and give the whole step, since a result of their
+    /// own would be cleared here at each operation.
     fn operate(&mut self, code: &Code, op: &Op) -> Result<Next, Mem>
         ensures { Leads result (steps.operate (code_of code.now) (op_of op.now) self.old.at (held_of self.old) (state_of self.old.state)) self.new }
     {
@@ -21,39 +23,39 @@ impl Running {
                 self.push_handle(value)?;
                 Ok(Next::Goes)
             }
-            Op::Local { place, number } => placed(*place, self.local(*number)),
-            Op::Global { place, number } => placed(*place, self.global(*number)),
+            Op::Local { place, number } => placed(self.local(*number), *place, &mut self.ending),
+            Op::Global { place, number } => placed(self.global(*number), *place, &mut self.ending),
             Op::Apply {
                 place,
                 primitive,
                 count,
-            } => placed(*place, self.apply(primitive, *count)),
+            } => placed(self.apply(primitive, *count), *place, &mut self.ending),
             Op::New {
                 place,
                 record,
                 fields,
-            } => placed(*place, self.make(code, *record, fields.as_slice())),
-            Op::Sum { place } => placed(*place, self.add()),
+            } => self.make(code, *place, *record, fields.as_slice()),
+            Op::Sum { place } => placed(self.add(), *place, &mut self.ending),
             Op::Do {
                 place,
                 action,
                 count,
-            } => placed(*place, self.act(action, *count)),
+            } => placed(self.act(action, *count), *place, &mut self.ending),
             Op::Drop => {
                 self.drop_value()?;
                 Ok(Next::Goes)
             }
-            Op::Tick { place } => placed(*place, self.tick()),
+            Op::Tick { place } => placed(self.tick(), *place, &mut self.ending),
             Op::Jump { over } => {
                 self.jump(*over)?;
                 Ok(Next::Goes)
             }
-            Op::Unless { place, over } => placed(*place, self.unless(*over)),
-            Op::Turn { place, back } => placed(*place, self.turn(*back)),
-            Op::BeginKeys { place } => placed(*place, self.begin_keys()),
-            Op::NextKey { place, names, back } => placed(*place, self.next_key(names, *back)),
-            Op::BeginIndexes { place } => placed(*place, self.begin_indexes()),
-            Op::NextIndex { place, names, back } => placed(*place, self.next_index(names, *back)),
+            Op::Unless { place, over } => placed(self.unless(*over), *place, &mut self.ending),
+            Op::Turn { place, back } => placed(self.turn(*back), *place, &mut self.ending),
+            Op::BeginKeys { place } => self.begin_keys(*place),
+            Op::NextKey { place, names, back } => self.next_key(*place, names, *back),
+            Op::BeginIndexes { place } => self.begin_indexes(*place),
+            Op::NextIndex { place, names, back } => self.next_index(*place, names, *back),
             Op::EndLoop => {
                 self.end_loop()?;
                 Ok(Next::Goes)
@@ -62,19 +64,17 @@ impl Running {
                 place,
                 function,
                 count,
-            } => placed(*place, self.call_for_value(code, *place, *function, *count)),
+            } => self.call_for_value(code, *place, *function, *count),
             Op::Perform {
                 place,
                 function,
                 count,
-            } => placed(*place, self.call_alone(code, *function, *count)),
+            } => self.call_alone(code, *place, *function, *count),
             Op::End => self.end(code),
             Op::Give => self.give(code),
             Op::Break => self.break_out(code),
-            Op::Hook { place, hook, count } => {
-                placed(*place, self.hook(code, *place, *hook, *count))
-            }
-            Op::Write { place, log } => placed(*place, self.write(code, *place, *log)),
+            Op::Hook { place, hook, count } => self.hook(code, *place, *hook, *count),
+            Op::Write { place, log } => self.write(code, *place, *log),
         }
     }
 
@@ -85,8 +85,8 @@ impl Running {
         match code.ops.as_slice().get(self.at) {
             Some(op) => self.operate(code, op),
             None => {
-                self.given = None;
-                Ok(Next::Done)
+                self.ending = Ending::Done(None);
+                Ok(Next::Ends)
             }
         }
     }
@@ -99,9 +99,7 @@ impl Running {
             code_ends();
             match self.step(code)? {
                 Next::Goes => {}
-                Next::Done => return Ok(Ending::Done(self.given.take())),
-                Next::Fault { kind, place } => return Ok(Ending::Fault { kind, place }),
-                Next::Spent { place } => return Ok(Ending::Spent { place }),
+                Next::Ends => return Ok(mem::replace(&mut self.ending, Ending::Done(None))),
             }
         }
     }

@@ -14,6 +14,7 @@ ghost use Rattle.zk_machine.specs.Running.{held_of, machine_of, Moves};
 ghost use Rattle.zk_machine.specs.State.{state_of};
 
 use crate::counts::{counted, stepped_count};
+use crate::ends::Ending;
 use crate::frames::{Frame, Loop};
 use crate::halt::Halt;
 use crate::objects::UNFIT;
@@ -33,8 +34,8 @@ pub struct Running {
     pub loops: Vec<Loop>,
     pub frames: Vec<Frame>,
     pub state: State,
-    /// What the body gave that came to its end.
-    pub given: Option<Value>,
+    /// How the code ends, once it does.
+    pub ending: Ending,
 }
 
 impl Running {
@@ -269,15 +270,23 @@ impl Running {
     }
 }
 
+/// Pushes a clone of a value. It stands out of line, so that the push of a count has little to clear.
+#[inline(never)]
+fn push_clone(stack: &mut Vec<Value>, value: &Value) -> Result<(), Mem>
+    ensures { OnOk result (map value_of (reverse stack.new.items) ≡ value_of value.now ∷ map value_of (reverse stack.old.items)) }
+{
+    stack.push(value.clone()?)?;
+    Ok(())
+}
+
 /// Pushes another handle to a value. A count is written anew, since a whole value is slow to copy.
 fn push_handle(stack: &mut Vec<Value>, value: &Value) -> Result<(), Mem>
     ensures { OnOk result (map value_of (reverse stack.new.items) ≡ value_of value.now ∷ map value_of (reverse stack.old.items)) }
 {
     match value {
-        Value::Count(count) => push_count(stack, *count)?,
-        _ => stack.push(value.clone()?)?,
+        Value::Count(count) => push_count(stack, *count),
+        _ => push_clone(stack, value),
     }
-    Ok(())
 }
 
 /// The place behind the next operations, so many of them, where it has a number.

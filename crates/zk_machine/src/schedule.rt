@@ -1,4 +1,4 @@
-ghost use Rattle.std.specs.Prelude.{◌≡◌, ◌<◌, ◌+◌, ◌-◌, ℕ, [], Some, None as Nothing, IfOk, OnOk, OnErr, IfSome, IfNone};
+ghost use Rattle.std.specs.Prelude.{◌≡◌, ◌<◌, ◌+◌, ◌-◌, ℕ, [], Some, None as Nothing, OnOk, OnErr, IfSome, IfNone};
 ghost use Rattle.std.specs.Option.{option_map};
 ghost use Rattle.zk_tree.specs.Table.{first_due, moment_after};
 ghost use Rattle.zk_typed.specs.World.{Scheduled as Waiting};
@@ -40,10 +40,10 @@ impl Model for Schedule {
 }
 
 /// The key of an event in the index.
-fn key_for(alloc: Global, order: u64) -> Result<Key, Mem>
-    ensures { IfOk result (λ key. key_of key ≡ plain.key_for order) }
+fn key_for(order: u64) -> Key
+    ensures { key_of result ≡ plain.key_for order }
 {
-    Key::of(vec![in alloc; Value::Count(order)]?)
+    Key::from(Value::Count(order))
 }
 
 /// Lets go of the places at the front whose events are gone.
@@ -97,7 +97,7 @@ impl Schedule {
     }
 
     /// Adds an event that is due so long after a moment. At `Mem` nothing is changed.
-    pub fn add(&mut self, alloc: Global, now: Moment, delay: Span, what: Queued) -> Result<(), Mem>
+    pub fn add(&mut self, now: Moment, delay: Span, what: Queued) -> Result<(), Mem>
         ensures ok { OnOk result (self.new ≡ with_event (moment_after now delay) (queued_of what) self.old) }
         ensures err { OnErr result (self.new ≡ self.old) }
     {
@@ -107,8 +107,7 @@ impl Schedule {
         };
         let due = moment_after(now, delay);
         self.slots.reserve(1)?;
-        self.dues
-            .insert(due, key_for(alloc, order)?, Value::Bool(true))?;
+        self.dues.insert(due, key_for(order), Value::Bool(true))?;
         self.slots
             .push_back_reserved(Some(Scheduled { due, order, what }));
         self.count = count;

@@ -14,7 +14,7 @@ ghost use Rattle.zk_machine.specs.State.{default_of, state_of, world_of};
 
 use crate::defaults::made;
 use crate::halt::Halt;
-use crate::objects::{UNFIT, key_from};
+use crate::objects::UNFIT;
 use crate::state::State;
 use crate::table_defaults::{TableDefault, TableDefaults};
 use std::alloc::Global;
@@ -112,7 +112,7 @@ impl State {
         let Value::Object(number) = table else {
             return Err(UNFIT);
         };
-        let key = key_from(self.world.alloc, key)?;
+        let key = Key::copy_of(self.world.alloc, key)?;
         self.element_at(*number, &key)
     }
 
@@ -133,7 +133,7 @@ impl State {
         let Value::Object(number) = table else {
             return Err(UNFIT);
         };
-        let key = key_from(self.world.alloc, key)?;
+        let key = Key::copy_of(self.world.alloc, key)?;
         let value = self.find(*number, &key)?;
         Ok(Value::Bool(value.is_some()))
     }
@@ -197,7 +197,7 @@ fn set_of(alloc: Global, now: Moment, shape: &Shape, values: &[Value]) -> Result
     let mut rest = values;
     'members: while size > 0 && size <= rest.len() {
         let (key, others) = rest.split_at(size);
-        set.insert(now, key_from(alloc, key)?, Value::Bool(true))?;
+        set.insert(now, Key::copy_of(alloc, key)?, Value::Bool(true))?;
         rest = others;
     }
     Ok(set)
@@ -213,7 +213,7 @@ fn table_of(alloc: Global, now: Moment, shape: &Shape, values: &[Value]) -> Resu
     'entries: while size < rest.len() {
         let (key, behind) = rest.split_at(size);
         let value = behind[0].clone()?;
-        table.insert(now, key_from(alloc, key)?, value)?;
+        table.insert(now, Key::copy_of(alloc, key)?, value)?;
         rest = &behind[1..];
     }
     Ok(table)

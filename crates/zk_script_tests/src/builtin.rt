@@ -6,7 +6,7 @@ use zk_builtin::{
     BuiltinFault, addr_to_counts, cat, fmt, join_string_vec, starts_with, strstr, sub_bytes,
     to_count, to_lower, to_upper,
 };
-use zk_value::{SharedBytes, Value};
+use zk_value::{SharedAddr, SharedBytes, Value};
 
 fn string(alloc: Global, bytes: &[u8]) -> Result<Value, Mem> {
     Ok(Value::String(SharedBytes::copy_of(alloc, bytes)?))
@@ -38,7 +38,7 @@ fn texts_are_those_of_print(rt: HostRuntime) -> Result<(), Fail> {
     args.push(Value::Bool(true))?;
     args.push(Value::Time(Moment(-1)))?;
     args.push(Value::Interval(Span(1_500_000)))?;
-    args.push(Value::Addr(Addr::V4(0x0a00_0001)))?;
+    args.push(Value::Addr(SharedAddr::of(alloc, Addr::V4(0x0a00_0001))?))?;
     args.push(Value::Port {
         port: 80,
         proto: Proto::Tcp,

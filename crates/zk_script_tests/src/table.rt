@@ -24,9 +24,7 @@ use Call::{Expire, Insert, Remove, Renew};
 type Due = Option<(i64, u64)>;
 
 fn key_of(alloc: Global, number: u64) -> Result<Key, Mem> {
-    let mut values = Vec::new(alloc);
-    values.push(Value::Count(number))?;
-    Key::of(values)
+    Key::copy_of(alloc, &[Value::Count(number)])
 }
 
 fn make(rt: &impl Abort, alloc: Global, table: &mut Table, call: &Call) -> Result<(), Mem> {

@@ -1,8 +1,8 @@
 use std::test::Fail;
 use zk_base::{Addr, Bytes, Mem, ObjectNo, Proto, RecordNo};
 use zk_value::{
-    Atom, Cell, Column, Key, Object, Series, SharedBytes, Store, Value, push_addr, push_count,
-    push_int, push_port, push_span, push_subnet,
+    Atom, Cell, Column, Key, Object, Series, SharedAddr, SharedBytes, Store, Value, push_addr,
+    push_count, push_int, push_port, push_span, push_subnet,
 };
 
 #[test]
@@ -36,19 +36,18 @@ fn values_and_keys_are_shared_and_compared_by_what_they_hold(rt: HostRuntime) ->
             port: 80,
             proto: Proto::Tcp
         },
-        Value::Addr(Addr::V4(0x0a00_0001)),
+        Value::Addr(SharedAddr::of(alloc, Addr::V4(0x0a00_0001))?),
         Value::Subnet {
             prefix: 0x0a00_0000,
             width: 8
         },
     ]?;
-    let key = Key::of(values)?;
+    let key = Key::copy_of(alloc, &values)?;
     let copy = key.clone()?;
     assert_eq!(rt; copy, key);
     assert_eq!(rt; copy.as_slice().len(), 4);
-    let other = Key::of(vec![in alloc;
-        Value::Enum(SharedBytes::of(Bytes::copy_of(alloc, b"a.test")?)?),
-    ]?)?;
+    let word = SharedBytes::of(Bytes::copy_of(alloc, b"a.test")?)?;
+    let other = Key::from(Value::Enum(word));
     assert_ne!(rt; other, key);
 
     let mut text = Vec::new(alloc);

@@ -37,12 +37,26 @@ fn renews(expiry: Option<Expiry>) -> bool
     matches!(expiry, Some(Expiry::Read(_) | Expiry::Write(_)))
 }
 
-/// The place of an order number.
-fn place_of(slots: &[Slot], order: u64) -> Option<usize>
+/// The place of an order number, by halves.
+fn place_by_halves(slots: &[Slot], order: u64) -> Option<usize>
     ensures found { IfSome result (λ place. option_map (λ slot. slot.order) (slice_get slots.now place) ≡ Some order) }
     ensures none { IfNone result ((from below : ℕ) → Ascends from slots.now below → stored_numbered order slots.now ≡ None) }
 {
     slots.binary_search_by_key(&order, |slot| slot.order).ok()
+}
+
+/// The place of an order number below that of the next insertion. Where the insertions whose holes were
+/// closed all came before it, it is known at once.
+fn place_of(slots: &[Slot], next: u64, order: u64) -> Option<usize>
+    ensures found { IfSome result (λ place. option_map (λ slot. slot.order) (slice_get slots.now place) ≡ Some order) }
+    ensures none { IfNone result ((from below : ℕ) → Ascends from slots.now below → stored_numbered order slots.now ≡ None) }
+{
+    let gone = next.saturating_sub(slots.len() as u64);
+    let place = order.saturating_sub(gone) as usize;
+    match slots.get(place) {
+        Some(slot) if slot.order == order => Some(place),
+        _ => place_by_halves(slots, order),
+    }
 }
 
 /// The entries of a table.
@@ -109,7 +123,7 @@ impl Entries {
         ensures none { IfNone result (IsKept self.now → entry_at (key_of key.now) (table_in self.now).entries ≡ None) }
     {
         match self.orders.get(key) {
-            Some(order) => place_of(&self.slots, *order),
+            Some(order) => place_of(&self.slots, self.insertions, *order),
             None => None,
         }
     }
@@ -119,7 +133,7 @@ impl Entries {
         ensures found { IfSome result (λ place. IsKept self.now → Numbered self.now order place) }
         ensures none { IfNone result (IsKept self.now → entry_numbered order (table_in self.now).entries ≡ None) }
     {
-        match place_of(&self.slots, order) {
+        match place_of(&self.slots, self.insertions, order) {
             Some(place) => match self.stored(place) {
                 Some(_) => Some(place),
                 None => None,

@@ -1,4 +1,5 @@
 pub mod Hashed
+pub mod Keys
 pub mod Lent
 pub mod Objects
 pub mod Plain

@@ -1,6 +1,7 @@
 //! Values and objects, and what a program gives out.
 #![tactic(auto)]
 
+mod address;
 mod cell;
 mod key;
 mod laws;
@@ -12,6 +13,7 @@ mod store;
 mod texts;
 mod value;
 
+pub use address::SharedAddr;
 pub use cell::{Atom, Cell, Column};
 pub use key::Key;
 pub use laws::{equal_keys, tables_in_their_places};

@@ -1,25 +1,27 @@
-ghost use Rattle.std.specs.Prelude.{◌≡◌, length, IfOk};
+ghost use Rattle.std.specs.Prelude.{◌≡◌, ◌++◌, length, IfOk};
 
+use smallvec::SmallVec;
 use std::alloc::Global;
-use std::hash::{Hash, Hasher};
 use std::marker::Model;
-use std::rc::RcSlice;
+use std::rc::Rc;
 use zk_base::{Bytes, Mem};
+
+/// So many bytes stand beside the count of their handles. More stand in memory of their own.
+const INLINE_MAX: usize = 24;
 
 /// Bytes that values share: a clone is another handle to the same memory, and no byte is copied.
 /// Contracts see a list.
 #[derive(Debug, Drop)]
 pub struct SharedBytes {
-    bytes: RcSlice<u8>,
+    bytes: Rc<SmallVec<u8, INLINE_MAX>>,
 }
 
 impl Model for SharedBytes {
     ghost use Rattle.std.specs.Prelude.{List, ℕ};
-    ghost use Rattle.std.specs.Rc.{rc_slice_items};
 
     ghost Value = { List ℕ };
 
-    ghost view = { λ s. rc_slice_items s.bytes };
+    ghost view = { λ shared. shared.bytes.value.items };
 }
 
 impl SharedBytes {
@@ -28,16 +30,31 @@ impl SharedBytes {
         ensures { IfOk result (λ copy. copy ≡ bytes.now) }
     {
         Ok(SharedBytes {
-            bytes: RcSlice::from_slice(alloc, bytes)?,
+            bytes: Rc::new(alloc, SmallVec::from_slice(alloc, bytes)?)?,
         })
     }
 
-    /// The bytes of a value that owned them. None is copied.
+    /// Two slices, one behind the other.
+    pub fn joined(alloc: Global, a: &[u8], b: &[u8]) -> Result<SharedBytes, Mem>
+        ensures { IfOk result (λ joined. joined ≡ a.now ++ b.now) }
+    {
+        let mut bytes = SmallVec::with_capacity(alloc, a.len().saturating_add(b.len()))?;
+        bytes.extend_from_slice(a)?;
+        bytes.extend_from_slice(b)?;
+        Ok(SharedBytes {
+            bytes: Rc::new(alloc, bytes)?,
+        })
+    }
+
+    /// The bytes of a value that owned them.
     pub fn of(bytes: Bytes) -> Result<SharedBytes, Mem>
         ensures { IfOk result (λ shared. shared ≡ bytes) }
     {
+        let mut bytes = SmallVec::from_vec(bytes.into_vec());
+        bytes.shrink_to_fit();
+        let alloc = *bytes.allocator();
         Ok(SharedBytes {
-            bytes: RcSlice::from_vec(bytes.into_vec())?,
+            bytes: Rc::new(alloc, bytes)?,
         })
     }
 
@@ -45,14 +62,14 @@ impl SharedBytes {
     pub fn as_slice(&self) -> &[u8]
         ensures { result.now ≡ self.now }
     {
-        self.bytes.as_slice()
+        self.bytes.as_ref().as_slice()
     }
 
     /// The number of bytes.
     pub fn len(&self) -> usize
         ensures { result ≡ length self.now }
     {
-        self.bytes.len()
+        self.bytes.as_ref().len()
     }
 }
 

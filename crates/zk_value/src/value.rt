@@ -1,9 +1,12 @@
+use crate::address::SharedAddr;
 use crate::shared::SharedBytes;
 use std::alloc::AllocError;
 use std::hash::{Hash, Hasher};
-use zk_base::{Addr, Moment, ObjectNo, Proto, Span};
+use std::mem::size_of;
+use zk_base::{Moment, ObjectNo, Proto, Span};
 
-/// A value that a script computes with (Zeek manual, Types).
+/// A value that a script computes with (Zeek manual, Types). It takes 16 bytes: what is larger stands behind
+/// a handle.
 #[derive(Debug, PartialEq, Eq, Drop)]
 pub enum Value {
     /// `T` or `F`.
@@ -19,7 +22,7 @@ pub enum Value {
     /// A length of time, in microseconds.
     Interval(Span),
     /// An address of an internet host.
-    Addr(Addr),
+    Addr(SharedAddr),
     /// A port of a transport protocol.
     Port { port: u16, proto: Proto },
     /// An IPv4 prefix, as the number that its bytes make in network order, and its width in bits.
@@ -29,6 +32,8 @@ pub enum Value {
     /// A record, a vector, a set or a table.
     Object(ObjectNo),
 }
+
+const _: () = prove!(size_of::<Value>() == 16);
 
 /// Another handle to the same value.
 impl Clone for Value {
@@ -44,7 +49,7 @@ impl Clone for Value {
             Value::String(bytes) => Value::String(bytes.clone()?),
             Value::Time(moment) => Value::Time(*moment),
             Value::Interval(span) => Value::Interval(*span),
-            Value::Addr(address) => Value::Addr(*address),
+            Value::Addr(address) => Value::Addr(address.clone()?),
             Value::Port { port, proto } => Value::Port {
                 port: *port,
                 proto: *proto,

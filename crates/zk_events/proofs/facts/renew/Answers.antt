@@ -3,4 +3,4 @@ use Rattle.zk_events.proofs.facts.renew.Goals as goal
 pub returns : goal.returns
 returns c = λ program given world stands.
     c.renew_connection.ensures c.args.conn c.in_ok-texts.ensures program given _
-    (c.renew_end-2.ensures program given _ (c.renew_end.ensures program given _ (c.renew_id.ensures program given world stands)))
+    (c.renew_end-2.ensures program given _ (c.renew_end.ensures program given _ (c.in_ok-renew_id.ensures program given world stands)))

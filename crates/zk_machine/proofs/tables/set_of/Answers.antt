@@ -16,7 +16,7 @@ members-preserved c =
     let rest = c.members.rest.now in
     let set = c.members.set in
     let within : size ≤ length (key_of rest) = let same = length-map rest value_of in omega (arith, same, c.if-size-rest.true) in
-    let key : c.in_ok-key_from.field-0 ≡ take size rest = c.in_ok-key_from.ensures ∙ c.split_at.ensures.front in
+    let key : c.in_ok-copy_of.field-0 ≡ take size rest = c.in_ok-copy_of.ensures ∙ c.split_at.ensures.front in
     ap (λ one. fold (add_member now) one (groups size (key_of c.split_at.result.1.now)))
     (c.in_ok-insert.ensures.ok ∙ (ap (λ (k : List Value). insert now (key_of k) (plain.Bool true) set) key ∙ ap (λ (k : List plain.Value). insert now k (plain.Bool true) set) (sym (take-map value_of size rest))))
     ∙ (ap (λ (b : List plain.Value). fold (add_member now) (insert now (take size (key_of rest)) (plain.Bool true) set) (groups size b)) (ap key_of c.split_at.ensures.back ∙ sym (drop-map value_of size rest))

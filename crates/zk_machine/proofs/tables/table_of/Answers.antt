@@ -24,7 +24,7 @@ entries-preserved c =
     let at : value_of one ≡ get_or (key_of rest) size (value_of one) = ap value_of place ∙ sym (get_or-map value_of rest size one (value_of one) c.entries-test.true) in
     let left : take (length behind - 1) (drop 1 behind) ≡ drop (size + 1) rest = take_rest behind 1 ∙ (ap (drop 1) c.split_at.ensures.back ∙ drop-drop 1 size rest) in
     ap (λ t. fold (with_pair size now) t (groups (size + 1) (key_of (take (length behind - 1) (drop 1 behind)))))
-    (c.in_ok-insert.ensures.ok ∙ (ap (λ (k : List Value). insert now (key_of k) (value_of c.in_ok-value.value) table) (c.in_ok-key_from.ensures ∙ c.split_at.ensures.front)
+    (c.in_ok-insert.ensures.ok ∙ (ap (λ (k : List Value). insert now (key_of k) (value_of c.in_ok-value.value) table) (c.in_ok-copy_of.ensures ∙ c.split_at.ensures.front)
     ∙ (ap (λ (v : Value). insert now (key_of (take size rest)) (value_of v) table) c.in_ok-value.ensures.cases
     ∙ (ap (λ (k : List plain.Value). insert now k (value_of one) table) (sym (take-map value_of size rest))
     ∙ sym (pair-inserted size now table (key_of rest) (value_of one) inside at)))))

@@ -19,7 +19,7 @@ invariant_of-self-2 c =
     let slots : c.push_back_reserved.new.self.items ≡ old ++ Some one ∷ [] = c.push_back_reserved.ensures.items ∙ ap (λ (items : Slots). items ++ Some one ∷ []) c.reserve.ensures.items in
     let more : c.in-Some.count ≡ count + 1 = search rules in
     let now = c.insert.new.self in
-    let is : now ≡ insert due (key_for count) (plain.Bool true) c.self.inside.dues = c.in_ok-insert.ensures.ok ∙ ap (λ key. insert due key (plain.Bool true) c.self.inside.dues) c.in_ok-key_for.ensures in
+    let is : now ≡ insert due (key_for count) (plain.Bool true) c.self.inside.dues = c.in_ok-insert.ensures.ok ∙ ap (λ key. insert due key (plain.Bool true) c.self.inside.dues) c.key_for.ensures in
     let P : ℕ → Type 0 = λ n. AreLast n (old ++ Some one ∷ []) × (now ≡ index_of (plan_of n (old ++ Some one ∷ []))) in
     let Q : Slots → Type 0 = λ items. AreLast c.in-Some.count items × (now ≡ index_of (plan_of c.in-Some.count items)) in
     subst Q (sym slots) (subst P (sym more) (kept-more count old one c.self.inside.dues now c.self.invariant refl le is))

@@ -1,7 +1,7 @@
 use Rattle.std.proofs.Common.{rules}
 use Rattle.std.proofs.lemmas.List.Sorted.{answers_always}
 use Rattle.zk_table.proofs.SearchLemmas.{searched-found, searched-none}
-use Rattle.zk_table.proofs.entries.place_of.Goals as goal
+use Rattle.zk_table.proofs.entries.place_by_halves.Goals as goal
 
 pub returns-clause-found : goal.returns-clause-found
 returns-clause-found c =

@@ -40,7 +40,7 @@ fitted check env wanted one form = of_constant (constant_of form)
     of_constant None = value_typed check env one form >>= fit (expr_place env one) wanted
 
 abbrev pub by_form : Check → Env → Wanted → Expr → Expr-F Expr Item Part Link → Checked Typed
-by_form check env wanted one (written.Assign a operator b) = assigned_parts check env operator a b >> broken rule.WrongType (expr_place env one)
+by_form check env wanted one (written.Assign a operator b) = broken_anyway (assigned_parts check env operator a b) rule.WrongType (expr_place env one)
 by_form check env wanted one (written.Choice test a b) = choice check env wanted test a b
 by_form check env wanted one (written.Parenthesis place inner) = check wanted inner
 by_form check env wanted one (written.List place items) = brackets_typed check env (at env place) items wanted

@@ -19,7 +19,7 @@ use Rattle.zk_typed.specs.declared.rule.Rule.TheVariants as rule
 use Rattle.zk_typed.specs.declared.script.action.Action.TheVariants as action
 use Rattle.zk_typed.specs.declared.script.action.Left.TheVariants as left
 use Rattle.zk_typed.specs.declared.script.stmt.Names.{Names as LoopNames}
-use Rattle.zk_typed.specs.Checked.{Checked, ◌>>=◌, ◌>>◌, both, require}
+use Rattle.zk_typed.specs.Checked.{Checked, ◌>>=◌, ◌>>◌, both, require, broken}
 use Rattle.zk_typed.specs.Expressions.{expr_typed}
 use Rattle.zk_typed.specs.Forms as form
 use Rattle.zk_typed.specs.Operations.{same_type}
@@ -224,7 +224,7 @@ for_over_sound context place over_place keys (Some name) (Table types item) expr
     (λ many. (refl, last_length (key_names keys) name ∙ (ap suc (sym (eqb-true (length (key_types types)) (length (key_names keys)) many)) ∙ sym (last_length (key_types types) item))))
 for_over_sound context place over_place keys (Some name) (Vector item) expr = sound_require (Overs keys (Some name) (Vector item)) (1 == length (key_names keys)) rule.WrongType (place_of context place) (Ok (type.count ∷ item ∷ []))
     (λ many. (refl, last_length (key_names keys) name ∙ ap suc (sym (eqb-true 1 (length (key_names keys)) many))))
-for_over_sound context place over_place keys (Some name) (Set types) expr = never_ok (Overs keys (Some name) (Set types)) (require (length (key_types types) == length (key_names keys)) rule.WrongType (place_of context place)) rule.WrongType (place_of context name.place)
+for_over_sound context place over_place keys (Some name) (Set types) expr = sound_after (Overs keys (Some name) (Set types)) (require (length (key_types types) == length (key_names keys)) rule.WrongType (place_of context place)) (broken rule.WrongType (place_of context name.place)) tt
 for_over_sound context place over_place keys named (Simple one) expr = tt
 for_over_sound context place over_place keys named (Record number) expr = tt
 

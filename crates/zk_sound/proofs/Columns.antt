@@ -196,7 +196,7 @@ module _ (scripts : Scripts) (tells : (home : Home) (t : «Type») → Tells (ty
 
     -- Fields that are added --------------------------------------------------------------------------------------------
 
-    named_tells : (name : Name) → Tells (type_named scripts home name)
+    pub named_tells : (name : Name) → Tells (type_named scripts home name)
     named_tells name = let told = tells home (tree.Named name) in rw (outs-Named name) at told
 
     added_well : (number : ℕ) (before : List (List ℕ)) (fields : List Field)

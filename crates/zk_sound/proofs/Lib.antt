@@ -36,6 +36,10 @@ pub mod Words
 pub mod Fields
 pub mod Locals
 pub mod Columns
+pub mod Quiet
+pub mod QuietCalls
+pub mod QuietForms
+pub mod QuietStmts
 pub mod Whole
 pub mod SparedForms
 pub mod SparedCalls

@@ -96,7 +96,10 @@ pub const UNKNOWN: [(&[u8], u64); 42] = [
     ),
     (b"global b = b + y;", 15),
     // What stands behind what is broken elsewhere.
-    (b"event zeek_init() { print T($a=nosuch); } type T: never;", 31),
+    (
+        b"event zeek_init() { print T($a=nosuch); } type T: never;",
+        31,
+    ),
 ];
 
 /// Scripts that break the rule `Twice` first, and the byte at which it is told.

@@ -309,7 +309,10 @@ pub const WRONG_TYPE: [(&[u8], u64); 163] = [
     (b"type R: record { a: event(); };", 20),
     (b"type G: function(a: count);", 8),
     // What can't stand where it does, whatever it rests on elsewhere.
-    (b"event zeek_init() { f($a=x); } function f(a: count) { } global x: nosuch;", 22),
+    (
+        b"event zeek_init() { f($a=x); } function f(a: count) { } global x: nosuch;",
+        22,
+    ),
     (b"event zeek_init() { delete x; } global x: nosuch;", 20),
     (
         b"event zeek_init() { print [x] in t; } global x: nosuch; global t: table[count] of count;",
@@ -323,5 +326,8 @@ pub const WRONG_TYPE: [(&[u8], u64); 163] = [
         b"redef enum Log::ID += { L }; type R: record { a: count &log; }; global y = Log::write(L, [$a=1]); event zeek_init() { Log::create_stream(L, $columns=y); }",
         140,
     ),
-    (b"event zeek_init() { Log::write(x, [$a=1]); } global x: nosuch;", 31),
+    (
+        b"event zeek_init() { Log::write(x, [$a=1]); } global x: nosuch;",
+        31,
+    ),
 ];

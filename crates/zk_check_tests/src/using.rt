@@ -160,7 +160,10 @@ pub const ARGUMENTS: [(&[u8], u64); 23] = [
         33,
     ),
     // Another number of arguments, whatever they rest on elsewhere.
-    (b"event zeek_init() { f(x); } function f(a: count, b: count) { } global x: nosuch;", 20),
+    (
+        b"event zeek_init() { f(x); } function f(a: count, b: count) { } global x: nosuch;",
+        20,
+    ),
     (
         b"redef enum Log::ID += { L }; type R: record { a: count &log; }; global y = Log::write(L, [$a=1]); event zeek_init() { print copy(y, Log::create_stream(L, [$columns=nosuch])); }",
         124,
@@ -170,7 +173,10 @@ pub const ARGUMENTS: [(&[u8], u64); 23] = [
         118,
     ),
     // Arguments past the parameters hide nothing.
-    (b"event zeek_init() { f(1, nosuch); } function f(a: count) { }", 20),
+    (
+        b"event zeek_init() { f(1, nosuch); } function f(a: count) { }",
+        20,
+    ),
 ];
 
 /// Scripts that break the rule `Return` first, and the byte at which it is told.

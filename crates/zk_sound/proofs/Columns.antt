@@ -32,9 +32,7 @@ use Rattle.zk_typed.specs.Errors.{errors, init_checked, value_rules, signature_r
 use Rattle.zk_typed.specs.LoadOrder.{File, Home, Stated, load_order}
 use Rattle.zk_typed.specs.Names.{Node, RecordNode, EnumNode, Meant, Signature, Written, node, type_nodes, field_types, param_types, decl_types, decl_nodes, all_nodes, is_record, whole_name, look_up}
 use Rattle.zk_typed.specs.Predefined as predefined
-
 use Rattle.zk_typed.specs.Program.{RecordType, Field as KnownField}
-
 use Rattle.zk_typed.specs.Programs.{checked_or, field_of, record_of, typed_program}
 use Rattle.zk_typed.specs.Resolving.{Scripts, FieldInfo, place_in, hushed, type_of, type_named, deeper, fields_of, own_fields, added_fields, is_that, written_field, known_field}
 use Rattle.zk_typed.specs.Statements.{Within, InFunction}

@@ -271,6 +271,7 @@ module _ (scripts : Scripts) where
           let (of, known) = right_told (type_of scripts home (out-Field field).field_type) (tells (out-Field field).field_type) (typed_untold home before field own.0) in
           let rest = fields_well most deep ((out-Field field).name.text ∷ before) fields parts.1 in
           ((field_well home before field own.0, rest.0), (deep (out-Field field).field_type 200 of known own.1, rest.1))
+
       pub well : (most : ℕ) → Deep most
       well zero t depth of known e = absurd cc
       well (suc most) t zero of known e = absurd cc
@@ -284,8 +285,11 @@ module _ (scripts : Scripts) where
               let whole : (both (each (λ one. type_to depth scripts home one >>= as_key (place_in home (type_place one))) keys) (type_to depth scripts home value) >>= (λ parts. Ok (Table parts.0 parts.1))) ≡ Ok of = rw is at (rw is at known) in
               let (made, both_ok, last) = ok_bind (both (each (λ one. type_to depth scripts home one >>= as_key (place_in home (type_place one))) keys) (type_to depth scripts home value)) (λ parts. Ok (Table parts.0 parts.1)) of whole in
               let pair = ok_both (each (λ one. type_to depth scripts home one >>= as_key (place_in home (type_place one))) keys) (type_to depth scripts home value) made both_ok in
-              rw (in_table t place keys value is) ((rw is tt), all_append TreeWell (flat_map within keys) (within value)
-              (flat_within TreeWell within keys (keys_well depth keys made.0 pair.0)) (deep value depth made.1 pair.1 (rw is at e)))
+              rw (in_table t place keys value is) (
+                (rw is tt),
+                all_append TreeWell (flat_map within keys) (within value)
+                    (flat_within TreeWell within keys (keys_well depth keys made.0 pair.0)) (deep value depth made.1 pair.1 (rw is at e)),
+              )
           by (written.Set place keys) is deep =
               let whole : (each (λ one. type_to depth scripts home one >>= as_key (place_in home (type_place one))) keys >>= (λ parts. Ok (Set parts))) ≡ Ok of = rw is at (rw is at known) in
               let (made, each_ok, last) = ok_bind (each (λ one. type_to depth scripts home one >>= as_key (place_in home (type_place one))) keys) (λ parts. Ok (Set parts)) of whole in

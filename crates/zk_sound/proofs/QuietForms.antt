@@ -150,8 +150,11 @@ module _ (env : Env) (tells : (name : Name) → Tells (type_named env.scripts en
         named name items is of e =
             let told = parts_right depth within place parts (call_of check env name items >>= value_of place) e in
             let quiet = untold_bind (call_of check env name items) (value_of place) told.0 in
-            rw (is, of) (create_right env tells check most well whole name items quiet, all_append (CallRight env.scripts) (calls env depth first) (in_items (calls env depth) items ++ in_parts (calls env depth) parts) (name_right env depth first name is)
-            (all_append (CallRight env.scripts) (in_items (calls env depth) items) (in_parts (calls env depth) parts) (call_right env tells check most well depth within name items quiet) told.1))
+            rw (is, of) (
+              create_right env tells check most well whole name items quiet,
+              all_append (CallRight env.scripts) (calls env depth first) (in_items (calls env depth) items ++ in_parts (calls env depth) parts) (name_right env depth first name is)
+                  (all_append (CallRight env.scripts) (in_items (calls env depth) items) (in_parts (calls env depth) parts) (call_right env tells check most well depth within name items quiet) told.1),
+            )
 
         by : (f : Expr-F Expr Item Part Link) (g : Part-F Expr Item Part Link) → out-Expr first ≡ f → out-Part part ≡ g
             → Right env (named_call env.home whole first (part ∷ parts) ++ (calls env depth first ++ in_parts (calls env depth) (part ∷ parts)))

@@ -5,6 +5,8 @@ use Rattle.std.specs.Prelude.{◌||◌, is_some, if◌then◌else◌}
 use Rattle.std.specs.List.{AllByRecursion, list_any}
 use Rattle.std.specs.Str.{bytes_eq}
 use Rattle.std.proofs.lemmas.Slice.Eq.{bytes_eq-Decides}
+use Rattle.zk_base.specs.declared.numbers.EventNo.{EventNo}
+use Rattle.zk_base.specs.declared.numbers.HookNo.{HookNo}
 use Rattle.zk_base.specs.declared.numbers.RecordNo.{RecordNo}
 use Rattle.zk_tree.specs.declared.expr.Expr.{Expr, out-Expr}
 use Rattle.zk_tree.specs.declared.expr.Expr.TheOpen.{Expr-F, Part-F, Item-F}
@@ -26,7 +28,7 @@ use Rattle.zk_typed.specs.declared.script.primitive.BuiltIn.TheVariants as built
 use Rattle.zk_typed.specs.declared.script.primitive.Relation.{Relation}
 use Rattle.zk_typed.specs.Checked.{Checked, broken, along, broken_anyway, with_rule, elsewhere, ◌>>=◌, ◌>>◌, both, each, require, rules_of}
 use Rattle.zk_typed.specs.Expressions.{ends_in_element, left_side, assigned_parts, stepped, unary_typed, compared, arms, choice, wanted_first, size_typed, expr_to}
-use Rattle.zk_typed.specs.LogCalls.{Call, item_expr, named_call, expr_calls_to, creates, word_of, settings, setting, named_record, optional, columns_type, if_known, created_in, log_type, text_of, path_literal, log_path, named_signature, event_setting, policy_setting, names_setting, among, setting_name, setting_rules, only_settings, not_local, needed, stream_settings, create_typed, filter_settings, filter_typed, with_settings, row_wanted, log_with, astray, log_arguments, log_of, log_word, wordless, all_wordless, log_behind, log_typed}
+use Rattle.zk_typed.specs.LogCalls.{Call, item_expr, named_call, expr_calls_to, creates, word_of, settings, setting, named_record, optional, columns_type, if_known, created_in, log_type, text_of, path_literal, log_path, named_signature, event_setting, policy_setting, string_set, names_setting, among, setting_name, setting_rules, only_settings, not_local, needed, stream_settings, create_typed, filter_settings, filter_typed, with_settings, row_wanted, log_with, astray, log_arguments, log_of, log_word, wordless, all_wordless, log_behind, log_typed}
 use Rattle.zk_typed.specs.Making.{argument, arguments, printed, format_text, fmt_typed, cat_typed, lone_argument, copy_typed, by_row, built_in_typed, function_typed, gives, made_of, made_by, item_values, call_typed, call_of, hook_typed, element, part_typed, parts_typed, value_of, called_name, post_typed, record_typed, members_in}
 use Rattle.zk_typed.specs.Names.{Declared, Meant, Variable, KnownType, WrittenType, Word, Event, Hook, Function, BuiltInFunction, Log, LogFunction, CreateStream, AddFilter, RemoveFilter, RemoveDefaultFilter, Write, Signature, look_up}
 use Rattle.zk_typed.specs.Operations.{built_in_type, binary_of, relation_of}
@@ -113,7 +115,7 @@ module _ (env : Env) (tells : (name : Name) → Tells (type_named env.scripts en
   log_path_right depth within one e = path_right depth within one (untold_bind (path_literal check env one) _ e)
 
   names_right : (depth : ℕ) → depth ≤ most → (one : Expr) → Quiet (names_setting check env one) → Right env (calls env depth one)
-  names_right depth within one e = well depth within _ one (untold_bind (check _ one) _ e)
+  names_right depth within one e = well depth within (Wants string_set) one (untold_bind (check (Wants string_set) one) _ e)
 
   signed_right : (depth : ℕ) (kind : Meant → Option Signature) (wanted : Option (List ValueType)) (one : Expr) → Quiet (named_signature env kind wanted one) → Right env (calls env depth one)
   signed_right depth kind wanted one e = by (out-Expr one) refl
@@ -322,10 +324,10 @@ module _ (env : Env) (tells : (name : Name) → Tells (type_named env.scripts en
       known : Option RecordNo
       known = if_known (columns_in items)
 
-      rest : Checked _
+      rest : Checked (Option (List ℕ) × Option HookNo)
       rest = both (optional (log_path check env) (setting (codes "path") items)) (optional (policy_setting env known) (setting (codes "policy") items))
 
-      ev : Checked _
+      ev : Checked (Option EventNo)
       ev = optional (event_setting env known) (setting (codes "ev") items)
 
       only : Checked (Unit {0})

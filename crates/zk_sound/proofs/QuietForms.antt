@@ -159,7 +159,10 @@ module _ (env : Env) (tells : (name : Name) → Tells (type_named env.scripts en
         by : (f : Expr-F Expr Item Part Link) (g : Part-F Expr Item Part Link) → out-Expr first ≡ f → out-Part part ≡ g
             → Right env (named_call env.home whole first (part ∷ parts) ++ (calls env depth first ++ in_parts (calls env depth) (part ∷ parts)))
         by (written.Name name) (written.Call items) is of = named name items is of (rw (is, of) at e)
-        by f g is of = rw (is, of) (plain (rw (is, of) at e))
+        by f g is of =
+            let none : named_call env.home whole first (part ∷ parts) ≡ [] = rw (is, of) refl in
+            let none_called : called_name first (part ∷ parts) ≡ None = rw (is, of) refl in
+            rw none (plain (rw none_called at e))
 
     -- Forms ------------------------------------------------------------------------------------------------------------
 

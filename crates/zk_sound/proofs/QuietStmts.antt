@@ -1,5 +1,5 @@
 -- Where no rule of a script is told, each log that has a stream has a record type that is known.
-use Rattle.std.proofs.Common.{◌≡◌, ◌≢◌, ◌≤◌, ℕ, zero, suc, ◌==◌, Bool, true, false, List, [], ◌∷◌, ◌++◌, filter, flat_map, map, codes, Option, Some, None, Ok, Err, refl, arith}
+use Rattle.std.proofs.Common.{◌≡◌, ◌≢◌, ◌≤◌, ℕ, zero, suc, ◌==◌, Bool, true, false, not, List, [], ◌∷◌, ◌++◌, filter, flat_map, map, codes, Option, Some, None, Ok, Err, refl, arith}
 use Rattle.std.specs.Prelude.{if◌then◌else◌, is_some}
 use Rattle.std.specs.List.{AllByRecursion}
 use Rattle.zk_base.specs.declared.numbers.RecordNo.{RecordNo}
@@ -124,8 +124,9 @@ module _ (env : Env) (tells : (name : Name) → Tells (type_named env.scripts en
       by : (f : Part-F Expr Item Part Link) → out-Part part ≡ f → Right env (in_parts (calls env depth) (part ∷ []))
       by (written.Index own) of =
           let told : Some ([], own) ≡ Some found = rw of at is in
-          let same : own ≡ found.1 = cc in
-          rw (of, same) (all_append (CallRight env.scripts) (flat_map (calls env depth) found.1) [] keys tt)
+          let pair : ([], own) ≡ found = cc in
+          let own_right : Right env (flat_map (calls env depth) own) = rw (← pair) at keys in
+          rw of (all_append (CallRight env.scripts) (flat_map (calls env depth) own) [] own_right tt)
       by f of = absurd (let told : None ≡ Some found = rw of at is in cc)
   fronts depth (part ∷ second ∷ more) found is front keys = by (indexed (second ∷ more)) refl
     where
@@ -133,11 +134,13 @@ module _ (env : Env) (tells : (name : Name) → Tells (type_named env.scripts en
       by None k = absurd (let told : None ≡ Some found = rw k at is in cc)
       by (Some inner) k =
           let told : Some (part ∷ inner.0, inner.1) ≡ Some found = rw k at is in
-          let first_same : part ∷ inner.0 ≡ found.0 = cc in
-          let keys_same : inner.1 ≡ found.1 = cc in
-          let parts = all_split (CallRight env.scripts) (in_part (calls env depth) (out-Part part)) (in_parts (calls env depth) inner.0) (rw first_same front) in
-          all_append (CallRight env.scripts) (in_part (calls env depth) (out-Part part)) (in_parts (calls env depth) (second ∷ more)) parts.0 (fronts depth (second ∷ more) inner k parts.1 (rw keys_same keys))
+          let pair : (part ∷ inner.0, inner.1) ≡ found = cc in
+          let before : Right env (in_part (calls env depth) (out-Part part) ++ in_parts (calls env depth) inner.0) = rw (← pair) at front in
+          let after : Right env (flat_map (calls env depth) inner.1) = rw (← pair) at keys in
+          let parts = all_split (CallRight env.scripts) (in_part (calls env depth) (out-Part part)) (in_parts (calls env depth) inner.0) before in
+          all_append (CallRight env.scripts) (in_part (calls env depth) (out-Part part)) (in_parts (calls env depth) (second ∷ more)) parts.0 (fronts depth (second ∷ more) inner k parts.1 after)
 
+  -- what stands before an index, with the call of a name that it begins with, and the keys in the index
   index_right : (depth : ℕ) → depth ≤ depth_max → (whole : Expr) (place : Place) (first : Expr) (parts : List Part) (found : List Part × List Expr) → indexed parts ≡ Some found
       → Quiet (post_typed (expr_to depth_max env) env place first found.0 (called_name first found.0)) → Quiet (each (expr_to depth_max env Nothing) found.1)
       → Right env (named_call env.home whole first parts ++ (calls env depth first ++ in_parts (calls env depth) parts))
@@ -147,10 +150,11 @@ module _ (env : Env) (tells : (name : Name) → Tells (type_named env.scripts en
       by : (f : Part-F Expr Item Part Link) → out-Part part ≡ f → Right env (named_call env.home whole first (part ∷ []) ++ (calls env depth first ++ in_parts (calls env depth) (part ∷ [])))
       by (written.Index own) of =
           let told : Some ([], own) ≡ Some found = rw of at is in
-          let front : [] ≡ found.0 = cc in
-          let quiet : Quiet (expr_to depth_max env Nothing first) = rw (← front) at e in
+          let pair : ([], own) ≡ found = cc in
+          let quiet : Quiet (expr_to depth_max env Nothing first) = rw (← pair) at e in
+          let keys : Quiet (each (expr_to depth_max env Nothing) own) = rw (← pair) at k in
           rw (none_named whole first part own of) (all_append (CallRight env.scripts) (calls env depth first) (in_parts (calls env depth) (part ∷ [])) (well depth within Nothing first quiet)
-          (fronts depth (part ∷ []) found is (rw (← front) tt) (exprs_right env (expr_to depth_max env Nothing) (calls env depth) (λ one. well depth within Nothing one) found.1 k)))
+          (rw of (all_append (CallRight env.scripts) (flat_map (calls env depth) own) [] (exprs_right env (expr_to depth_max env Nothing) (calls env depth) (λ one. well depth within Nothing one) own keys) tt)))
       by f of = absurd (let told : None ≡ Some found = rw of at is in cc)
   index_right depth within whole place first (part ∷ second ∷ more) found is e k = by (indexed (second ∷ more)) refl
     where
@@ -158,13 +162,17 @@ module _ (env : Env) (tells : (name : Name) → Tells (type_named env.scripts en
       by None j = absurd (let told : None ≡ Some found = rw j at is in cc)
       by (Some inner) j =
           let told : Some (part ∷ inner.0, inner.1) ≡ Some found = rw j at is in
-          let front : part ∷ inner.0 ≡ found.0 = cc in
-          let all = post_right env tells (expr_to depth_max env) depth_max well depth within whole place first (part ∷ inner.0) (rw front e) in
+          let pair : (part ∷ inner.0, inner.1) ≡ found = cc in
+          let quiet : Quiet (post_typed (expr_to depth_max env) env place first (part ∷ inner.0) (called_name first (part ∷ inner.0))) = rw (← pair) at e in
+          let keys : Quiet (each (expr_to depth_max env Nothing) inner.1) = rw (← pair) at k in
+          let all = post_right env tells (expr_to depth_max env) depth_max well depth within whole place first (part ∷ inner.0) quiet in
           let head = all_split (CallRight env.scripts) (named_call env.home whole first (part ∷ inner.0)) (calls env depth first ++ in_parts (calls env depth) (part ∷ inner.0)) all in
           let tail = all_split (CallRight env.scripts) (calls env depth first) (in_parts (calls env depth) (part ∷ inner.0)) head.1 in
+          let own = all_split (CallRight env.scripts) (in_part (calls env depth) (out-Part part)) (in_parts (calls env depth) inner.0) tail.1 in
           all_append (CallRight env.scripts) (named_call env.home whole first (part ∷ second ∷ more)) (calls env depth first ++ in_parts (calls env depth) (part ∷ second ∷ more)) head.0
           (all_append (CallRight env.scripts) (calls env depth first) (in_parts (calls env depth) (part ∷ second ∷ more)) tail.0
-          (fronts depth (part ∷ second ∷ more) found is (rw (← front) tail.1) (exprs_right env (expr_to depth_max env Nothing) (calls env depth) (λ one. well depth within Nothing one) found.1 k)))
+          (all_append (CallRight env.scripts) (in_part (calls env depth) (out-Part part)) (in_parts (calls env depth) (second ∷ more)) own.0
+          (fronts depth (second ∷ more) inner j own.1 (exprs_right env (expr_to depth_max env Nothing) (calls env depth) (λ one. well depth within Nothing one) inner.1 keys))))
 
   -- an expression with parts, to each depth
   parted : (depth : ℕ) (one first : Expr) (parts : List Part) → out-Expr one ≡ written.Post first parts → ((less : ℕ) → suc less ≤ depth → Right env (named_call env.home one first parts ++ (calls env less first ++ in_parts (calls env less) parts))) → Right env (calls env depth one)
@@ -362,15 +370,18 @@ module _ (scripts : Scripts) (tells : (home : Home) (t : «Type») → Tells (ty
     abbrev AllRight : List Call → Type 0
     AllRight all = AllByRecursion (CallRight scripts) all
 
+    never_told : (place : Place) (one : Broken) (rules : List Broken) → Quiet (told place (Err (one ∷ rules))) → ⊥
+    never_told place one rules e = by (is_circular (one ∷ rules)) (filter (λ one. not (is_mark one)) (one ∷ rules)) refl refl
+      where
+        by : (circular : Bool) (others : List Broken) → is_circular (one ∷ rules) ≡ circular → filter (λ one. not (is_mark one)) (one ∷ rules) ≡ others → ⊥
+        by false others is of = let never = rw is at e in cc
+        by true [] is of = let never = rw (is, of) at e in cc
+        by true (first ∷ others) is of = let never = rw (is, of) at e in cc
+
     quiet_told : (place : Place) (m : Checked Typed) → Quiet (told place m) → Quiet m
     quiet_told place (Ok one) e = refl
     quiet_told place (Err []) e = refl
-    quiet_told place (Err (one ∷ rules)) e = by (is_circular (one ∷ rules)) (filter (λ one. Rattle.std.proofs.Common.not (is_mark one)) (one ∷ rules)) refl refl
-      where
-        by : (circular : Bool) (others : List Broken) → is_circular (one ∷ rules) ≡ circular → filter (λ one. Rattle.std.proofs.Common.not (is_mark one)) (one ∷ rules) ≡ others → Quiet (Err {A = Typed} (one ∷ rules))
-        by false others is of = absurd (let never = rw is at e in cc)
-        by true [] is of = absurd (let never = rw (is, of) at e in cc)
-        by true (first ∷ others) is of = absurd (let never = rw (is, of) at e in cc)
+    quiet_told place (Err (one ∷ rules)) e = absurd (never_told place one rules e)
 
     checked_right : (wanted : Wanted) (one : Init) → Quiet (init_checked scripts home wanted one) → AllRight (init_calls home (Some one))
     checked_right wanted one e = init_right (env_at scripts home) names_tell wanted one e

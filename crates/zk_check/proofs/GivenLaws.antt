@@ -73,6 +73,13 @@ lent_first {A} {B} view items index item within is =
 pub lent_item : {A B : Type 0} (view : A → B) (items : List A) (index : ℕ) (item : A) → index < length items → item ≡ get_or items index item → view item ≡ get_or (map view items) index (view item)
 lent_item view items index item within is = ap view is ∙ sym (get_or-map view items index item (view item) within)
 
+-- one item less is left, beside what is made of those before it
+pub left_more : {A B C : Type 0} (lent : A → B) (rest : ℕ → List B → List C) (made next whole : List C) (number after : ℕ) (items : List A) (index : ℕ) (item : A) →
+    index < length items → item ≡ get_or items index item → next ++ rest after (drop (index + 1) (map lent items)) ≡ made ++ rest number (lent item ∷ drop (index + 1) (map lent items)) →
+    made ++ rest number (drop index (map lent items)) ≡ whole → next ++ rest after (drop (index + 1) (map lent items)) ≡ whole
+left_more {A} {B} lent rest made next whole number after items index item within is step before =
+    step ∙ ap (λ (left : List B). made ++ rest number left) (sym (lent_first lent items index item within is)) ∙ before
+
 -- a slice to the end
 pub to_end : {A : Type 0} (items : List A) (start : ℕ) → take (length items - start) (drop start items) ≡ drop start items
 to_end items start = take_all (length items - start) (drop start items) (omega (arith, length-drop start items))

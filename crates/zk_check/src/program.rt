@@ -61,6 +61,26 @@ struct Code {
     handlers: Sequence<Handler>,
 }
 
+/// What a program has beside its bodies, part by part.
+fn data_with(
+    files: Vec<Bytes>,
+    records: Vec<RecordType>,
+    logs: Vec<Log>,
+    globals: Vec<ProgramGlobal>,
+) -> Data
+    ensures files { result.files ≡ files.items }
+    ensures records { result.records ≡ records.items }
+    ensures logs { result.logs ≡ logs.items }
+    ensures globals { result.globals ≡ globals.items }
+{
+    Data {
+        files: Sequence::from(files),
+        records: Sequence::from(records),
+        logs: Sequence::from(logs),
+        globals: Sequence::from(globals),
+    }
+}
+
 /// What a program has beside its bodies.
 fn data_of<'a>(
     source: &Source<'a>,
@@ -75,12 +95,27 @@ fn data_of<'a>(
     let records = all_records(source)?;
     let logs = all_logs(source.alloc, source.scripts)?;
     let globals = all_globals(source, values)?;
-    Ok(Data {
-        files: Sequence::from(files),
-        records: Sequence::from(records),
-        logs: Sequence::from(logs),
-        globals: Sequence::from(globals),
-    })
+    Ok(data_with(files, records, logs, globals))
+}
+
+/// The bodies of a program, and its events, part by part.
+fn code_with(
+    functions: Vec<Function>,
+    hooks: Vec<Hook>,
+    events: Vec<Event>,
+    handlers: Vec<Handler>,
+) -> Code
+    ensures functions { result.functions ≡ functions.items }
+    ensures hooks { result.hooks ≡ hooks.items }
+    ensures events { result.events ≡ events.items }
+    ensures handlers { result.handlers ≡ handlers.items }
+{
+    Code {
+        functions: Sequence::from(functions),
+        hooks: Sequence::from(hooks),
+        events: Sequence::from(events),
+        handlers: Sequence::from(handlers),
+    }
 }
 
 /// The bodies of a program, and its events.
@@ -92,12 +127,7 @@ fn code_of(source: &Source<'_>) -> Result<Code, Mem>
     let hooks = all_hooks(source)?;
     let events = all_events(source)?;
     let handlers = all_handlers(source)?;
-    Ok(Code {
-        functions: Sequence::from(functions),
-        hooks: Sequence::from(hooks),
-        events: Sequence::from(events),
-        handlers: Sequence::from(handlers),
-    })
+    Ok(code_with(functions, hooks, events, handlers))
 }
 
 /// A program of its parts.

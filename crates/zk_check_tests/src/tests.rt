@@ -144,8 +144,10 @@ fn scripts_that_break_no_rule_are_accepted(rt: HostRuntime) -> Result<(), Fail> 
     let named = chain(alloc, 300, "", "")?;
     assert_eq!(rt; told(alloc, &[(b"s", &named)])?, None);
     let deeper = chain(alloc, 200, "record { f: ", "; }")?;
-    let place = deeper.len() as u64 - b"record { f: V199; };".len() as u64;
-    let wanted = Some(fault(Rule::Recursive, place));
+    let Some(place) = deeper.len().checked_sub(b"record { f: V199; };".len()) else {
+        return Err(Fail::from("a short chain"));
+    };
+    let wanted = Some(fault(Rule::Recursive, place as u64));
     assert_eq!(rt; told(alloc, &[(b"s", &deeper)])?, wanted);
     Ok(())
 }

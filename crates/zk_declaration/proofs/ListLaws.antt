@@ -1,8 +1,8 @@
 -- Lists, item by item.
-use Rattle.std.proofs.Common.{◌≡◌, ℕ, suc, ◌+◌, ◌<◌, Bool, true, false, ◌&&◌, List, [], ◌∷◌, ◌++◌, length, map, take, drop, get_or, flat_map, refl, ap, sym, ◌∙◌, add-one, drop-cons, append-nil}
+use Rattle.std.proofs.Common.{◌≡◌, ℕ, suc, ◌+◌, ◌<◌, Bool, true, false, ◌&&◌, List, [], ◌∷◌, ◌++◌, length, map, take, drop, get_or, flat_map, refl, ap, sym, ◌∙◌, add-one, drop-cons, append-nil, append_assoc}
 use Rattle.std.specs.List.{list_all}
 use Rattle.std.proofs.lemmas.Grind.{flat_map-append}
-use Rattle.std.proofs.lemmas.List.{take_more}
+use Rattle.std.proofs.lemmas.List.{map-append, take_more}
 
 -- what is left, from an item on
 pub front_of : {A : Type 0} (xs : List A) (i : ℕ) (x : A) → i < length xs → x ≡ get_or xs i x → drop i xs ≡ x ∷ drop (i + 1) xs
@@ -31,3 +31,13 @@ all_turn p xs i x test whole within is e passes before =
 pub all_map : {A B : Type 0} (p : B → Bool) (f : A → B) (xs : List A) → list_all p (map f xs) ≡ list_all (λ x. p (f x)) xs
 all_map p f [] = refl
 all_map p f (x ∷ xs) = ap (λ b. p (f x) && b) (all_map p f xs)
+
+-- what is made of the first of a list, put behind what was there before, with that of one more
+pub mapped_turn : {A B C : Type 0} (f : B → List C) (g : A → B) (before now next : List C) (xs : List A) (i : ℕ) (x : A) → i < length xs → x ≡ get_or xs i x →
+    now ≡ before ++ flat_map f (map g (take i xs)) → next ≡ now ++ f (g x) → next ≡ before ++ flat_map f (map g (take (i + 1) xs))
+mapped_turn f g before now next xs i x within is e d =
+    d ∙ ap (λ all. all ++ f (g x)) e ∙ append_assoc before (flat_map f (map g (take i xs))) (f (g x)) ∙
+    ap (λ more. before ++ more) (sym (
+    ap (λ some. flat_map f (map g some)) (take_more xs i x within ∙ ap (λ one. take i xs ++ one ∷ []) (sym is)) ∙
+    ap (flat_map f) (map-append g (take i xs) (x ∷ [])) ∙ flat_map-append f (map g (take i xs)) (g x ∷ []) ∙
+    ap (λ more. flat_map f (map g (take i xs)) ++ more) (append-nil (f (g x)))))

@@ -97,6 +97,13 @@ round_on scripts round globals types before straight is = record {
       ap (λ after. filled scripts (global_type_to after scripts) (variables scripts)) one;
 }
 
+-- what holds of a list holds of what lends it
+pub carried : (scripts : Scripts) (round : ℕ) (types lent : List GlobalType) → lent ≡ types → IsRound scripts round types → IsRound scripts round lent
+carried scripts round types lent e before = record { types_are = ap (map global_of) e ∙ before.types_are }
+
+pub same_lent : (types next lent other : List GlobalType) → lent ≡ types → other ≡ next → map global_of lent ≡ map global_of other → map global_of types ≡ map global_of next
+same_lent types next lent other e d same = sym (ap (map global_of) e) ∙ same ∙ ap (map global_of) d
+
 -- there is a type for each variable
 pub as_many : (scripts : Scripts) (others : ℕ → Checked ValueType) (types : List GlobalType) → map global_of types ≡ filled scripts others (variables scripts) → length types ≡ length (variables scripts)
 as_many scripts others types e = sym (length-map types global_of) ∙ ap length e ∙ length-map (variables scripts) (λ one. variable_type scripts others (Some one))

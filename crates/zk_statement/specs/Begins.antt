@@ -15,7 +15,7 @@ use Rattle.zk_typed.specs.declared.script.types.ValueType.{ValueType as RustType
 use Rattle.zk_typed.specs.Checked.{Checked, both, each, require, ◌>>=◌, ◌>>◌}
 use Rattle.zk_typed.specs.Forms as form
 use Rattle.zk_typed.specs.Resolving.{type_of}
-use Rattle.zk_typed.specs.Statements.{Context, Locals, place_of, type_for}
+use Rattle.zk_typed.specs.Statements.{Context, Locals, local_type, local_value, local_whole, place_of, type_for}
 use Rattle.zk_typed.specs.Tells.{Tells}
 use Rattle.zk_typed.specs.Types.{ValueType}
 use Rattle.zk_typed.specs.Typing.{Typed, local_meant, local_named}
@@ -53,6 +53,11 @@ stmt_behind given = given >>= (λ one. Ok one.1)
 pub record Begins (begun : Begun) (type : Option (Checked ValueType)) (wanted : Checked (ValueType × form.Stmt)) : Type 0 where
   pub made : Tells stmt_of begun.made (stmt_behind wanted)
   pub known : Told begun.made → known_or (option_map view.type_of begun.value_type) ≡ type_for type wanted
+
+-- an answer tells a `local` with what is said of its name, and the type that the name has from then on, unless memory ran out
+pub record IsMade (begun : Begun) (context : Context) (locals : Locals) (place : Place) (name : Name) (tree : Option «Type») (init : Option Init) : Type 0 where
+  pub made : Tells stmt_of begun.made (local_whole tree init (once name locals place) (local_value context locals place (local_type context locals tree) init))
+  pub known : Told begun.made → known_or (option_map view.type_of begun.value_type) ≡ type_for (local_type context locals tree) (local_value context locals place (local_type context locals tree) init)
 
 -- whether a type is right, and the type, where it is known
 abbrev pub IsKnown : Result RustType Refusal → Result (Unit {0}) Refusal × Option RustType → Type 0

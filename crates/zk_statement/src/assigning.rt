@@ -18,7 +18,7 @@ use zk_base::Mem;
 use zk_expression::{
     Env, Read, Side, assignable, expr_typed, is_wire, left_side, refused, rest_of, wire_read,
 };
-use zk_operator::{Wanted, added_type, one_operand, update_of};
+use zk_operator::{Wanted, added_type, update_of};
 use zk_tree::{Assigning, Expr as Syntax, Place};
 use zk_typed::script::{Action, Expr, FieldNo, Left, Stmt, ValueType};
 use zk_typed::{Refusal, Rule};
@@ -37,6 +37,20 @@ fn plainly(
     Ok(done(place, Action::Assign(left), operands))
 }
 
+/// A value that is given to a field of a record as it is.
+fn stored(
+    alloc: Global,
+    place: Place,
+    field: FieldNo,
+    to: Expr,
+    value: Expr,
+) -> Result<Stmt, AllocError>
+    ensures { IfOk result (λ made. stmt_of made ≡ form.Do place (action.Assign (left.Field field)) (form.AndExpr (expr_of value) (form.AndExpr (expr_of to) form.NoExpr))) }
+{
+    let operands = Items::from_vec(Vec::from_array(alloc, [value, to])?);
+    Ok(done(place, Action::Assign(Left::Field(field)), operands))
+}
+
 /// A value that is given to a field marked `&wire` of a record. What is read from such a field moves.
 fn moved(
     alloc: Global,
@@ -48,17 +62,18 @@ fn moved(
 ) -> Result<Stmt, Mem>
     ensures { IfOk result (λ made. stmt_of made ≡ moved_to (env_of env.now) place field (expr_of to) (expr_of value)) }
 {
-    match wire_read(alloc, env, value)? {
-        Read::Wire { from, read } => Ok(Stmt::Move {
+    match wire_read(alloc, env, value) {
+        Ok(Read::Wire { from, read }) => Ok(Stmt::Move {
             place,
             to,
             field,
             from,
             read,
         }),
-        Read::Whole(value) => {
-            let operands = one_operand(alloc, to)?;
-            Ok(plainly(alloc, place, Left::Field(field), operands, value)?)
+        Ok(Read::Whole(value)) => Ok(stored(alloc, place, field, to, value)?),
+        Err(refused) => {
+            drop(to);
+            Err(refused)
         }
     }
 }
@@ -74,11 +89,14 @@ fn to_field(
 ) -> Result<Stmt, Mem>
     ensures { IfOk result (λ made. stmt_of made ≡ assigned_to (env_of env.now) place (left.Field field) (form.AndExpr (expr_of to) form.NoExpr) (expr_of value)) }
 {
-    if is_wire(alloc, env, field)? {
-        moved(alloc, env, place, field, to, value)
-    } else {
-        let operands = one_operand(alloc, to)?;
-        Ok(plainly(alloc, place, Left::Field(field), operands, value)?)
+    match is_wire(alloc, env, field) {
+        Ok(true) => moved(alloc, env, place, field, to, value),
+        Ok(false) => Ok(stored(alloc, place, field, to, value)?),
+        Err(refused) => {
+            drop(to);
+            drop(value);
+            Err(refused)
+        }
     }
 }
 
@@ -134,7 +152,10 @@ fn set(
     match expr_typed(alloc, env, Wanted::Type(&side.value_type), right) {
         Ok(one) => match assignable(alloc, place, &side) {
             Ok(()) => Ok(assigned(alloc, env, place, side, one.expr)?),
-            Err(refusal) => Err(refusal),
+            Err(refusal) => {
+                drop(one);
+                Err(refusal)
+            }
         },
         Err(refusal) => Err(refusal),
     }
@@ -176,7 +197,10 @@ fn updated(
                     operands,
                 ))
             }
-            Err(refusal) => Err(refusal),
+            Err(refusal) => {
+                drop(one);
+                Err(refusal)
+            }
         },
         Err(refusal) => Err(refusal),
     }

@@ -16,13 +16,14 @@ ghost use Rattle.zk_typed.specs.Typing as typing;
 ghost use Rattle.zk_typed.specs.declared.script.action.Action.TheVariants as action;
 ghost use Rattle.zk_typed.specs.declared.script.action.Left.TheVariants as left;
 ghost use Rattle.zk_typed.specs.View.{expr_of, stmt_of, type_of};
-ghost use Rattle.zk_statement.specs.Begins.{Begins, IsKnown, declared_type, given_of, is_bare, named, once, seen};
+ghost use Rattle.zk_statement.specs.Begins.{Begins, IsKnown, IsMade, declared_type, given_of, is_bare, named, once, seen};
 ghost use Rattle.zk_statement.specs.Bodies.{Gives, context_of};
 ghost use Rattle.zk_statement.specs.Turns.{names_lent};
 
 use crate::context::{Context, env_in, place_of};
 use crate::made::done;
 use crate::mentions::mentions;
+use crate::turns::new_local;
 use sqlite_items::Items;
 use std::alloc::{AllocError, Global};
 use zk_base::Mem;
@@ -135,8 +136,13 @@ fn give_local(
 ) -> Result<Stmt, Mem>
     ensures { IfOk result (λ made. stmt_of made ≡ form.Do place (action.Assign (left.Local (length (locals_of locals.now)))) (form.AndExpr (expr_of value) form.NoExpr)) }
 {
-    let local = next_local(locals)?;
-    assigned(alloc, place, local, value)
+    match next_local(locals) {
+        Ok(local) => assigned(alloc, place, local, value),
+        Err(refused) => {
+            drop(value);
+            Err(refused)
+        }
+    }
 }
 
 /// A local of a type, without an initial value.
@@ -336,7 +342,10 @@ fn named(
     match made {
         Ok(made) => match once {
             Ok(()) => Ok(made),
-            Err(refusal) => Err(refusal),
+            Err(refusal) => {
+                drop(made);
+                Err(refusal)
+            }
         },
         Err(refusal) => Err(refusal),
     }
@@ -355,8 +364,24 @@ fn is_bare(tree: &Option<Type>, init: &Option<Init>) -> bool
     }
 }
 
+/// What a `local` is at its place, with what is said of its name.
+fn local_made(
+    context: &Context<'_, '_>,
+    locals: &[LocalName<'_>],
+    place: Place,
+    name: &Name,
+    tree: &Option<Type>,
+    init: &Option<Init>,
+) -> Begun
+    ensures { IsMade result (context_of context.now) (locals_of locals.now) place name.now tree.now init.now }
+{
+    let Begun { value_type, made } = local_begun(context, locals, place, tree, init);
+    let once = once(context.alloc, locals, place, name);
+    let made = named(is_bare(tree, init), once, made);
+    Begun { value_type, made }
+}
+
 /// `local`, whose name is visible from its end on.
-#[tactic(auto, using(crate::proofs::BegunLaws::named_whole))]
 pub fn local_stmt<'a>(
     context: &Context<'a, '_>,
     locals: &mut Vec<LocalName<'a>>,
@@ -368,12 +393,19 @@ pub fn local_stmt<'a>(
     ensures { Gives result locals.new.items (spec.local_stated (context_of context.now) (locals_of locals.old.items) place name.now tree.now init.now) }
 {
     let place = place_of(context, place);
-    let Begun { value_type, made } = local_begun(context, locals.as_slice(), place, tree, init);
-    let once = once(context.alloc, locals.as_slice(), place, name);
-    let made = named(is_bare(tree, init), once, made);
-    let name = name.text.as_slice();
-    match locals.push(LocalName { name, value_type }) {
-        Ok(()) => made,
-        Err(_) => Err(Refusal::NoMemory),
+    let Begun { value_type, made } = local_made(
+        context,
+        locals.as_slice(),
+        place,
+        name,
+        tree,
+        init,
+    );
+    match new_local(locals, name.text.as_slice(), value_type) {
+        Ok(_) => made,
+        Err(_) => {
+            drop(made);
+            Err(Refusal::NoMemory)
+        }
     }
 }

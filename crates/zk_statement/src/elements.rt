@@ -23,11 +23,20 @@ use zk_typed::script::{Action, Expr, Stmt};
 use zk_typed::{Refusal, Rule, one_broken};
 
 /// A value and others behind it, as operands.
-fn operands_with(alloc: Global, first: Typed, others: Vec<Typed>) -> Result<Items<Expr>, AllocError>
+pub fn operands_with(
+    alloc: Global,
+    first: Typed,
+    others: Vec<Typed>,
+) -> Result<Items<Expr>, AllocError>
     ensures { IfOk result (λ all. all_of all ≡ form.AndExpr (typed_of first).expr (typing.exprs (typed_all others.items))) }
 {
-    let others = operands_of(alloc, others)?;
-    with_first(alloc, first.expr, others)
+    match operands_of(alloc, others) {
+        Ok(others) => with_first(alloc, first.expr, others),
+        Err(refused) => {
+            drop(first);
+            Err(refused)
+        }
+    }
 }
 
 /// What no element can be.
@@ -73,10 +82,16 @@ fn element_with(
     ensures { Tells all_of result (element_of_parts (env_of env.now) place tables written.now (typed_of one, typed_all keys.items)) }
 {
     match keys_in(tables, &one.value_type) {
-        None => Err(Refusal::Broken(one_broken(alloc, Rule::WrongType, place)?)),
+        None => {
+            drop(one);
+            Err(Refusal::Broken(one_broken(alloc, Rule::WrongType, place)?))
+        }
         Some(types) => match keys_fit(alloc, env, place, types, written, keys) {
             Ok(fitting) => Ok(operands_with(alloc, one, fitting)?),
-            Err(refusal) => Err(refusal),
+            Err(refusal) => {
+                drop(one);
+                Err(refusal)
+            }
         },
     }
 }

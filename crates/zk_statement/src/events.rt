@@ -14,8 +14,8 @@ ghost use Rattle.zk_typed.specs.View.{stmt_of};
 ghost use Rattle.zk_statement.specs.Acting.{delayed, event_of, event_with, queued};
 ghost use Rattle.zk_statement.specs.Bodies.{context_of};
 
-use crate::acting::with_first;
 use crate::context::{Context, check_in, env_in, place_of};
+use crate::elements::operands_with;
 use crate::made::done;
 use std::alloc::{AllocError, Global};
 use zk_base::EventNo;
@@ -111,8 +111,7 @@ fn due(
 ) -> Result<Stmt, AllocError>
     ensures { IfOk result (λ made. stmt_of made ≡ form.Do place (action.Schedule event) (form.AndExpr (typed_of delay).expr (typing.exprs (typed_all args.items)))) }
 {
-    let operands = operands_of(alloc, args)?;
-    let operands = with_first(alloc, delay.expr, operands)?;
+    let operands = operands_with(alloc, delay, args)?;
     Ok(done(place, Action::Schedule(event), operands))
 }
 

@@ -31,9 +31,15 @@ fn choice_of(
     match yes {
         Ok(yes) => match no {
             Ok(no) => Ok(choice(place, test, yes, no)),
-            Err(refused) => Err(refused),
+            Err(refused) => {
+                drop(test);
+                Err(refused)
+            }
         },
-        Err(refused) => Err(refused),
+        Err(refused) => {
+            drop(test);
+            Err(refused)
+        }
     }
 }
 

@@ -62,7 +62,10 @@ pub fn over_and_types(
             let over_place = expr_place(context, over);
             match for_over(context, place, over_place, keys, named, &one) {
                 Ok(types) => Ok((one, types)),
-                Err(refusal) => Err(refusal),
+                Err(refusal) => {
+                    drop(one);
+                    Err(refusal)
+                }
             }
         }
         Err(refusal) => Err(told_twice(context.alloc, refusal)),

@@ -60,8 +60,13 @@ pub fn choice(place: Place, test: Expr, yes: Boxed<Stmt>, no: Boxed<Stmt>) -> St
 pub fn while_loop(alloc: Global, place: Place, test: Expr, body: Stmt) -> Result<Stmt, AllocError>
     ensures { IfOk result (λ made. stmt_of made ≡ form.While place (expr_of test) (stmt_of body)) }
 {
-    let body = Boxed::new(alloc, body)?;
-    Ok(Stmt::While { place, test, body })
+    match Boxed::new(alloc, body) {
+        Ok(body) => Ok(Stmt::While { place, test, body }),
+        Err(refused) => {
+            drop(test);
+            Err(refused)
+        }
+    }
 }
 
 /// `for` over the keys of a table or a set.
@@ -75,13 +80,18 @@ pub fn key_loop(
 ) -> Result<Stmt, AllocError>
     ensures { IfOk result (λ made. stmt_of made ≡ form.ForKeys place names (expr_of over) (stmt_of body)) }
 {
-    let body = Boxed::new(alloc, body)?;
-    Ok(Stmt::ForKeys {
-        place,
-        names,
-        over,
-        body,
-    })
+    match Boxed::new(alloc, body) {
+        Ok(body) => Ok(Stmt::ForKeys {
+            place,
+            names,
+            over,
+            body,
+        }),
+        Err(refused) => {
+            drop(over);
+            Err(refused)
+        }
+    }
 }
 
 /// `for` over the indexes of a vector.
@@ -95,13 +105,18 @@ pub fn index_loop(
 ) -> Result<Stmt, AllocError>
     ensures { IfOk result (λ made. stmt_of made ≡ form.ForIndexes place names (expr_of over) (stmt_of body)) }
 {
-    let body = Boxed::new(alloc, body)?;
-    Ok(Stmt::ForIndexes {
-        place,
-        names,
-        over,
-        body,
-    })
+    match Boxed::new(alloc, body) {
+        Ok(body) => Ok(Stmt::ForIndexes {
+            place,
+            names,
+            over,
+            body,
+        }),
+        Err(refused) => {
+            drop(over);
+            Err(refused)
+        }
+    }
 }
 
 /// `next;`, which stands in a loop.

@@ -42,7 +42,7 @@ fn fitting_local(
 }
 
 /// A new local, by its number. More locals than numbers are more than memory holds.
-fn new_local<'a>(
+pub fn new_local<'a>(
     locals: &mut Vec<LocalName<'a>>,
     name: &'a [u8],
     value_type: Option<ValueType>,

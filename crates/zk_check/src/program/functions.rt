@@ -4,6 +4,7 @@ ghost use Rattle.zk_names.specs.Lent.{declared_of, signature_of, stated_of};
 ghost use Rattle.zk_typed.specs.Names.{Declared as DeclaredName};
 ghost use Rattle.zk_typed.specs.Programs as spec;
 ghost use Rattle.zk_typed.specs.Resolving as resolving;
+ghost use Rattle.zk_typed.specs.Resolving.{Scripts};
 ghost use Rattle.zk_typed.specs.Typing.{is_function};
 ghost use Rattle.zk_typed.specs.View as view;
 ghost use Rattle.zk_typed.specs.View.{type_of};
@@ -137,11 +138,11 @@ fn functions_of<'a>(
 
 /// Adds the function that a declaration is a body of.
 fn add_stated<'a>(
-    source: &Source<'a>,
+    alloc: Global,
     one: Stated<'a>,
     bodies: &mut Groups<FunctionDecl<'a>>,
 ) -> Result<(), Mem>
-    ensures { OnOk result ((name : DeclaredName) → functions_at (scripts_from source.now) bodies.new name ≡ functions_at (scripts_from source.now) bodies.old name ++ stated_function (scripts_from source.now) name (stated_of one.entry)) }
+    ensures { OnOk result ((scripts : Scripts) (name : DeclaredName) → functions_at scripts bodies.new name ≡ functions_at scripts bodies.old name ++ stated_function scripts name (stated_of one.entry)) }
 {
     let home = one.home;
     match one.decl {
@@ -152,14 +153,14 @@ fn add_stated<'a>(
             result_type,
             body,
         } => {
-            let whole = whole_name(source.alloc, home.module_name, name.text.as_slice())?;
+            let whole = whole_name(alloc, home.module_name, name.text.as_slice())?;
             let decl = FunctionDecl {
                 home,
                 params: params.as_slice(),
                 result_type,
                 block: body,
             };
-            bodies.add(source.alloc, whole.as_slice(), decl)?;
+            bodies.add(alloc, whole.as_slice(), decl)?;
             Ok(())
         }
         Decl::Module { .. }
@@ -180,7 +181,7 @@ fn bodies_by_name<'a>(source: &Source<'a>) -> Result<Groups<FunctionDecl<'a>>, M
 {
     let mut bodies = Groups::new(source.alloc);
     for one in source.scripts.names.stated() {
-        add_stated(source, *one, &mut bodies)?;
+        add_stated(source.alloc, *one, &mut bodies)?;
     }
     Ok(bodies)
 }

@@ -1,9 +1,12 @@
 use Rattle.zk_expression.specs.Envs.{env_of}
-use Rattle.zk_statement.proofs.PlainForms.{print_at, schedule_at, expr_at}
+use Rattle.zk_statement.proofs.PlainForms.{print_at, event_at, schedule_at, expr_at}
 use Rattle.zk_statement.proofs.plain.plain_stmt.Goals as goal
 
 pub returns-in-Print : goal.returns-in-Print
 returns-in-Print c depth some = print_at _ depth _ _ _ _ _ _ some c.in-Print.is c.as_slice.ensures c.print_stmt.ensures
+
+pub returns-in-Event : goal.returns-in-Event
+returns-in-Event c depth some = event_at _ depth _ _ _ _ _ _ _ some c.in-Event.is c.as_slice-in-Event.ensures c.event_stmt.ensures
 
 pub returns-in-Schedule : goal.returns-in-Schedule
 returns-in-Schedule c depth some = schedule_at _ depth _ _ _ _ _ _ _ _ some c.in-Schedule.is c.as_slice-in-Schedule.ensures c.schedule_stmt.ensures

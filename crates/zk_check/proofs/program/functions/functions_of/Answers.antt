@@ -1,6 +1,4 @@
-use Rattle.std.proofs.Common.{◌≡◌, ℕ, ◌+◌, ◌<◌, List, [], ◌∷◌, ◌++◌, length, map, flat_map, take, get_or, ap, sym, ◌∙◌, append-nil, arith}
-use Rattle.std.proofs.lemmas.Grind.{flat_map-append}
-use Rattle.std.proofs.lemmas.List.{map-append, take_more}
+use Rattle.std.proofs.Common.{List, ◌++◌, map, ap, sym, ◌∙◌, arith}
 use Rattle.zk_names.specs.Lent.{declared_of}
 use Rattle.zk_typed.specs.Program as program
 use Rattle.zk_typed.specs.Typing.{is_function}
@@ -9,14 +7,8 @@ use Rattle.zk_typed.specs.View as view
 use Rattle.zk_declaration.specs.Choosing.{chosen}
 use Rattle.zk_declaration.specs.Sources.{scripts_from}
 use Rattle.zk_check.proofs.ProgramLaws.{gathered, kept}
+use Rattle.zk_check.proofs.PushLaws.{gathered_more}
 use Rattle.zk_check.proofs.program.functions.functions_of.Goals as goal
-
--- what comes of the items so far, and of one more
-gathered_more : {A B C : Type 0} (f : B → List C) (g : A → B) (xs : List A) (i : ℕ) (x : A) → i < length xs → x ≡ get_or xs i x →
-    flat_map f (map g (take (i + 1) xs)) ≡ flat_map f (map g (take i xs)) ++ f (g x)
-gathered_more f g xs i x within is =
-    ap (λ some. flat_map f (map g some)) (take_more xs i x within ∙ ap (λ one. take i xs ++ one ∷ []) (sym is)) ∙ ap (flat_map f) (map-append g (take i xs) (x ∷ [])) ∙
-    flat_map-append f (map g (take i xs)) (g x ∷ []) ∙ ap (λ more. flat_map f (map g (take i xs)) ++ more) (append-nil (f (g x)))
 
 pub loop-one-preserved : goal.loop-one-preserved
 loop-one-preserved c =

@@ -174,12 +174,12 @@ module _ (env : Env) where
 
     -- brackets whose items are judged are found right
     bracket_right : (depth : ℕ) → depth ≤ most → (one : Expr) (place : ℕ) (items : List Item) → out-Expr one ≡ written.List place items → ((less : ℕ) → less ≤ most → Right (in_items (calls less) items)) → Right (calls depth one)
-    bracket_right depth within one place items is h = list_right depth one place items is (λ less under. h less (omega arith))
+    bracket_right depth within one place items is h = list_right depth one place items is (λ less under. h less (omega (arith, within, under)))
 
     entry_parts : (depth : ℕ) → depth ≤ most → (one left right : Expr) (place : ℕ) (items : List Item) → out-Expr one ≡ written.Assign left assigning.Set right → out-Expr left ≡ written.List place items
         → ((less : ℕ) → less ≤ most → Right (in_items (calls less) items)) → ((less : ℕ) → less ≤ most → Right (calls less right)) → Right (calls depth one)
     entry_parts depth within one left right place items is of keys value =
-        assign_right depth one left assigning.Set right is (λ less under. (list_right less left place items of (λ lower below. keys lower (omega arith)), value less (omega arith)))
+        assign_right depth one left assigning.Set right is (λ less under. (list_right less left place items of (λ lower below. keys lower (omega (arith, within, under, below))), value less (omega (arith, within, under))))
 
     loose_finds : (depth : ℕ) → depth ≤ most → (wanted : Wanted) → FindsIn depth (loose check env wanted)
     loose_finds depth within wanted one e = by (out-Expr one) refl

@@ -26,9 +26,9 @@ use Rattle.zk_typed.specs.declared.script.primitive.Binary.{Binary}
 use Rattle.zk_typed.specs.declared.script.primitive.BuiltIn.{BuiltIn}
 use Rattle.zk_typed.specs.declared.script.primitive.BuiltIn.TheVariants as built_in
 use Rattle.zk_typed.specs.declared.script.primitive.Relation.{Relation}
-use Rattle.zk_typed.specs.Checked.{Checked, broken, along, broken_anyway, with_rule, elsewhere, ◌>>=◌, ◌>>◌, both, each, require, rules_of}
+use Rattle.zk_typed.specs.Checked.{Checked, broken, broken_anyway, with_rule, elsewhere, ◌>>=◌, ◌>>◌, both, each, require, rules_of}
 use Rattle.zk_typed.specs.Expressions.{ends_in_element, left_side, assigned_parts, stepped, unary_typed, compared, arms, choice, wanted_first, size_typed, expr_to}
-use Rattle.zk_typed.specs.LogCalls.{Call, item_expr, named_call, expr_calls_to, creates, word_of, settings, setting, named_record, optional, columns_type, if_known, created_in, log_type, text_of, path_literal, log_path, named_signature, event_setting, policy_setting, string_set, names_setting, among, setting_name, setting_rules, only_settings, not_local, needed, stream_settings, create_typed, filter_settings, filter_typed, with_settings, row_wanted, log_with, astray, log_arguments, log_of, log_word, wordless, all_wordless, log_behind, log_typed}
+use Rattle.zk_typed.specs.LogCalls.{Call, item_expr, named_call, expr_calls_to, creates, word_of, settings, setting, named_record, optional, columns_type, if_known, created_in, log_type, text_of, path_literal, log_path, named_signature, event_setting, policy_setting, string_set, names_setting, among, setting_name, setting_rules, only_settings, not_local, stream_settings, create_typed, filter_settings, filter_typed, with_settings, row_wanted, log_with, astray, log_arguments, log_of, log_word, wordless, all_wordless, log_behind, log_typed}
 use Rattle.zk_typed.specs.Making.{argument, arguments, printed, format_text, fmt_typed, cat_typed, lone_argument, copy_typed, by_row, built_in_typed, function_typed, gives, made_of, made_by, item_values, call_typed, call_of, hook_typed, element, part_typed, parts_typed, value_of, called_name, post_typed, record_typed, members_in}
 use Rattle.zk_typed.specs.Names.{Declared, Meant, Variable, KnownType, WrittenType, Word, Event, Hook, Function, BuiltInFunction, Log, LogFunction, CreateStream, AddFilter, RemoveFilter, RemoveDefaultFilter, Write, Signature, look_up}
 use Rattle.zk_typed.specs.Operations.{built_in_type, binary_of, relation_of}

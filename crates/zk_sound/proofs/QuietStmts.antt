@@ -34,7 +34,7 @@ use Rattle.zk_tree.specs.declared.types.Type.TheOpen.{Type-F}
 use Rattle.zk_tree.specs.declared.types.Type.TheOpen as form_of
 use Rattle.zk_typed.specs.declared.rule.Rule.TheVariants as rule
 use Rattle.zk_typed.specs.declared.refusal.Broken.{Broken}
-use Rattle.zk_typed.specs.Checked.{Checked, broken, broken_anyway, elsewhere, ◌>>=◌, ◌>>◌, both, each, require, rules_of}
+use Rattle.zk_typed.specs.Checked.{Checked, broken, elsewhere, ◌>>=◌, ◌>>◌, both, each, require, rules_of}
 use Rattle.zk_typed.specs.Declarations.{is_mark, is_circular, bodiless, env_at, told_type, global_type, type_rules, local_rules, maybe_rules, param_rules, attr_rules, is_one_of, const_attribute, with_value, global_attrs}
 use Rattle.zk_typed.specs.Declaring.{variable_meaning, scripts_of}
 use Rattle.zk_typed.specs.Errors.{errors, told, init_place, telling_value, init_checked, value_rules, no_value, signature_rules, bodiless_rules, variable_rules, redef_wants, redef_value, redef_rules, number_of_variable, body_context, param_locals, body_made, within_of, result_wanted, event_rules, function_rules, function_head, head_rules, kind_of, priority_rules, decl_rules}

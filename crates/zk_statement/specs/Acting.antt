@@ -19,7 +19,7 @@ use Rattle.zk_typed.specs.declared.rule.Rule.TheVariants as rule
 use Rattle.zk_typed.specs.declared.script.action.Action.{Action}
 use Rattle.zk_typed.specs.declared.script.action.Action.TheVariants as action
 use Rattle.zk_typed.specs.declared.script.types.SimpleType.{SimpleType}
-use Rattle.zk_typed.specs.Checked.{Checked, both, each, broken, ◌>>=◌, ◌>>◌}
+use Rattle.zk_typed.specs.Checked.{Checked, both, each, broken, ◌>>=◌, ◌>>◌, broken_anyway}
 use Rattle.zk_typed.specs.Forms as form
 use Rattle.zk_typed.specs.Making.{Called, Gives, Performs, call_of, called_name, keys_fit, post_typed, printed}
 use Rattle.zk_typed.specs.Statements.{Context, Locals, check_in, do_with, env_of, event_args, keys_in, place_of}

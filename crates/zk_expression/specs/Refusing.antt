@@ -1,7 +1,6 @@
 -- What is refused of a construct for a rule of its own, beside what is broken in its parts.
-use Rattle.std.specs.Prelude.{◌≡◌, Bool, true, false, List, [], ◌∷◌, Result, Ok, Err}
+use Rattle.std.specs.Prelude.{◌≡◌, Bool, true, false, [], ◌∷◌, Result, Ok, Err}
 use Rattle.zk_tree.specs.declared.place.Place.{Place}
-use Rattle.zk_typed.specs.declared.refusal.Broken.{Broken as BrokenRule}
 use Rattle.zk_typed.specs.declared.refusal.Refusal.{Refusal}
 use Rattle.zk_typed.specs.declared.refusal.Refusal.TheVariants.{Broken, NoMemory}
 use Rattle.zk_typed.specs.declared.rule.Rule.{Rule}

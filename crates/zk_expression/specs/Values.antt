@@ -7,7 +7,7 @@ use Rattle.zk_tree.specs.declared.expr.Item.{Item}
 use Rattle.zk_tree.specs.declared.expr.Link.{Link}
 use Rattle.zk_tree.specs.declared.expr.Part.{Part}
 use Rattle.zk_tree.specs.Value as plain
-use Rattle.zk_typed.specs.Checked.{Checked, ◌>>=◌, ◌>>◌, broken, broken_anyway}
+use Rattle.zk_typed.specs.Checked.{Checked, ◌>>=◌, ◌>>◌, broken_anyway}
 use Rattle.zk_typed.specs.declared.rule.Rule.TheVariants as rule
 use Rattle.zk_typed.specs.Expressions.{assigned_parts, wanted_first, compared, unary_typed, size_typed, choice}
 use Rattle.zk_typed.specs.Making.{post_typed, called_name, hook_typed, brackets_typed, container_typed, members_in}

@@ -1,5 +1,5 @@
 //! The typing of calls of the log framework (Zeek manual, Logging Framework).
-ghost use Rattle.std.specs.Prelude.{◌≡◌, codes, ◌∷◌, [], Err, IfOk, Option, is_some};
+ghost use Rattle.std.specs.Prelude.{◌≡◌, codes, [], Err, IfOk, Option, is_some};
 ghost use Rattle.zk_names.specs.Lent.{declared_of, log_function_of};
 ghost use Rattle.zk_operator.specs.Views.{typed_of};
 ghost use Rattle.zk_tree.specs.declared.expr.Item.{out-Item};

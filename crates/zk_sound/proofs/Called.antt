@@ -1,6 +1,6 @@
 -- Calls that the rules make have types: of functions, of hooks, of built-in functions and of the log framework.
 use Rattle.std.proofs.Common.{◌≡◌, ℕ, ◌==◌, length, Bool, true, false, List, [], ◌∷◌, Option, Some, None, Ok, refl, sym, ap, subst, ◌∙◌, Err}
-use Rattle.std.specs.Prelude.{if◌then◌else◌, codes}
+use Rattle.std.specs.Prelude.{if◌then◌else◌}
 use Rattle.std.specs.List.{AllByRecursion}
 use Rattle.zk_base.specs.declared.numbers.RecordNo.{RecordNo}
 use Rattle.zk_tree.specs.declared.expr.Expr.{Expr, out-Expr}
@@ -18,7 +18,7 @@ use Rattle.zk_typed.specs.declared.script.primitive.BuiltIn.TheVariants as built
 use Rattle.zk_typed.specs.declared.script.primitive.Primitive.TheVariants as primitive
 use Rattle.zk_typed.specs.Checked.{Checked, broken, elsewhere, ◌>>=◌, ◌>>◌, both, each, or_broken, broken_anyway, with_rule, require}
 use Rattle.zk_typed.specs.Forms as form
-use Rattle.zk_typed.specs.LogCalls.{is_log_word, if_word, word_of, log_type, stream_type, log_form, log_no, setting, path_literal, path_or_module, of_known, places_of, keeps, logged, leaves, create_typed, filter_typed, with_settings, bracketed, row_wanted, log_with, log_of, log_word, log_typed, stream_settings, filter_settings, log_arguments, log_behind, astray, all_wordless}
+use Rattle.zk_typed.specs.LogCalls.{is_log_word, if_word, word_of, log_type, stream_type, log_form, log_no, path_literal, path_or_module, of_known, places_of, keeps, logged, leaves, create_typed, filter_typed, with_settings, bracketed, row_wanted, log_with, log_of, log_word, log_typed, stream_settings, filter_settings, log_arguments, log_behind, astray, all_wordless}
 use Rattle.zk_typed.specs.Making.{Called, Gives, Performs, gives, built_in_call, text_literal, printed, format_text, fmt_typed, cat_typed, copy_typed, by_row, built_in_typed, with_result, function_typed, lone_argument, made_of, call_typed, hook_typed, value_of, part_typed, parts_typed, call_of, post_typed, argument, arguments, element, field_of, verbs_take, item_values, made_by}
 use Rattle.zk_typed.specs.Names.{Declared, Meant, KnownType, WrittenType, Variable, Hook, Function, BuiltInFunction, Log, LogFunction, CreateStream, AddFilter, RemoveFilter, RemoveDefaultFilter, Write, Signature, look_up}
 use Rattle.zk_typed.specs.Operations.{built_in_type}

@@ -1,5 +1,5 @@
 -- A field of a typed program that is marked `&log` is of a type that columns have.
-use Rattle.std.proofs.Common.{◌≡◌, ℕ, ◌-◌, ◌==◌, Bool, true, false, not, List, [], ◌∷◌, ◌++◌, filter, flat_map, length, map, codes, Option, Some, None, Ok, Err, refl, sym, ap, subst, ◌∙◌, append-nil}
+use Rattle.std.proofs.Common.{◌≡◌, ℕ, ◌-◌, Bool, true, false, not, List, [], ◌∷◌, ◌++◌, filter, flat_map, length, map, codes, Option, Some, None, Ok, Err, refl, sym, ap, ◌∙◌, append-nil}
 use Rattle.std.specs.Prelude.{◌||◌, if◌then◌else◌, slice_get}
 use Rattle.std.specs.List.{AllByRecursion, list_all}
 use Rattle.std.proofs.lemmas.Bool.{and_parts}
@@ -11,7 +11,7 @@ use Rattle.zk_tree.specs.declared.decl.Decl.TheOpen as decl
 use Rattle.zk_tree.specs.declared.decl.Lasting.{Lasting}
 use Rattle.zk_tree.specs.declared.name.Name.{Name}
 use Rattle.zk_tree.specs.declared.place.Place.{Place}
-use Rattle.zk_tree.specs.declared.stmt.Block.{Block, out-Block}
+use Rattle.zk_tree.specs.declared.stmt.Block.{Block}
 use Rattle.zk_tree.specs.declared.stmt.Init.{Init}
 use Rattle.zk_tree.specs.declared.types.Attr.{Attr}
 use Rattle.zk_tree.specs.declared.types.Field.{Field, out-Field}
@@ -28,21 +28,21 @@ use Rattle.zk_typed.specs.Checked.{Checked, broken, ◌>>=◌, ◌>>◌, both, e
 use Rattle.zk_typed.specs.Columns.{record_fields}
 use Rattle.zk_typed.specs.Declarations.{attr_rules, is_one_of, with_value, const_attribute, nothing, fields_rules, field_rules, nested_to, is_column, is_too_deep, parts_rules, type_rules, local_rules, maybe_rules, param_rules, recursive_rules, global_attrs}
 use Rattle.zk_typed.specs.Declaring.{variable_meaning, scripts_of}
-use Rattle.zk_typed.specs.Errors.{errors, init_checked, value_rules, signature_rules, no_value, bodiless_rules, variable_rules, added_rules, field_names, redef_record_rules, event_rules, function_rules, function_head, head_rules, kind_of, priority_rules, body_context, param_locals, body_made, within_of, result_wanted, decl_rules}
+use Rattle.zk_typed.specs.Errors.{errors, init_checked, value_rules, signature_rules, no_value, bodiless_rules, variable_rules, added_rules, field_names, redef_record_rules, event_rules, function_rules, function_head, head_rules, kind_of, priority_rules, body_context, param_locals, body_made, within_of, result_wanted}
 use Rattle.zk_typed.specs.LoadOrder.{File, Home, Stated, load_order}
-use Rattle.zk_typed.specs.Names.{Node, RecordNode, EnumNode, Meant, Signature, Written, node, type_nodes, field_types, param_types, decl_types, decl_nodes, all_nodes, is_record, whole_name, look_up}
+use Rattle.zk_typed.specs.Names.{Node, RecordNode, EnumNode, Signature, Written, node, type_nodes, field_types, param_types, decl_types, decl_nodes, all_nodes, is_record, whole_name, look_up}
 use Rattle.zk_typed.specs.Predefined as predefined
 use Rattle.zk_typed.specs.Program.{RecordType, Field as KnownField}
 use Rattle.zk_typed.specs.Programs.{checked_or, field_of, record_of, typed_program}
 use Rattle.zk_typed.specs.Resolving.{Scripts, FieldInfo, place_in, hushed, type_of, type_named, deeper, fields_of, own_fields, added_fields, is_that, written_field, known_field}
 use Rattle.zk_typed.specs.Statements.{Within, InFunction}
 use Rattle.zk_typed.specs.Types.{ValueType, Record}
-use Rattle.zk_typed.specs.Typing.{Wanted, wanted_of}
+use Rattle.zk_typed.specs.Typing.{wanted_of}
 use Rattle.zk_typed.specs.Within.{depth_max, within, maybe_one, mentions, local_types}
 use Rattle.zk_sound.specs.Having.{FieldLogs}
 use Rattle.zk_sound.proofs.Fields.{FieldWell, NodeWell, AllWell, typed_untold, field_well, well, opened, flat_within}
 use Rattle.zk_sound.proofs.Growth.{all_append, all_get, all_map}
-use Rattle.zk_sound.proofs.Locals.{Known, body_known}
+use Rattle.zk_sound.proofs.Locals.{body_known}
 use Rattle.zk_sound.proofs.Tables.{all_filter}
 use Rattle.zk_sound.proofs.Told.{Tells, Untold, none_told, all_types_tell, right_told, untold_both, untold_bind}
 

@@ -36,7 +36,7 @@ use Rattle.zk_sound.specs.Having.{NamesTake, NameTakes, LoopTakes, StmtFits, Stm
 use Rattle.zk_sound.specs.Agreeing.{EnvAgrees, StmtLogsFit, StmtsLogsFit, LocalsAgree, StandsIn}
 use Rattle.zk_sound.proofs.Growth.{got_behind, got_last}
 use Rattle.zk_sound.proofs.Same.{same_type_is}
-use Rattle.zk_sound.proofs.Checks.{Sound, sound_bind, sound_after, never_ok, sound_require, sound_both, sound_any, sound_is, sound_ok}
+use Rattle.zk_sound.proofs.Checks.{Sound, sound_bind, sound_after, sound_require, sound_both, sound_any, sound_is, sound_ok}
 use Rattle.zk_sound.proofs.Formed.{types_of, IsForm, Formed, have_forms, at_type}
 use Rattle.zk_sound.proofs.Constructed.{braces_sound}
 use Rattle.zk_sound.proofs.Judged.{local_is, expr_sound}

@@ -1,7 +1,7 @@
 -- A field that is marked `&log` is of a type that columns have, wherever its record type stands in the texts.
-use Rattle.std.proofs.Common.{◌≡◌, ◌≤◌, ℕ, zero, suc, ◌+◌, ◌-◌, ◌==◌, Bool, true, false, not, List, [], ◌∷◌, ◌++◌, filter, flat_map, length, map, codes, Option, Some, None, Ok, Err, refl, sym, ap, subst, ◌∙◌, arith, append-nil}
-use Rattle.std.specs.Prelude.{◌&&◌, ◌||◌, if◌then◌else◌, is_some, slice_get}
-use Rattle.std.specs.List.{AllByRecursion, list_any, list_all}
+use Rattle.std.proofs.Common.{◌≡◌, ℕ, zero, suc, ◌+◌, ◌-◌, Bool, true, false, not, List, [], ◌∷◌, ◌++◌, flat_map, codes, Ok, Err, refl, sym, ap, subst, ◌∙◌, append-nil}
+use Rattle.std.specs.Prelude.{◌&&◌, ◌||◌, is_some}
+use Rattle.std.specs.List.{AllByRecursion, list_any}
 use Rattle.std.specs.Str.{bytes_eq}
 use Rattle.std.proofs.lemmas.Bool.{and_parts}
 use Rattle.std.proofs.lemmas.Slice.Eq.{bytes_eq-Decides}
@@ -9,7 +9,7 @@ use Rattle.zk_tree.specs.declared.name.Name.{Name}
 use Rattle.zk_tree.specs.declared.place.Place.{Place}
 use Rattle.zk_tree.specs.declared.types.Attr.{Attr}
 use Rattle.zk_tree.specs.declared.types.Field.{Field, out-Field}
-use Rattle.zk_tree.specs.declared.types.Param.{Param, out-Param}
+use Rattle.zk_tree.specs.declared.types.Param.{Param}
 use Rattle.zk_tree.specs.declared.types.Type.{«Type», out-Type, roll-Type}
 use Rattle.zk_tree.specs.declared.types.Type as tree
 use Rattle.zk_tree.specs.declared.types.Type.TheViews.{roll-out-Type}
@@ -20,11 +20,11 @@ use Rattle.zk_tree.specs.Places.{type_place}
 use Rattle.zk_typed.specs.declared.rule.Rule.{Rule}
 use Rattle.zk_typed.specs.declared.rule.Rule.TheVariants as rule
 use Rattle.zk_typed.specs.declared.script.types.SimpleType.{SimpleType}
-use Rattle.zk_typed.specs.Checked.{Checked, broken, elsewhere, ◌>>=◌, ◌>>◌, both, each, require, rules_of}
+use Rattle.zk_typed.specs.Checked.{Checked, broken, ◌>>=◌, ◌>>◌, both, each, require, rules_of}
 use Rattle.zk_typed.specs.Declarations.{is_one_of, is_expiry, attr_rules, with_value, is_column, field_attribute, nothing, field_default, env_at, field_rules, fields_rules, nested_to}
 use Rattle.zk_typed.specs.LoadOrder.{Home}
 use Rattle.zk_typed.specs.Names.{Node, RecordNode, EnumNode, node}
-use Rattle.zk_typed.specs.Resolving.{Scripts, place_in, as_key, has_attr, formed, type_to, type_of}
+use Rattle.zk_typed.specs.Resolving.{Scripts, place_in, as_key, has_attr, type_to, type_of}
 use Rattle.zk_typed.specs.Types.{ValueType, Simple, Record, Table, Set, Vector}
 use Rattle.zk_typed.specs.Within.{within}
 use Rattle.zk_sound.proofs.Growth.{all_append}

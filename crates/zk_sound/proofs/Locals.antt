@@ -1,11 +1,9 @@
 -- The types of locals are known, where no rule of their body is told.
-use Rattle.std.proofs.Common.{◌≡◌, ◌≤◌, ℕ, zero, suc, Bool, true, false, not, List, [], ◌∷◌, ◌++◌, flat_map, Option, Some, None, Ok, Err, refl, sym, ap, ◌∙◌, arith, append-nil}
-use Rattle.std.specs.Prelude.{◌&&◌, is_some, if◌then◌else◌}
-use Rattle.std.specs.List.{AllByRecursion, list_all}
-use Rattle.std.proofs.lemmas.Bool.{and_parts}
+use Rattle.std.proofs.Common.{◌≡◌, ℕ, zero, suc, Bool, true, false, not, List, [], ◌∷◌, ◌++◌, flat_map, Option, Some, None, Ok, refl, sym, ap, ◌∙◌, append-nil}
+use Rattle.std.specs.Prelude.{is_some}
+use Rattle.std.specs.List.{AllByRecursion}
 use Rattle.zk_tree.specs.declared.expr.Expr.{Expr}
 use Rattle.zk_tree.specs.declared.name.Name.{Name}
-use Rattle.zk_tree.specs.declared.place.Place.{Place}
 use Rattle.zk_tree.specs.declared.stmt.Block.{Block, out-Block}
 use Rattle.zk_tree.specs.declared.stmt.Init.{Init}
 use Rattle.zk_tree.specs.declared.stmt.Keys.{Keys}
@@ -21,9 +19,9 @@ use Rattle.zk_typed.specs.Checked.{Checked, ◌>>=◌, ◌>>◌, both, each, req
 use Rattle.zk_typed.specs.Forms as form
 use Rattle.zk_typed.specs.Resolving.{type_of}
 use Rattle.zk_typed.specs.Statements as statements
-use Rattle.zk_typed.specs.Statements.{Context, Locals, Judge, Stated, looping, env_of, check_in, place_of, init_typed, local_type, local_wants, local_value, local_whole, local_stated, for_over, for_names, wanted_names, types_or_unknown, stmts_typed, block_typed, if_typed, while_typed, for_typed, stmt_to, body_typed}
+use Rattle.zk_typed.specs.Statements.{Context, Locals, Judge, looping, env_of, check_in, place_of, init_typed, local_wants, local_stated, for_over, for_names, wanted_names, types_or_unknown, stmts_typed, block_typed, stmt_to, body_typed}
 use Rattle.zk_typed.specs.Types.{ValueType}
-use Rattle.zk_typed.specs.Typing.{Nothing, Wants, expr_place, local_meant, local_named}
+use Rattle.zk_typed.specs.Typing.{Nothing, Wants, expr_place, local_meant}
 use Rattle.zk_typed.specs.Predefined as type
 use Rattle.zk_typed.specs.Within.{depth_max, maybe_one, mentions, stmt_locals, local_types}
 use Rattle.zk_sound.proofs.Growth.{all_append}

@@ -1,44 +1,37 @@
 -- Where no rule of an expression is told, each call in it that gives a log a stream says its record type: calls and what is left of
 -- the forms.
-use Rattle.std.proofs.Common.{◌≡◌, ◌≤◌, ℕ, zero, suc, ◌==◌, Bool, true, false, not, List, [], ◌∷◌, ◌++◌, length, flat_map, codes, Option, Some, None, Ok, Err, refl, subst, arith}
-use Rattle.std.specs.Prelude.{◌||◌, is_some, if◌then◌else◌}
-use Rattle.std.specs.List.{AllByRecursion, list_any}
+use Rattle.std.proofs.Common.{◌≡◌, ◌≤◌, ℕ, ◌==◌, Bool, true, false, not, List, [], ◌∷◌, length, codes, Option, Some, None, Ok, Err, refl, subst}
+use Rattle.std.specs.Prelude.{◌||◌, is_some}
+use Rattle.std.specs.List.{AllByRecursion}
 use Rattle.std.specs.Str.{bytes_eq}
 use Rattle.std.proofs.lemmas.Slice.Eq.{bytes_eq-Decides}
 use Rattle.zk_base.specs.declared.numbers.EventNo.{EventNo}
 use Rattle.zk_base.specs.declared.numbers.HookNo.{HookNo}
 use Rattle.zk_base.specs.declared.numbers.RecordNo.{RecordNo}
 use Rattle.zk_tree.specs.declared.expr.Expr.{Expr, out-Expr}
-use Rattle.zk_tree.specs.declared.expr.Expr.TheOpen.{Expr-F, Part-F, Item-F}
+use Rattle.zk_tree.specs.declared.expr.Expr.TheOpen.{Expr-F, Item-F}
 use Rattle.zk_tree.specs.declared.expr.Expr.TheOpen as written
 use Rattle.zk_tree.specs.declared.expr.Item.{Item, out-Item}
-use Rattle.zk_tree.specs.declared.expr.Link.{Link, out-Link}
-use Rattle.zk_tree.specs.declared.expr.Part.{Part, out-Part}
+use Rattle.zk_tree.specs.declared.expr.Link.{Link}
+use Rattle.zk_tree.specs.declared.expr.Part.{Part}
 use Rattle.zk_tree.specs.declared.name.Name.{Name}
-use Rattle.zk_tree.specs.declared.operator.Comparing.{Comparing}
-use Rattle.zk_tree.specs.declared.operator.Level.{Level}
-use Rattle.zk_tree.specs.declared.operator.Prefix.{Prefix}
-use Rattle.zk_tree.specs.declared.operator.Prefix.TheVariants as prefix
 use Rattle.zk_tree.specs.declared.place.Place.{Place}
 use Rattle.zk_typed.specs.declared.rule.Rule.{Rule}
 use Rattle.zk_typed.specs.declared.rule.Rule.TheVariants as rule
-use Rattle.zk_typed.specs.declared.script.primitive.Binary.{Binary}
 use Rattle.zk_typed.specs.declared.script.primitive.BuiltIn.{BuiltIn}
 use Rattle.zk_typed.specs.declared.script.primitive.BuiltIn.TheVariants as built_in
-use Rattle.zk_typed.specs.declared.script.primitive.Relation.{Relation}
-use Rattle.zk_typed.specs.Checked.{Checked, broken, broken_anyway, with_rule, elsewhere, ◌>>=◌, ◌>>◌, both, each, require, rules_of}
-use Rattle.zk_typed.specs.Expressions.{ends_in_element, left_side, assigned_parts, stepped, unary_typed, compared, arms, choice, wanted_first, size_typed, expr_to}
-use Rattle.zk_typed.specs.LogCalls.{Call, item_expr, named_call, expr_calls_to, creates, word_of, settings, setting, named_record, optional, columns_type, if_known, created_in, log_type, text_of, path_literal, log_path, named_signature, event_setting, policy_setting, string_set, names_setting, among, setting_name, setting_rules, only_settings, not_local, stream_settings, create_typed, filter_settings, filter_typed, with_settings, row_wanted, log_with, astray, log_arguments, log_of, log_word, wordless, all_wordless, log_behind, log_typed}
-use Rattle.zk_typed.specs.Making.{argument, arguments, printed, format_text, fmt_typed, cat_typed, lone_argument, copy_typed, by_row, built_in_typed, function_typed, gives, made_of, made_by, item_values, call_typed, call_of, hook_typed, element, part_typed, parts_typed, value_of, called_name, post_typed, record_typed, members_in}
-use Rattle.zk_typed.specs.Names.{Declared, Meant, Variable, KnownType, WrittenType, Word, Event, Hook, Function, BuiltInFunction, Log, LogFunction, CreateStream, AddFilter, RemoveFilter, RemoveDefaultFilter, Write, Signature, look_up}
-use Rattle.zk_typed.specs.Operations.{built_in_type, binary_of, relation_of}
+use Rattle.zk_typed.specs.Checked.{Checked, broken, broken_anyway, with_rule, ◌>>◌, both, each, require, rules_of}
+use Rattle.zk_typed.specs.LogCalls.{Call, item_expr, word_of, settings, setting, optional, columns_type, if_known, created_in, log_type, path_literal, log_path, named_signature, event_setting, policy_setting, string_set, names_setting, among, setting_name, setting_rules, only_settings, not_local, stream_settings, create_typed, filter_settings, filter_typed, with_settings, row_wanted, log_with, astray, log_arguments, log_of, log_word, wordless, all_wordless, log_behind, log_typed}
+use Rattle.zk_typed.specs.Making.{argument, arguments, printed, format_text, lone_argument, by_row, built_in_typed, gives, made_of, made_by, item_values, call_typed, call_of, hook_typed, record_typed}
+use Rattle.zk_typed.specs.Names.{Declared, Meant, KnownType, WrittenType, Hook, Function, BuiltInFunction, Log, LogFunction, CreateStream, AddFilter, RemoveFilter, RemoveDefaultFilter, Write, Signature, look_up}
+use Rattle.zk_typed.specs.Operations.{built_in_type}
 use Rattle.zk_typed.specs.Predefined as type
 use Rattle.zk_typed.specs.Resolving.{Scripts, params_of, type_named}
 use Rattle.zk_typed.specs.Types.{ValueType, Record}
-use Rattle.zk_typed.specs.Typing.{Typed, Env, at, Wanted, Nothing, Wants, Unclear, Check, fit, on_item, left_of_in, linked, chained, expr_place, found, is_local}
+use Rattle.zk_typed.specs.Typing.{Typed, Env, at, Nothing, Wants, Unclear, Check, on_item, expr_place, found, is_local}
 use Rattle.zk_sound.specs.Agreeing.{IsKnown}
 use Rattle.zk_sound.proofs.Growth.{all_append}
-use Rattle.zk_sound.proofs.Quiet.{Quiet, CallRight, Right, FindsRight, calls, in_items, never_quiet, never_named, quiet_with, quiet_along, list_right, name_right, items_right, exprs_right, item_right, argument_right, each_right, values_right, arguments_right, record_right, brackets_right, bracket_right, left_finds, items_find, container_right}
+use Rattle.zk_sound.proofs.Quiet.{Quiet, CallRight, Right, FindsRight, calls, in_items, never_quiet, never_named, quiet_with, quiet_along, name_right, items_right, item_right, argument_right, each_right, values_right, arguments_right, record_right, bracket_right}
 use Rattle.zk_sound.proofs.Told.{Tells, untold_both, untold_bind}
 
 -- Settings by their names ----------------------------------------------------------------------------------------------

@@ -1,7 +1,5 @@
 -- Where no rule of an expression is told, each call in it that gives a log a stream says its record type: all forms.
-use Rattle.std.proofs.Common.{◌≡◌, ◌≤◌, ℕ, zero, suc, Bool, true, false, List, [], ◌∷◌, ◌++◌, flat_map, Option, Some, None, Ok, Err, refl, arith}
-use Rattle.std.specs.Prelude.{if◌then◌else◌}
-use Rattle.std.specs.List.{AllByRecursion}
+use Rattle.std.proofs.Common.{◌≡◌, ◌≤◌, ℕ, zero, suc, Bool, true, false, List, [], ◌∷◌, ◌++◌, flat_map, Option, Some, None, refl, arith}
 use Rattle.zk_tree.specs.declared.expr.Expr.{Expr, out-Expr}
 use Rattle.zk_tree.specs.declared.expr.Expr.TheOpen.{Expr-F, Part-F}
 use Rattle.zk_tree.specs.declared.expr.Expr.TheOpen as written
@@ -16,16 +14,15 @@ use Rattle.zk_tree.specs.declared.operator.Prefix.TheVariants as prefix
 use Rattle.zk_tree.specs.declared.place.Place.{Place}
 use Rattle.zk_typed.specs.declared.rule.Rule.TheVariants as rule
 use Rattle.zk_typed.specs.declared.script.primitive.Binary.{Binary}
-use Rattle.zk_typed.specs.declared.script.primitive.Direction.{Direction}
 use Rattle.zk_typed.specs.declared.script.primitive.Relation.{Relation}
 use Rattle.zk_typed.specs.Checked.{Checked, ◌>>=◌, ◌>>◌, both, each}
-use Rattle.zk_typed.specs.Expressions.{ends_in_element, left_side, assigned_parts, stepped, unary_typed, compared, arms, choice, wanted_first, expr_to}
-use Rattle.zk_typed.specs.LogCalls.{Call, item_expr, named_call}
+use Rattle.zk_typed.specs.Expressions.{ends_in_element, left_side, assigned_parts, unary_typed, compared, arms, choice, wanted_first, expr_to}
+use Rattle.zk_typed.specs.LogCalls.{Call, named_call}
 use Rattle.zk_typed.specs.Making.{argument, part_typed, parts_typed, value_of, called_name, call_of, post_typed, hook_typed}
 use Rattle.zk_typed.specs.Operations.{binary_of, relation_of}
 use Rattle.zk_typed.specs.Predefined as type
 use Rattle.zk_typed.specs.Resolving.{type_named}
-use Rattle.zk_typed.specs.Typing.{Typed, Env, at, Wanted, Nothing, Wants, Unclear, Check, fit, left_of_in, linked, chained, expr_place, found, name_typed}
+use Rattle.zk_typed.specs.Typing.{Typed, Env, at, Wanted, Nothing, Wants, Unclear, Check, fit, left_of_in, linked, chained, expr_place, found}
 use Rattle.zk_sound.proofs.Growth.{all_append}
 use Rattle.zk_sound.proofs.Quiet.{Quiet, CallRight, Right, FindsRight, calls, in_items, never_quiet, name_right, exprs_right, left_finds, items_find, container_right, brackets_right}
 use Rattle.zk_sound.proofs.QuietCalls.{call_right, hook_right, create_right}

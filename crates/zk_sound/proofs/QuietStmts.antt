@@ -1,6 +1,5 @@
 -- Where no rule of a script is told, each log that has a stream has a record type that is known.
-use Rattle.std.proofs.Common.{◌≡◌, ◌≢◌, ◌≤◌, ℕ, zero, suc, ◌==◌, Bool, true, false, not, List, [], ◌∷◌, ◌++◌, filter, flat_map, map, codes, Option, Some, None, Ok, Err, refl, arith}
-use Rattle.std.specs.Prelude.{if◌then◌else◌, is_some}
+use Rattle.std.proofs.Common.{◌≡◌, ◌≢◌, ◌≤◌, ℕ, zero, suc, ◌==◌, Bool, true, false, not, List, [], ◌∷◌, ◌++◌, filter, flat_map, codes, Option, Some, None, Ok, Err, refl, arith}
 use Rattle.std.specs.List.{AllByRecursion}
 use Rattle.zk_base.specs.declared.numbers.RecordNo.{RecordNo}
 use Rattle.zk_tree.specs.declared.decl.BodyKind.{BodyKind}
@@ -22,7 +21,6 @@ use Rattle.zk_tree.specs.declared.place.Place.{Place}
 use Rattle.zk_tree.specs.declared.stmt.Block.{Block, out-Block}
 use Rattle.zk_tree.specs.declared.stmt.Init.{Init}
 use Rattle.zk_tree.specs.declared.stmt.Init.TheVariants as init
-use Rattle.zk_tree.specs.declared.stmt.Keys.{Keys}
 use Rattle.zk_tree.specs.declared.stmt.Stmt.{Stmt, out-Stmt}
 use Rattle.zk_tree.specs.declared.stmt.Stmt.TheOpen.{Stmt-F}
 use Rattle.zk_tree.specs.declared.stmt.Stmt.TheOpen as stmt
@@ -34,22 +32,22 @@ use Rattle.zk_tree.specs.declared.types.Type.TheOpen.{Type-F}
 use Rattle.zk_tree.specs.declared.types.Type.TheOpen as form_of
 use Rattle.zk_typed.specs.declared.rule.Rule.TheVariants as rule
 use Rattle.zk_typed.specs.declared.refusal.Broken.{Broken}
-use Rattle.zk_typed.specs.Checked.{Checked, broken, elsewhere, ◌>>=◌, ◌>>◌, both, each, require, rules_of}
-use Rattle.zk_typed.specs.Declarations.{is_mark, is_circular, bodiless, env_at, told_type, global_type, type_rules, local_rules, maybe_rules, param_rules, attr_rules, is_one_of, const_attribute, with_value, global_attrs}
+use Rattle.zk_typed.specs.Checked.{Checked, ◌>>=◌, ◌>>◌, both, each, require, rules_of}
+use Rattle.zk_typed.specs.Declarations.{is_mark, is_circular, bodiless, env_at, told_type, global_type, type_rules, local_rules, maybe_rules, param_rules, attr_rules, is_one_of, const_attribute, with_value}
 use Rattle.zk_typed.specs.Declaring.{variable_meaning, scripts_of}
-use Rattle.zk_typed.specs.Errors.{errors, told, init_place, telling_value, init_checked, value_rules, no_value, signature_rules, bodiless_rules, variable_rules, redef_wants, redef_value, redef_rules, number_of_variable, body_context, param_locals, body_made, within_of, result_wanted, event_rules, function_rules, function_head, head_rules, kind_of, priority_rules, decl_rules}
+use Rattle.zk_typed.specs.Errors.{errors, told, init_place, telling_value, init_checked, value_rules, no_value, signature_rules, bodiless_rules, variable_rules, redef_wants, redef_value, redef_rules, number_of_variable, body_context, param_locals, body_made, within_of, result_wanted, event_rules, function_rules, function_head, head_rules, kind_of, priority_rules}
 use Rattle.zk_typed.specs.Expressions.{Side, left_side, rest_of, added_type, expr_to, expr_typed}
 use Rattle.zk_typed.specs.Forms as form
 use Rattle.zk_typed.specs.LoadOrder.{File, Home, Stated, load_order}
-use Rattle.zk_typed.specs.LogCalls.{Call, item_expr, named_call, expr_calls, maybe_calls, init_calls, stmt_calls_to, block_calls, decl_calls, all_calls, creates, created_in, agreed, one_type, log_type}
+use Rattle.zk_typed.specs.LogCalls.{Call, named_call, expr_calls, maybe_calls, init_calls, stmt_calls_to, block_calls, decl_calls, all_calls, creates, created_in, one_type, log_type}
 use Rattle.zk_typed.specs.Making.{argument, arguments, printed, called_name, call_of, post_typed}
 use Rattle.zk_typed.specs.Names.{Declared, Meant, Variable, Event, Signature, Written, whole_name, look_up}
 use Rattle.zk_typed.specs.Predefined as type
 use Rattle.zk_typed.specs.Resolving.{Scripts, place_in, has_attr, params_of, type_of, type_named}
-use Rattle.zk_typed.specs.Statements.{Context, Locals, Within, InFunction, InHook, InHandler, Judge, env_of, looping, check_in, place_of, init_typed, added, assignment, indexed, element_of, event_args, for_over, for_names, wanted_names, types_or_unknown, local_type, local_wants, local_value, local_whole, local_stated, return_typed, expr_stmt, stmts_typed, block_typed, no_stmt, if_typed, while_typed, for_typed, stmt_to, body_typed}
+use Rattle.zk_typed.specs.Statements.{Context, Locals, Within, InFunction, InHook, InHandler, Judge, env_of, looping, check_in, place_of, init_typed, added, assignment, indexed, element_of, event_args, for_over, for_names, wanted_names, types_or_unknown, local_type, local_value, local_stated, return_typed, expr_stmt, stmts_typed, block_typed, no_stmt, stmt_to, body_typed}
 use Rattle.zk_typed.specs.Statements as statements
 use Rattle.zk_typed.specs.Types.{ValueType}
-use Rattle.zk_typed.specs.Typing.{Typed, Env, at, Wanted, Nothing, Wants, Unclear, wanted_of, Check, expr_place, found, is_local, local_named}
+use Rattle.zk_typed.specs.Typing.{Typed, Env, at, Wanted, Nothing, Wants, Unclear, wanted_of, expr_place, found}
 use Rattle.zk_typed.specs.Within.{depth_max}
 use Rattle.zk_sound.specs.Agreeing.{IsKnown}
 use Rattle.zk_sound.proofs.Columns.{named_tells}

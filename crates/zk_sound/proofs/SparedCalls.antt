@@ -1,6 +1,5 @@
 -- Calls, names and whole expressions that the rules give typed forms spare the globals that no rule lets be assigned.
 use Rattle.std.proofs.Common.{◌≡◌, ℕ, zero, suc, ◌==◌, length, Bool, true, false, ◌||◌, List, [], ◌∷◌, Option, Some, None, Ok, refl, Err}
-use Rattle.std.specs.Prelude.{codes}
 use Rattle.zk_agenda.specs.Sparing.{Numbers, SparesSide, SparesExpr, SpareExprs}
 use Rattle.zk_base.specs.declared.numbers.RecordNo.{RecordNo}
 use Rattle.zk_tree.specs.declared.decl.Lasting.{Lasting}
@@ -33,7 +32,7 @@ use Rattle.zk_typed.specs.Checked.{Checked, broken, elsewhere, ◌>>=◌, ◌>>�
 use Rattle.zk_typed.specs.Expressions.{Side, side, declared_side, name_side, element_side, ends_in_element, left_side, assignable, stepped, unary_typed, compared, arms, choice, wanted_first, size_typed, assigned_parts, expr_to, expr_typed, has_expiry}
 use Rattle.zk_typed.specs.Expressions as expressions
 use Rattle.zk_typed.specs.Forms as form
-use Rattle.zk_typed.specs.LogCalls.{log_form, log_no, setting, path_literal, path_or_module, of_known, places_of, keeps, logged, leaves, create_typed, filter_typed, bracketed, with_settings, row_wanted, log_with, log_of, log_word, log_typed, stream_settings, filter_settings, log_arguments, log_behind, astray, all_wordless}
+use Rattle.zk_typed.specs.LogCalls.{log_form, log_no, path_literal, path_or_module, of_known, places_of, keeps, logged, leaves, create_typed, filter_typed, bracketed, with_settings, row_wanted, log_with, log_of, log_word, log_typed, stream_settings, filter_settings, log_arguments, log_behind, astray, all_wordless}
 use Rattle.zk_typed.specs.Making.{Called, Gives, Performs, gives, built_in_call, printed, format_text, fmt_typed, cat_typed, copy_typed, by_row, built_in_typed, with_result, function_typed, lone_argument, made_of, call_typed, hook_typed, value_of, part_typed, parts_typed, called_name, call_of, post_typed, argument, arguments, element, field_of, verbs_take, members_in, record_typed, item_values, made_by}
 use Rattle.zk_typed.specs.Names.{Declared, Meant, KnownType, WrittenType, Word, Variable, Hook, Function, BuiltInFunction, Log, LogFunction, CreateStream, AddFilter, RemoveFilter, RemoveDefaultFilter, Write, Signature, look_up}
 use Rattle.zk_typed.specs.Operations.{same_type, built_in_type, relation_of}

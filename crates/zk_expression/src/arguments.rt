@@ -82,6 +82,7 @@ impl<F: Fn(Global, &Env<'_>, u64, Wanted<'_>, &Expr) -> Result<Typed, Refusal>> 
     }
 
     /// Items as many as these types, each of its own; those past the types are judged by themselves.
+    #[tactic(auto, using(crate::proofs::Matching::many_told))]
     pub fn as_many(
         &self,
         rule: Rule,

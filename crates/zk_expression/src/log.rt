@@ -107,6 +107,7 @@ impl<F: Fn(Global, &Env<'_>, u64, Wanted<'_>, &Expr) -> Result<Typed, Refusal>> 
     }
 
     /// The settings of `Log::create_stream`, in brackets at a place.
+    #[tactic(auto, using(crate::proofs::Refusals::held))]
     pub fn stream_settings(
         &self,
         brackets: Place,
@@ -160,6 +161,7 @@ impl<F: Fn(Global, &Env<'_>, u64, Wanted<'_>, &Expr) -> Result<Typed, Refusal>> 
     }
 
     /// The settings of `Log::add_filter`, in brackets at a place.
+    #[tactic(auto, using(crate::proofs::Refusals::held))]
     pub fn filter_settings<'i>(
         &self,
         known: Option<RecordNo>,
@@ -320,6 +322,7 @@ impl<F: Fn(Global, &Env<'_>, u64, Wanted<'_>, &Expr) -> Result<Typed, Refusal>> 
     }
 
     /// A function of the log framework with a word, an item behind it, and others that have no place.
+    #[tactic(auto, using(zk_operator::proofs::BothLaws::along_tells, crate::proofs::Refusals::refused))]
     fn log_arguments(
         &self,
         place: Place,
@@ -340,6 +343,7 @@ impl<F: Fn(Global, &Env<'_>, u64, Wanted<'_>, &Expr) -> Result<Typed, Refusal>> 
     }
 
     /// `Log::remove_default_filter` with items behind the word.
+    #[tactic(auto, using(zk_operator::proofs::BothLaws::along_tells, crate::proofs::Refusals::broken_is))]
     fn none_removed(&self, place: Place, items: &[Item]) -> Result<Typed, Refusal>
         requires { Judges self.now.depth (F.pre self.now.part) (F.post self.now.part) }
         ensures { Tells typed_of result (along (broken rule.Arguments place) (logs.astray (rules.expr_to self.now.depth (env_of self.now.env.now)) (env_of self.now.env.now) items.now)) }
@@ -401,6 +405,7 @@ impl<F: Fn(Global, &Env<'_>, u64, Wanted<'_>, &Expr) -> Result<Typed, Refusal>> 
     }
 
     /// A function of the log framework with what its first argument is, and the items behind that.
+    #[tactic(auto, using(zk_operator::proofs::BothLaws::along_tells))]
     fn log_behind(
         &self,
         place: Place,

@@ -108,6 +108,7 @@ impl<F: Fn(Global, &Env<'_>, u64, Wanted<'_>, &Expr) -> Result<Typed, Refusal>> 
     }
 
     /// The items behind the word.
+    #[tactic(auto, using(zk_operator::proofs::BothLaws::along_tells))]
     pub fn all_wordless(&self, function: LogFunction, items: &[Item]) -> Result<(), Refusal>
         requires { Judges self.now.depth (F.pre self.now.part) (F.post self.now.part) }
         ensures { Tells (λ done. done) result (logs.all_wordless (rules.expr_to self.now.depth (env_of self.now.env.now)) (env_of self.now.env.now) (log_function_of function) items.now) }

@@ -109,6 +109,34 @@ record DeclWell (scripts : Scripts) (one : Stated) : Type 0 where
   types : AllByRecursion (AllWell scripts one.home) (decl_types (out-Decl one.decl))
   added : AddedWell scripts one.home (out-Decl one.decl)
 
+-- Where nothing is told of a body, nothing is of its parameters, its locals and its statements.
+pub event_untold : (scripts : Scripts) (home : Home) (place : Place) (kind : BodyKind) (name : Name) (params : List Param) (attrs : List Attr) (block : Block) → rules_of (event_rules scripts home place kind name params attrs block) ≡ []
+    → (rules_of (param_rules scripts home [] params) ≡ []) × (rules_of (local_rules scripts home block) ≡ []) × (rules_of (body_made scripts home (within_of kind) params block).made ≡ [])
+event_untold scripts home place kind name params attrs block e =
+    let head = head_rules scripts home place name (kind_of kind) params None (look_up scripts.names home.module_name name.text) in
+    let marks = attr_rules home (is_one_of (codes "priority" ∷ [])) with_value (λ attr. priority_rules scripts home attr.value) [] attrs in
+    let locals = local_rules scripts home block in
+    let made = (body_made scripts home (within_of kind) params block).made in
+    let first = both (param_rules scripts home [] params) head in
+    let rest = both marks (both locals made) in
+    let parts = untold_both first rest (untold_bind (both first rest) _ e) in
+    let body = untold_both locals made (untold_both marks (both locals made) parts.1).1 in
+    ((untold_both (param_rules scripts home [] params) head parts.0).0, body.0, body.1)
+
+-- Nor is any of the result of a function.
+pub function_untold : (scripts : Scripts) (earlier : List Stated) (home : Home) (place : Place) (name : Name) (params : List Param) («result» : Option «Type») (block : Block) → rules_of (function_rules scripts earlier home place name params «result» block) ≡ []
+    → (rules_of (param_rules scripts home [] params) ≡ []) × (rules_of (maybe_rules scripts home «result») ≡ []) × (rules_of (local_rules scripts home block) ≡ []) × (rules_of (body_made scripts home (InFunction (result_wanted scripts home «result»)) params block).made ≡ [])
+function_untold scripts earlier home place name params «result» block e =
+    let locals = local_rules scripts home block in
+    let made = (body_made scripts home (InFunction (result_wanted scripts home «result»)) params block).made in
+    let first = both (param_rules scripts home [] params) (maybe_rules scripts home «result») in
+    let head = function_head scripts earlier home place name params «result» (whole_name home.module_name name.text) in
+    let rest = both locals made in
+    let parts = untold_both first (both head rest) (untold_bind (both first (both head rest)) _ e) in
+    let types = untold_both (param_rules scripts home [] params) (maybe_rules scripts home «result») parts.0 in
+    let body = untold_both locals made (untold_both head rest parts.1).1 in
+    (types.0, types.1, body.0, body.1)
+
 module _ (scripts : Scripts) (tells : (home : Home) (t : «Type») → Tells (type_of scripts home t)) where
   module _ (home : Home) where
     of_parts : (too_deep : ValueType → Bool) (t : «Type») (of : ValueType) → type_of scripts home t ≡ Ok of → rules_of (parts_rules too_deep scripts home t) ≡ [] → AllWell scripts home t
@@ -226,28 +254,15 @@ module _ (scripts : Scripts) (tells : (home : Home) (t : «Type») → Tells (ty
     event_well : (place : Place) (kind : BodyKind) (name : Name) (params : List Param) (attrs : List Attr) (block : Block) → rules_of (event_rules scripts home place kind name params attrs block) ≡ []
         → AllByRecursion (AllWell scripts home) (param_types params ++ local_types block)
     event_well place kind name params attrs block e =
-        let head = head_rules scripts home place name (kind_of kind) params None (look_up scripts.names home.module_name name.text) in
-        let marks = attr_rules home (is_one_of (codes "priority" ∷ [])) with_value (λ attr. priority_rules scripts home attr.value) [] attrs in
-        let made = (body_made scripts home (within_of kind) params block).made in
-        let first = both (param_rules scripts home [] params) head in
-        let rest = both marks (both (local_rules scripts home block) made) in
-        let parts = untold_both first rest (untold_bind (both first rest) _ e) in
-        let body = untold_both (local_rules scripts home block) made (untold_both marks (both (local_rules scripts home block) made) parts.1).1 in
-        all_append (AllWell scripts home) (param_types params) (local_types block) (param_list params (of_params [] params (untold_both (param_rules scripts home [] params) head parts.0).0)) (of_locals (within_of kind) params block body.0 body.1)
+        let parts = event_untold scripts home place kind name params attrs block e in
+        all_append (AllWell scripts home) (param_types params) (local_types block) (param_list params (of_params [] params parts.0)) (of_locals (within_of kind) params block parts.1 parts.2)
 
     function_well : (earlier : List Stated) (place : Place) (name : Name) (params : List Param) («result» : Option «Type») (block : Block) → rules_of (function_rules scripts earlier home place name params «result» block) ≡ []
         → AllByRecursion (AllWell scripts home) (param_types params ++ (maybe_one «result» ++ local_types block))
     function_well earlier place name params «result» block e =
-        let within_it = InFunction (result_wanted scripts home «result») in
-        let made = (body_made scripts home within_it params block).made in
-        let first = both (param_rules scripts home [] params) (maybe_rules scripts home «result») in
-        let head = function_head scripts earlier home place name params «result» (whole_name home.module_name name.text) in
-        let rest = both (local_rules scripts home block) made in
-        let parts = untold_both first (both head rest) (untold_bind (both first (both head rest)) _ e) in
-        let types = untold_both (param_rules scripts home [] params) (maybe_rules scripts home «result») parts.0 in
-        let body = untold_both (local_rules scripts home block) made (untold_both head rest parts.1).1 in
-        all_append (AllWell scripts home) (param_types params) (maybe_one «result» ++ local_types block) (param_list params (of_params [] params types.0))
-        (all_append (AllWell scripts home) (maybe_one «result») (local_types block) (of_maybe «result» types.1) (of_locals within_it params block body.0 body.1))
+        let parts = function_untold scripts earlier home place name params «result» block e in
+        all_append (AllWell scripts home) (param_types params) (maybe_one «result» ++ local_types block) (param_list params (of_params [] params parts.0))
+        (all_append (AllWell scripts home) (maybe_one «result») (local_types block) (of_maybe «result» parts.1) (of_locals (InFunction (result_wanted scripts home «result»)) params block parts.2 parts.3))
 
   decl_well : (one : Stated) → Untold scripts one → DeclWell scripts one
   decl_well one h = by (out-Decl one.decl) refl

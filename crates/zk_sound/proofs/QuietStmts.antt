@@ -33,15 +33,15 @@ use Rattle.zk_tree.specs.declared.types.Type.TheOpen as form_of
 use Rattle.zk_typed.specs.declared.rule.Rule.TheVariants as rule
 use Rattle.zk_typed.specs.declared.refusal.Broken.{Broken}
 use Rattle.zk_typed.specs.Checked.{Checked, ◌>>=◌, ◌>>◌, both, each, require, rules_of}
-use Rattle.zk_typed.specs.Declarations.{is_mark, is_circular, bodiless, env_at, told_type, global_type, type_rules, local_rules, maybe_rules, param_rules, attr_rules, is_one_of, const_attribute, with_value}
+use Rattle.zk_typed.specs.Declarations.{is_mark, is_circular, bodiless, env_at, told_type, global_type, type_rules, attr_rules, const_attribute, with_value}
 use Rattle.zk_typed.specs.Declaring.{variable_meaning, scripts_of}
-use Rattle.zk_typed.specs.Errors.{errors, told, init_place, telling_value, init_checked, value_rules, no_value, signature_rules, bodiless_rules, variable_rules, redef_wants, redef_value, redef_rules, number_of_variable, body_context, param_locals, body_made, within_of, result_wanted, event_rules, function_rules, function_head, head_rules, kind_of, priority_rules}
+use Rattle.zk_typed.specs.Errors.{errors, told, init_place, telling_value, init_checked, value_rules, no_value, signature_rules, bodiless_rules, variable_rules, redef_wants, redef_value, redef_rules, number_of_variable, body_context, param_locals, within_of, result_wanted, event_rules, function_rules}
 use Rattle.zk_typed.specs.Expressions.{Side, left_side, rest_of, added_type, expr_to, expr_typed}
 use Rattle.zk_typed.specs.Forms as form
 use Rattle.zk_typed.specs.LoadOrder.{File, Home, Stated, load_order}
 use Rattle.zk_typed.specs.LogCalls.{Call, named_call, expr_calls, maybe_calls, init_calls, stmt_calls_to, block_calls, decl_calls, all_calls, creates, created_in, one_type, log_type}
 use Rattle.zk_typed.specs.Making.{argument, arguments, printed, called_name, call_of, post_typed}
-use Rattle.zk_typed.specs.Names.{Declared, Meant, Variable, Event, Signature, Written, whole_name, look_up}
+use Rattle.zk_typed.specs.Names.{Declared, Meant, Variable, Event, Signature, Written, look_up}
 use Rattle.zk_typed.specs.Predefined as type
 use Rattle.zk_typed.specs.Resolving.{Scripts, place_in, has_attr, params_of, type_of, type_named}
 use Rattle.zk_typed.specs.Statements.{Context, Locals, Within, InFunction, InHook, InHandler, Judge, env_of, looping, check_in, place_of, init_typed, added, assignment, indexed, element_of, event_args, for_over, for_names, wanted_names, types_or_unknown, local_type, local_value, local_stated, return_typed, expr_stmt, stmts_typed, block_typed, no_stmt, stmt_to, body_typed}
@@ -50,7 +50,7 @@ use Rattle.zk_typed.specs.Types.{ValueType}
 use Rattle.zk_typed.specs.Typing.{Typed, Env, at, Wanted, Nothing, Wants, Unclear, wanted_of, expr_place, found}
 use Rattle.zk_typed.specs.Within.{depth_max}
 use Rattle.zk_sound.specs.Agreeing.{IsKnown}
-use Rattle.zk_sound.proofs.Columns.{named_tells}
+use Rattle.zk_sound.proofs.Columns.{event_untold, function_untold, named_tells}
 use Rattle.zk_sound.proofs.Fields.{flat_within}
 use Rattle.zk_sound.proofs.Growth.{all_append, all_map}
 use Rattle.zk_sound.proofs.Quiet.{Quiet, CallRight, Right, FindsRight, calls, in_items, never_quiet, never_named, assign_right, exprs_right, name_right, arguments_right, braces_right}
@@ -436,25 +436,11 @@ module _ (scripts : Scripts) (tells : (home : Home) (t : «Type») → Tells (ty
 
     event_given : (place : Place) (kind : BodyKind) (name : Name) (params : List Param) (attrs : List Attr) (block : Block) → Quiet (event_rules scripts home place kind name params attrs block) → AllRight (block_calls home block)
     event_given place kind name params attrs block e =
-        let head = head_rules scripts home place name (kind_of kind) params None (look_up scripts.names home.module_name name.text) in
-        let marks = attr_rules home (is_one_of (codes "priority" ∷ [])) with_value (λ attr. priority_rules scripts home attr.value) [] attrs in
-        let made = (body_made scripts home (within_of kind) params block).made in
-        let first = both (param_rules scripts home [] params) head in
-        let rest = both marks (both (local_rules scripts home block) made) in
-        let parts = untold_both first rest (untold_bind (both first rest) _ e) in
-        let body = untold_both (local_rules scripts home block) made (untold_both marks (both (local_rules scripts home block) made) parts.1).1 in
-        body_right (body_context scripts home (within_of kind)) names_tell (param_locals scripts home params) block body.1
+        body_right (body_context scripts home (within_of kind)) names_tell (param_locals scripts home params) block (event_untold scripts home place kind name params attrs block e).2
 
     function_given : (earlier : List Stated) (place : Place) (name : Name) (params : List Param) («result» : Option «Type») (block : Block) → Quiet (function_rules scripts earlier home place name params «result» block) → AllRight (block_calls home block)
     function_given earlier place name params «result» block e =
-        let within_it = InFunction (result_wanted scripts home «result») in
-        let made = (body_made scripts home within_it params block).made in
-        let first = both (param_rules scripts home [] params) (maybe_rules scripts home «result») in
-        let head = function_head scripts earlier home place name params «result» (whole_name home.module_name name.text) in
-        let rest = both (local_rules scripts home block) made in
-        let parts = untold_both first (both head rest) (untold_bind (both first (both head rest)) _ e) in
-        let body = untold_both (local_rules scripts home block) made (untold_both head rest parts.1).1 in
-        body_right (body_context scripts home within_it) names_tell (param_locals scripts home params) block body.1
+        body_right (body_context scripts home (InFunction (result_wanted scripts home «result»))) names_tell (param_locals scripts home params) block (function_untold scripts earlier home place name params «result» block e).3
 
   decl_right : (one : Stated) → Untold scripts one → AllByRecursion (CallRight scripts) (decl_calls one.home (out-Decl one.decl))
   decl_right one h = by (out-Decl one.decl) refl

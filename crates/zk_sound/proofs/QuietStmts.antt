@@ -202,19 +202,19 @@ module _ (env : Env) (tells : (name : Name) → Tells (type_named env.scripts en
       evaluated e = value_right Nothing one (untold_bind (expr_to depth_max env Nothing one) _ e)
 
       called : (first : Expr) (part : Part) (name : Name) (items : List Item) → out-Expr one ≡ written.Post first (part ∷ []) → out-Expr first ≡ written.Name name → out-Part part ≡ written.Call items → Quiet (call_of (expr_to depth_max env) env name items) → One one
-      called first part name items is of as e = parted depth_max one first (part ∷ []) is (λ less under. rw (of, as) (
+      called first part name items is of too e = parted depth_max one first (part ∷ []) is (λ less under. rw (of, too) (
         create_right env tells (expr_to depth_max env) depth_max well one name items e,
         all_append (CallRight env.scripts) (calls env less first) (in_items (calls env less) items ++ []) (name_right env less first name of)
-        (all_append (CallRight env.scripts) (in_items (calls env less) items) [] (call_right env tells (expr_to depth_max env) depth_max well less (omega (arith, under)) name items e) tt),
+            (all_append (CallRight env.scripts) (in_items (calls env less) items) [] (call_right env tells (expr_to depth_max env) depth_max well less (omega (arith, under)) name items e) tt),
       ))
 
       one_part : (first : Expr) (part : Part) → out-Expr one ≡ written.Post first (part ∷ []) → (f : Expr-F Expr Item Part Link) (g : Part-F Expr Item Part Link) → out-Expr first ≡ f → out-Part part ≡ g → One one
-      one_part first part is (written.Name name) (written.Call items) of as = called first part name items is of as (untold_bind (call_of (expr_to depth_max env) env name items) _ (rw (is, of, as) at e))
-      one_part first part is f g of as = evaluated (rw (is, of, as) at e)
+      one_part first part is (written.Name name) (written.Call items) of too = called first part name items is of too (untold_bind (call_of (expr_to depth_max env) env name items) _ (rw (is, of, too) at e))
+      one_part first part is f g of too = evaluated (rw (is, of, too) at e)
 
       many_parts : (first : Expr) (part second : Part) (more : List Part) → out-Expr one ≡ written.Post first (part ∷ second ∷ more) → (f : Expr-F Expr Item Part Link) (g : Part-F Expr Item Part Link) → out-Expr first ≡ f → out-Part part ≡ g → One one
-      many_parts first part second more is (written.Name name) (written.Call items) of as = evaluated (rw (is, of, as) at e)
-      many_parts first part second more is f g of as = evaluated (rw (is, of, as) at e)
+      many_parts first part second more is (written.Name name) (written.Call items) of too = evaluated (rw (is, of, too) at e)
+      many_parts first part second more is f g of too = evaluated (rw (is, of, too) at e)
 
       by : (f : Expr-F Expr Item Part Link) → out-Expr one ≡ f → One one
       by (written.Assign left operator right) is = assignment_right one left operator right is (rw is at e)

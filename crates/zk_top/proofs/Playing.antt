@@ -27,7 +27,7 @@ use Rattle.zk_top.specs.Logged.{dated, shown_atom, shown_cell, shown_column, sho
 use Rattle.zk_top.specs.Printed.{with_line_ends}
 use Rattle.zk_top.specs.Replay.{Plays, output_at, told_at}
 use Rattle.zk_top.specs.Sink.{Beginning, HasTaken, TakesSome}
-use Rattle.zk_top.specs.Writing.{Output, Begins, and_out, output_of, told_by}
+use Rattle.zk_top.specs.Writing.{Begins, and_out, output_of, told_by}
 use Rattle.zk_top.proofs.Taking.{taken_without_memory}
 
 -- What was told ---------------------------------------------------------------------------------------------------------

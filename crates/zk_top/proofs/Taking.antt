@@ -1,5 +1,5 @@
 -- What a sink has taken so far.
-use Rattle.std.proofs.Common.{◌≡◌, ℕ, ◌+◌, Bool, true, false, cond, List, [], ◌∷◌, ◌++◌, length, filter, codes, refl, sym, ap, subst, ◌∙◌, length-append, arith}
+use Rattle.std.proofs.Common.{◌≡◌, ℕ, ◌+◌, Bool, true, false, cond, List, [], ◌∷◌, ◌++◌, length, filter, codes, refl, ap, ◌∙◌, length-append, arith}
 use Rattle.std.proofs.lemmas.List.Elements.{filter-append}
 use Rattle.std.specs.Str.{bytes_eq}
 use Rattle.zk_base.specs.Shelf.{Outside}
@@ -10,11 +10,10 @@ use Rattle.zk_load.specs.Parts.{DoesAll, DoesPart}
 use Rattle.zk_load.proofs.Doing.{does_both_all, out_of_memory, prefix_none}
 use Rattle.zk_top.specs.declared.sink.Sink.{Sink}
 use Rattle.zk_top.specs.declared.sink.Sink.TheVariants as sink
-use Rattle.zk_top.specs.declared.summary.RowCounts.{RowCounts}
 use Rattle.zk_top.specs.Sink.{Beginning, CanTake, HasTaken, TakesSome}
 use Rattle.zk_top.specs.Summary.{and_one, and_row, counts_of, rows_at}
 use Rattle.zk_top.specs.Writing.{Begins, GivesSome, Output}
-use Rattle.zk_top.proofs.Giving.{all_beside, begun_further, given_and_stopped, given_on, given_without_memory, no_file_begun, part_beside, ready_on}
+use Rattle.zk_top.proofs.Giving.{all_beside, given_and_stopped, given_on, given_without_memory, no_file_begun, part_beside, ready_on}
 use Rattle.zk_top.proofs.Said.{stopped_after}
 
 -- Counts ------------------------------------------------------------------------------------------------------------

@@ -1,5 +1,5 @@
 -- What is said of a run over a capture that is made by rule.
-use Rattle.std.specs.Prelude.{ℕ, ◌+◌, List, [], ◌∷◌, ◌++◌, codes, decimal, filter, length, map, if◌then◌else◌}
+use Rattle.std.specs.Prelude.{ℕ, ◌+◌, List, [], ◌++◌, codes, decimal, filter, length, map, if◌then◌else◌}
 use Rattle.std.specs.Str.{bytes_eq}
 use Rattle.zk_logs.specs.Logs.{Row}
 use Rattle.zk_typed.specs.Running.{Progress, Goes, Floods}

@@ -19,6 +19,7 @@ const CASES: &[Case] = &[
             ),
             (b"b.zeek", b"@load c\nevent zeek_init() { print \"b\"; }\n"),
             (b"c", b"event zeek_init() { print \"c\"; }\n"),
+            (b"./c", b"event zeek_init() { print \"c\"; }\n"),
             (
                 b"s.zeek",
                 b"event zeek_init() { print \"s\"; }\n@load b.zeek\n",

@@ -1,5 +1,4 @@
 use Rattle.std.proofs.Common.{ℕ}
-use Rattle.zk_base.specs.Shelf.{Outside}
 use Rattle.zk_events.specs.Run.{Stage}
 use Rattle.zk_events.specs.Standing.{waiting}
 use Rattle.zk_lower.specs.Told.{Told}

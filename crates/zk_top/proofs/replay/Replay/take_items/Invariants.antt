@@ -1,5 +1,4 @@
 use Rattle.std.proofs.Common.{Bool, List}
-use Rattle.zk_base.specs.Shelf.{Outside}
 use Rattle.zk_events.specs.Run.{Begun}
 use Rattle.zk_pcap.specs.declared.records.Packet.{Packet}
 use Rattle.zk_traffic.specs.declared.item.Item.{Item}

@@ -1,5 +1,4 @@
 use Rattle.std.proofs.Common.{◌≡◌, ◌-◌, ◌^◌, ℕ, List, [], false, Option}
-use Rattle.zk_base.specs.Shelf.{Outside}
 use Rattle.zk_pcap.specs.declared.headers.Header.{Header}
 use Rattle.zk_pcap.specs.declared.records.Packet.{Packet}
 use Rattle.zk_pcap.specs.NetworkTime.{now as network_time}

@@ -12,7 +12,7 @@ ghost use Rattle.zk_expression.specs.Judging.{Judges};
 
 use crate::env::Env;
 use crate::judge::Judge;
-use crate::refusals::with_rule;
+use crate::refuse::with_rule;
 use std::alloc::Global;
 use zk_operator::{Typed, Wanted, along, simple_type, with_part};
 use zk_tree::{Expr, Item, Place};

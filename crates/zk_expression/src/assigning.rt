@@ -9,7 +9,7 @@ ghost use Rattle.zk_expression.specs.Judging.{Judges};
 
 use crate::env::Env;
 use crate::judge::Judge;
-use crate::refusals::wrong;
+use crate::refuse::wrong;
 use crate::side::Side;
 use std::alloc::Global;
 use zk_operator::{Typed, Wanted, added_type, both};

@@ -17,7 +17,7 @@ use crate::called::Called;
 use crate::elements::operands_behind;
 use crate::env::Env;
 use crate::judge::Judge;
-use crate::refusals::{broken, with_rule, wrong};
+use crate::refuse::{broken, with_rule, wrong};
 use crate::rows::built_in_row;
 use std::alloc::{AllocError, Global};
 use zk_base::Bytes;

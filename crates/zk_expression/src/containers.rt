@@ -20,7 +20,7 @@ ghost use Rattle.zk_expression.specs.Parts.{then_unclear};
 use crate::env::Env;
 use crate::judge::Judge;
 use crate::members::{Member, Members, joined};
-use crate::refusals::{unclear, wrong};
+use crate::refuse::{unclear, wrong};
 use sqlite_items::Boxed;
 use std::alloc::{AllocError, Global};
 use zk_base::{Mem, Sequence};

@@ -12,7 +12,7 @@ ghost use Rattle.zk_expression.specs.Envs.{env_of};
 ghost use Rattle.zk_expression.specs.Judging.{Judges};
 
 use crate::env::Env;
-use crate::refusals::wrong;
+use crate::refuse::wrong;
 use std::alloc::Global;
 use zk_operator::{Typed, Wanted, with_part};
 use zk_tree::{Expr, Item};

@@ -31,7 +31,7 @@ mod membership;
 mod names;
 mod parts;
 mod records;
-mod refusals;
+mod refuse;
 mod rows;
 mod side;
 mod whole;
@@ -44,7 +44,7 @@ pub use fields::{Read, is_wire, wire_read};
 pub use found::{Found, look_up};
 pub use judge::Judge;
 pub use names::{local_meant, local_named, name_typed};
-pub use refusals::refused;
+pub use refuse::refused;
 pub use side::{Side, assignable};
 pub use whole::{
     call_of, each_printed, each_typed, expr_typed, init_typed, left_side, post_typed, rest_of,

@@ -21,7 +21,7 @@ use crate::log_columns::is_among;
 use crate::log_made::{default_removed, filter_made, row_written, stream_made};
 use crate::log_parts::{FilterParts, StreamParts};
 use crate::log_words::{LogWord, logged_word};
-use crate::refusals::{broken, refused, with_rule, wrong};
+use crate::refuse::{broken, refused, with_rule, wrong};
 use std::alloc::{AllocError, Global};
 use zk_base::RecordNo;
 use zk_names::{Declared, LogFunction, setting};

@@ -10,7 +10,7 @@ ghost use Rattle.zk_expression.specs.Judging.{Judges};
 
 use crate::env::Env;
 use crate::judge::Judge;
-use crate::refusals::wrong;
+use crate::refuse::wrong;
 use std::alloc::Global;
 use zk_names::LogFunction;
 use zk_operator::{Typed, Wanted, along};

@@ -15,7 +15,7 @@ ghost use Rattle.zk_expression.specs.Parts.{with_last};
 
 use crate::env::Env;
 use crate::judge::Judge;
-use crate::refusals::wrong;
+use crate::refuse::wrong;
 use crate::rows::{alone, simple_types};
 use std::alloc::{AllocError, Global};
 use zk_operator::{Typed, Wanted, with_part};

@@ -16,7 +16,7 @@ use crate::elements::element;
 use crate::env::Env;
 use crate::fields::field_of;
 use crate::judge::Judge;
-use crate::refusals::wrong;
+use crate::refuse::wrong;
 use std::alloc::Global;
 use zk_operator::{Typed, Wanted, applied, both, one_operand};
 use zk_tree::{Expr, Item, Name, Part, Place};

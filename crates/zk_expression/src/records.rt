@@ -20,7 +20,7 @@ ghost use Rattle.zk_expression.specs.Records.{given_of, all_given_of, known_give
 use crate::env::Env;
 use crate::fields::{Read, field_named, wire_read};
 use crate::judge::Judge;
-use crate::refusals::{refused, unclear, wrong};
+use crate::refuse::{refused, unclear, wrong};
 use sqlite_items::Items;
 use std::alloc::{AllocError, Global};
 use std::collections::BTreeSet;

@@ -19,7 +19,7 @@ use Rattle.zk_typed.specs.Checked.{Checked, ◌>>=◌, ◌>>◌, both, each, req
 use Rattle.zk_typed.specs.Forms as form
 use Rattle.zk_typed.specs.Resolving.{type_of}
 use Rattle.zk_typed.specs.Statements as statements
-use Rattle.zk_typed.specs.Statements.{Context, Locals, Judge, looping, env_of, check_in, place_of, init_typed, local_wants, local_stated, for_over, for_names, wanted_names, types_or_unknown, stmts_typed, block_typed, stmt_to, body_typed}
+use Rattle.zk_typed.specs.Statements.{Context, Locals, Judge, looping, env_of, check_in, place_of, init_typed, local_wants, local_value, local_stated, for_over, for_names, wanted_names, types_or_unknown, stmts_typed, block_typed, stmt_to, body_typed}
 use Rattle.zk_typed.specs.Types.{ValueType}
 use Rattle.zk_typed.specs.Typing.{Nothing, Wants, expr_place, local_meant}
 use Rattle.zk_typed.specs.Predefined as type
@@ -105,7 +105,7 @@ local_known context locals tell place name t init e = by init e
 
     by : (init : Option Init) → rules_of (local_stated context locals place name (Some t) init).made ≡ [] → Known context t
     by None e = known (untold_bind written _ (untold_bind (written >>= _) _ e))
-    by (Some init) e = known (untold_bind written _ (untold_both (written >> Ok tt) (init_typed (env_of context locals) (local_wants (Some written)) init) (untold_bind (both (written >> Ok tt) (init_typed (env_of context locals) (local_wants (Some written)) init)) _ (untold_bind _ _ e))).0)
+    by (Some init) e = known (untold_bind written _ (untold_both (written >> Ok tt) (init_typed (env_of context locals) (local_wants (Some written)) init) (untold_bind (both (written >> Ok tt) (init_typed (env_of context locals) (local_wants (Some written)) init)) _ (untold_bind (local_value context locals (place_of context place) (Some written) (Some init)) _ e))).0)
 
 abbrev JudgedKnown : Judge → Type 0
 JudgedKnown judge = (context : Context) (locals : Locals) (one : Stmt) → AllTell context → rules_of (judge context locals one).made ≡ [] → AllByRecursion (Known context) (stmt_locals one)

@@ -1,5 +1,5 @@
 -- Where no rule of a text is told, each call in it that gives a log a stream says its record type: items, records and containers.
-use Rattle.std.proofs.Common.{◌≡◌, ◌≤◌, ℕ, zero, suc, ◌==◌, Bool, true, false, List, [], ◌∷◌, ◌++◌, length, map, drop, flat_map, Option, Some, None, Ok, Err, refl, arith}
+use Rattle.std.proofs.Common.{◌≡◌, ◌≤◌, ℕ, zero, suc, ◌==◌, Bool, true, false, List, [], ◌∷◌, ◌++◌, length, map, drop, flat_map, Option, Some, None, Ok, Err, refl, sym, subst, append_assoc, arith}
 use Rattle.std.specs.List.{AllByRecursion}
 use Rattle.std.proofs.lemmas.Bool.{eqb-true}
 use Rattle.zk_base.specs.declared.numbers.RecordNo.{RecordNo}
@@ -35,14 +35,14 @@ abbrev pub Quiet : {A : Type 0} → Checked A → Type 0
 Quiet m = rules_of m ≡ []
 
 -- what is broken anyway is told
-pub never_quiet : {A B : Type 0} (m : Checked A) (why : Rule) (place : Place) → Quiet {A = B} (broken_anyway m why place) → ⊥
-never_quiet (Ok a) why place e = cc
-never_quiet (Err []) why place e = cc
-never_quiet (Err (one ∷ rules)) why place e = cc
+pub never_quiet : {A : Type 0} (B : Type 0) (m : Checked A) (why : Rule) (place : Place) → Quiet {A = B} (broken_anyway m why place) → ⊥
+never_quiet B (Ok a) why place e = cc
+never_quiet B (Err []) why place e = cc
+never_quiet B (Err (one ∷ rules)) why place e = cc
 
 -- so is a name that is wrong
-pub never_named : {A B : Type 0} (why : Rule) (place : Place) (behind : Checked A) → Quiet {A = B} (wrong_name why place behind) → ⊥
-never_named why place behind e = cc
+pub never_named : {A : Type 0} (B : Type 0) (why : Rule) (place : Place) (behind : Checked A) → Quiet {A = B} (wrong_name why place behind) → ⊥
+never_named B why place behind e = cc
 
 pub quiet_with : {A : Type 0} (m : Checked A) (holds : Bool) (why : Rule) (place : Place) → Quiet (with_rule m (require holds why place)) → Quiet m × (holds ≡ true)
 quiet_with (Ok a) true why place e = (refl, refl)
@@ -66,6 +66,9 @@ in_items more items = flat_map (λ item. more (item_expr item)) items
 module _ (env : Env) where
   abbrev pub Right : List Call → Type 0
   Right calls = AllByRecursion (CallRight env.scripts) calls
+
+  pub grouped : (a b c : List Call) → Right (a ++ (b ++ c)) → Right (a ++ b ++ c)
+  grouped a b c all = subst Right (sym (append_assoc a b c)) all
 
   -- the calls in an expression, to a depth
   abbrev pub calls : ℕ → Expr → List Call
@@ -110,7 +113,7 @@ module _ (env : Env) where
       where
         by : (f : Item-F Expr Item Part Link) → out-Item item ≡ f → Right (calls depth (item_expr item))
         by (written.Value value) is = rw is (h value (rw is at e))
-        by (written.Item::Field place name value) is = absurd (never_quiet (check Nothing value) rule.WrongType (at env place) (rw is at e))
+        by (written.Item::Field place name value) is = absurd (never_quiet _ (check Nothing value) rule.WrongType (at env place) (rw is at e))
 
     pub argument_right : (depth : ℕ) → depth ≤ most → (wanted : Wanted) (item : Item) → Quiet (argument check env wanted item) → Right (calls depth (item_expr item))
     argument_right depth less wanted item e = item_right (check wanted) depth (well depth less wanted) item e
@@ -145,14 +148,14 @@ module _ (env : Env) where
     given_right depth less fields item e = by (out-Item item) refl
       where
         named : (place : ℕ) (name : Name) (value : Expr) (found : Option (ℕ × FieldInfo)) → out-Item item ≡ written.Item::Field place name value → field_named name.text 0 fields ≡ found → Right (calls depth (item_expr item))
-        named place name value None is k = absurd (never_quiet (check Nothing value) rule.Field (at env place) (rw k at (rw is at e)))
+        named place name value None is k = absurd (never_quiet _ (check Nothing value) rule.Field (at env place) (rw k at (rw is at e)))
         named place name value (Some field) is k =
             let told : Quiet (both field.1.field_type (check (wanted_of field.1.field_type) value) >>= _) = rw k at (rw is at e) in
             rw is (well depth less (wanted_of field.1.field_type) value (untold_both field.1.field_type (check (wanted_of field.1.field_type) value) (untold_bind (both field.1.field_type (check (wanted_of field.1.field_type) value)) _ told)).1)
 
         by : (f : Item-F Expr Item Part Link) → out-Item item ≡ f → Right (calls depth (item_expr item))
         by (written.Item::Field place name value) is = named place name value (field_named name.text 0 fields) is refl
-        by (written.Value value) is = absurd (never_quiet (check Nothing value) rule.WrongType (expr_place env value) (rw is at e))
+        by (written.Value value) is = absurd (never_quiet _ (check Nothing value) rule.WrongType (expr_place env value) (rw is at e))
 
     pub record_right : (depth : ℕ) → depth ≤ most → (place : Place) (number : RecordNo) (items : List Item) → Quiet (record_typed check env place number items) → Right (in_items (calls depth) items)
     record_right depth less place number items e = items_right (given_field check env (fields_of env.scripts number.0)) (calls depth) (given_right depth less (fields_of env.scripts number.0)) items
@@ -161,7 +164,7 @@ module _ (env : Env) where
     pub brackets_right : (depth : ℕ) → depth ≤ most → (place : Place) (items : List Item) (wanted : Wanted) → Quiet (brackets_typed check env place items wanted) → Right (in_items (calls depth) items)
     brackets_right depth less place items Unclear e = values_right depth less Unclear items (untold_bind (item_values check Unclear items) _ e)
     brackets_right depth less place items (Wants (Record number)) e = record_right depth less place number items e
-    brackets_right depth less place items wanted e = absurd (never_quiet (item_values check Nothing items) rule.WrongType place e)
+    brackets_right depth less place items wanted e = absurd (never_quiet _ (item_values check Nothing items) rule.WrongType place e)
 
     -- Members of containers --------------------------------------------------------------------------------------------
 
@@ -173,7 +176,7 @@ module _ (env : Env) where
     value_finds depth less wanted one e = well depth less wanted one (untold_bind (check wanted one) _ e)
 
     -- brackets whose items are judged are found right
-    bracket_right : (depth : ℕ) → depth ≤ most → (one : Expr) (place : ℕ) (items : List Item) → out-Expr one ≡ written.List place items → ((less : ℕ) → less ≤ most → Right (in_items (calls less) items)) → Right (calls depth one)
+    pub bracket_right : (depth : ℕ) → depth ≤ most → (one : Expr) (place : ℕ) (items : List Item) → out-Expr one ≡ written.List place items → ((less : ℕ) → less ≤ most → Right (in_items (calls less) items)) → Right (calls depth one)
     bracket_right depth within one place items is h = list_right depth one place items is (λ less under. h less (omega (arith, within, under)))
 
     entry_parts : (depth : ℕ) → depth ≤ most → (one left right : Expr) (place : ℕ) (items : List Item) → out-Expr one ≡ written.Assign left assigning.Set right → out-Expr left ≡ written.List place items
@@ -216,7 +219,7 @@ module _ (env : Env) where
       where
         by : (f : Expr-F Expr Item Part Link) → out-Expr one ≡ f → Right (calls depth one)
         by (written.List place items) is = bracket_right depth within one place items is (λ less under. keys_right less under (at env place) keys items (rw is at e))
-        by f is = absurd (never_quiet (check Nothing one) rule.WrongType (expr_place env one) (rw is at e))
+        by f is = absurd (never_quiet _ (check Nothing one) rule.WrongType (expr_place env one) (rw is at e))
 
     member_finds : (depth : ℕ) → depth ≤ most → (keys : List SimpleType) → FindsIn depth (member_keys check env keys)
     member_finds depth within [] one e = several_right depth within [] one e
@@ -227,7 +230,7 @@ module _ (env : Env) where
     entry_finds depth within keys value one e = by (out-Expr one) refl
       where
         wrong : Quiet {A = List Typed} (broken_anyway (check Nothing one) rule.WrongType (expr_place env one)) → Right (calls depth one)
-        wrong e = absurd (never_quiet (check Nothing one) rule.WrongType (expr_place env one) e)
+        wrong e = absurd (never_quiet _ (check Nothing one) rule.WrongType (expr_place env one) e)
 
         set : (left right : Expr) (f : Expr-F Expr Item Part Link) → out-Expr one ≡ written.Assign left assigning.Set right → out-Expr left ≡ f → Right (calls depth one)
         set left right (written.List place items) is of =
@@ -244,7 +247,7 @@ module _ (env : Env) where
     left_finds depth within one e = by (out-Expr one) refl
       where
         few : (place : ℕ) (items : List Item) → Quiet {A = List Typed} (broken_anyway (each (on_item check env (check Nothing)) items) rule.WrongType (at env place)) → Right (calls depth one)
-        few place items e = absurd (never_quiet (each (on_item check env (check Nothing)) items) rule.WrongType (at env place) e)
+        few place items e = absurd (never_quiet _ (each (on_item check env (check Nothing)) items) rule.WrongType (at env place) e)
 
         by : (f : Expr-F Expr Item Part Link) → out-Expr one ≡ f → Right (calls depth one)
         by (written.List place []) is = few place [] (rw is at e)
@@ -266,12 +269,12 @@ module _ (env : Env) where
       wanted_right container.Table (Table keys value) e = find (entry check env keys value) (entry_finds depth within keys value) (untold_bind (members (entry check env keys value)) _ e)
       wanted_right container.Set (Set keys) e = find (member_keys check env keys) (member_finds depth within keys) (untold_bind (members (member_keys check env keys)) _ e)
       wanted_right container.Vector (Vector item) e = find (one_value check (Wants item)) (value_finds depth within (Wants item)) (untold_bind (members (one_value check (Wants item))) _ e)
-      wanted_right made wanted e = absurd (never_quiet (members (loosely check env made Nothing)) rule.WrongType place e)
+      wanted_right made wanted e = absurd (never_quiet _ (members (loosely check env made Nothing)) rule.WrongType place e)
 
       alone_right : (made : Container) → Quiet (container_alone check env place made members) → Right total
       alone_right container.Set e = find (left_of_in check env) (left_finds depth within) (untold_bind (members (left_of_in check env)) _ e)
       alone_right container.Vector e = find (one_value check Nothing) (value_finds depth within Nothing) (untold_bind (members (one_value check Nothing)) _ e)
-      alone_right container.Table e = absurd (never_quiet (members (loose check env Nothing)) rule.WrongType place e)
+      alone_right container.Table e = absurd (never_quiet _ (members (loose check env Nothing)) rule.WrongType place e)
 
       pub container_right : (made : Container) (wanted : Wanted) → Quiet (container_typed check env place made members wanted) → Right total
       container_right made Nothing e = alone_right made e
@@ -292,4 +295,4 @@ module _ (env : Env) where
         by (Wants (Set keys)) e = wanted_right depth within place members (flat_map (calls depth) values) find container.Set (Set keys) e
         by (Wants (Vector item)) e = wanted_right depth within place members (flat_map (calls depth) values) find container.Vector (Vector item) e
         by Unclear e = find (loose check env Unclear) (loose_finds depth within Unclear) (untold_bind (each (loose check env Unclear) values) _ e)
-        by wanted e = absurd (never_quiet (each (loose check env Nothing) values) rule.WrongType place e)
+        by wanted e = absurd (never_quiet _ (each (loose check env Nothing) values) rule.WrongType place e)

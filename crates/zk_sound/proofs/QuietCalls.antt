@@ -48,11 +48,11 @@ none_of true others e = absurd cc
 -- what holds of each of some names holds of one that is among them
 one_of : (P : List ℕ → Type 0) (name : List ℕ) (names : List (List ℕ)) → among name names ≡ true → AllByRecursion P names → P name
 one_of P name [] e all = absurd cc
-one_of P name (first ∷ names) e all = by (bytes_eq first name) refl
+one_of P name (first ∷ names) e all = by (bytes_eq first name) refl (λ among_more. one_of P name names among_more all.1)
   where
-    by : (same : Bool) → bytes_eq first name ≡ same → P name
-    by true is = subst P ((bytes_eq-Decides first name).0 is) all.0
-    by false is = one_of P name names (rw is at e) all.1
+    by : (same : Bool) → bytes_eq first name ≡ same → (among name names ≡ true → P name) → P name
+    by true is rest = subst P ((bytes_eq-Decides first name).0 is) all.0
+    by false is rest = rest (rw is at e)
 
 -- what a call of `create_stream` says by what stands behind its word
 abbrev said : Scripts → Rattle.zk_typed.specs.LoadOrder.Home → List Item → Option RecordNo
@@ -140,16 +140,18 @@ module _ (env : Env) (tells : (name : Name) → Tells (type_named env.scripts en
       let rules = setting_rules check env allowed before (out-Item item) in
       let more = only_settings check env allowed (setting_name (out-Item item) before) items in
       let parts = untold_both rules more (untold_bind (both rules more) _ e) in
-      by (out-Item item) refl parts.0 parts.1
+      by (out-Item item) refl parts.0 parts.1 (λ given told_more each. settings_right depth allowed given items told_more each)
     where
-      by : (f : Item-F Expr Item Part Link) → out-Item item ≡ f → Quiet (setting_rules check env allowed before f) → Quiet (only_settings check env allowed (setting_name f before) items) → Right env (in_items (calls env depth) (item ∷ items))
-      by (written.Value value) is rules more = absurd (never_quiet (check Nothing value) rule.WrongType (expr_place env value) rules)
-      by (written.Item::Field place name value) is rules more =
+      by : (f : Item-F Expr Item Part Link) → out-Item item ≡ f → Quiet (setting_rules check env allowed before f) → Quiet (only_settings check env allowed (setting_name f before) items)
+          → ((given : List (List ℕ)) → Quiet (only_settings check env allowed given items) → ((name : List ℕ) (one : Expr) → among name allowed ≡ true → among name given ≡ false → setting name items ≡ Some one → Right env (calls env depth one)) → Right env (in_items (calls env depth) items))
+          → Right env (in_items (calls env depth) (item ∷ items))
+      by (written.Value value) is rules more rest = absurd (never_quiet _ (check Nothing value) rule.WrongType (expr_place env value) rules)
+      by (written.Item::Field place name value) is rules more rest =
           let can = required (among name.text allowed) (among name.text before) (at env place) rules in
           let same : bytes_eq name.text name.text ≡ true = (bytes_eq-Decides name.text name.text).1 refl in
           let own : Right env (calls env depth value) = h name.text value can.0 can.1 (rw (is, same) refl) in
           all_append (CallRight env.scripts) (calls env depth (item_expr item)) (in_items (calls env depth) items) (rw is own)
-          (settings_right depth allowed (name.text ∷ before) items more (λ other one allowed_too fresh there.
+          (rest (name.text ∷ before) more (λ other one allowed_too fresh there.
           let apart = none_of (bytes_eq name.text other) (among other before) fresh in h other one allowed_too apart.1 (rw (is, apart.0) there)))
 
   -- the settings of a stream
@@ -206,7 +208,7 @@ module _ (env : Env) (tells : (name : Name) → Tells (type_named env.scripts en
     where
       by : (f : Expr-F Expr Item Part Link) → out-Expr one ≡ f → Right env (calls env depth one)
       by (written.List place items) is = bracket_right env check most well depth within one place items is (λ less under. h less under (at env place) items (rw is at e))
-      by f is = absurd (never_quiet (check Nothing one) rule.WrongType (expr_place env one) (rw is at e))
+      by f is = absurd (never_quiet _ (check Nothing one) rule.WrongType (expr_place env one) (rw is at e))
 
   -- Calls of the log framework -----------------------------------------------------------------------------------------
 
@@ -215,7 +217,7 @@ module _ (env : Env) (tells : (name : Name) → Tells (type_named env.scripts en
     where
       by : (f : Expr-F Expr Item Part Link) → out-Expr one ≡ f → Right env (calls env depth one)
       by (written.Name name) is = name_right env depth one name is
-      by f is = absurd (never_quiet (check Nothing one) rule.WrongType (expr_place env one) (rw is at e))
+      by f is = absurd (never_quiet _ (check Nothing one) rule.WrongType (expr_place env one) (rw is at e))
 
   with_right : (depth : ℕ) → depth ≤ most → (place : Place) (function : LogFunction) (word : Declared) (known : Option RecordNo) (one : Expr) → Quiet (log_with check env place function word known one) → Right env (calls env depth one)
   with_right depth within place CreateStream word known one e = with_settings_right (create_typed check env place word) (λ less under place items e. stream_right less under place items (untold_bind (stream_settings check env place items) _ e)) depth within one e
@@ -229,7 +231,7 @@ module _ (env : Env) (tells : (name : Name) → Tells (type_named env.scripts en
       all_append (CallRight env.scripts) (calls env depth (item_expr one)) [] (item_right env check most well (log_with check env place function word known) depth (with_right depth within place function word known) one e) tt
   behind_right depth within place function word known one (other ∷ others) e =
       let wrong = broken_anyway {B = Typed} (on_item check env (log_with check env place function word known) one) rule.Arguments place in
-      absurd (never_quiet (on_item check env (log_with check env place function word known) one) rule.Arguments place (quiet_along wrong (astray check env (other ∷ others)) e).0)
+      absurd (never_quiet _ (on_item check env (log_with check env place function word known) one) rule.Arguments place (quiet_along wrong (astray check env (other ∷ others)) e).0)
 
   others_right : (depth : ℕ) → depth ≤ most → (place : Place) (function : LogFunction) (word : Declared) (known : Option RecordNo) (others : List Item) → Quiet (log_of check env place function word known others) → Right env (in_items (calls env depth) others)
   others_right depth within place function word known [] e = tt
@@ -267,7 +269,7 @@ module _ (env : Env) (tells : (name : Name) → Tells (type_named env.scripts en
 
   made_right : (depth : ℕ) → depth ≤ most → (place : Place) (items : List Item) (of : ValueType) → Quiet (made_of check env place items of) → Right env (in_items (calls env depth) items)
   made_right depth within place items (Record number) e = record_right env check most well depth within place number items (untold_bind (record_typed check env place number items) _ e)
-  made_right depth within place items of e = absurd (never_named rule.WrongType place (item_values check Unclear items) e)
+  made_right depth within place items of e = absurd (never_named _ rule.WrongType place (item_values check Unclear items) e)
 
   made_by_right : (depth : ℕ) → depth ≤ most → (place : Place) (items : List Item) (of : Checked ValueType) → Quiet (made_by check env place items of) → Right env (in_items (calls env depth) items)
   made_by_right depth within place items (Ok of) e = made_right depth within place items of e
@@ -288,10 +290,10 @@ module _ (env : Env) (tells : (name : Name) → Tells (type_named env.scripts en
       of_meant (Log function) one e = log_right depth within place function items (untold_bind (log_typed check env place function items) _ e)
       of_meant (KnownType of) one e = made_right depth within place items of e
       of_meant (WrittenType home tree) one e = made_by_right depth within place items (type_named env.scripts env.home name) e
-      of_meant meant one e = absurd (never_named rule.WrongType place behind e)
+      of_meant meant one e = absurd (never_named _ rule.WrongType place behind e)
 
       by : (one : Option Declared) → Quiet (call_typed check env name items one) → Right env (in_items (calls env depth) items)
-      by None e = absurd (never_named rule.Unknown place behind e)
+      by None e = absurd (never_named _ rule.Unknown place behind e)
       by (Some one) e = of_meant one.meant one e
 
   pub hook_right : (depth : ℕ) → depth ≤ most → (place : Place) (name : Name) (items : List Item) → Quiet (hook_typed check env place name items (found env name)) → Right env (in_items (calls env depth) items)
@@ -302,10 +304,10 @@ module _ (env : Env) (tells : (name : Name) → Tells (type_named env.scripts en
 
       of_meant : (meant : Meant) (one : Declared) → Quiet (hook_typed check env place name items (Some (record one { meant = meant }))) → Right env (in_items (calls env depth) items)
       of_meant (Hook signature) one e = arguments_right env check most well depth within place (params_of env.scripts signature) items (untold_bind (arguments check env place (params_of env.scripts signature) items) _ e)
-      of_meant meant one e = absurd (never_named rule.WrongType (at env name.place) behind e)
+      of_meant meant one e = absurd (never_named _ rule.WrongType (at env name.place) behind e)
 
       by : (one : Option Declared) → Quiet (hook_typed check env place name items one) → Right env (in_items (calls env depth) items)
-      by None e = absurd (never_named rule.Unknown (at env name.place) behind e)
+      by None e = absurd (never_named _ rule.Unknown (at env name.place) behind e)
       by (Some one) e = of_meant one.meant one e
 
   -- Calls of `create_stream` -------------------------------------------------------------------------------------------
@@ -355,37 +357,37 @@ module _ (env : Env) (tells : (name : Name) → Tells (type_named env.scripts en
   said_known place word known [] e = absurd cc
   said_known place word known (one ∷ other ∷ others) e =
       let wrong = broken_anyway {B = Typed} (on_item check env (log_with check env place CreateStream word known) one) rule.Arguments place in
-      absurd (never_quiet (on_item check env (log_with check env place CreateStream word known) one) rule.Arguments place (quiet_along wrong (astray check env (other ∷ others)) e).0)
+      absurd (never_quiet _ (on_item check env (log_with check env place CreateStream word known) one) rule.Arguments place (quiet_along wrong (astray check env (other ∷ others)) e).0)
   said_known place word known (one ∷ []) e = by (out-Item one) refl
     where
       of_value : (value : Expr) → out-Item one ≡ written.Value value → (f : Expr-F Expr Item Part Link) → out-Expr value ≡ f → Quiet (with_settings check env (create_typed check env place word) value) → IsKnown (said env.scripts env.home (one ∷ []))
       of_value value is (written.List brackets items) of e = rw (is, of) (columns_known (at env brackets) items (untold_bind (stream_settings check env (at env brackets) items) _ (rw of at e)))
-      of_value value is f of e = absurd (never_quiet (check Nothing value) rule.WrongType (expr_place env value) (rw of at e))
+      of_value value is f of e = absurd (never_quiet _ (check Nothing value) rule.WrongType (expr_place env value) (rw of at e))
 
       by : (f : Item-F Expr Item Part Link) → out-Item one ≡ f → IsKnown (said env.scripts env.home (one ∷ []))
       by (written.Value value) is = of_value value is (out-Expr value) refl (rw is at e)
-      by (written.Item::Field place_in name value) is = absurd (never_quiet (check Nothing value) rule.WrongType (at env place_in) (rw is at e))
+      by (written.Item::Field place_in name value) is = absurd (never_quiet _ (check Nothing value) rule.WrongType (at env place_in) (rw is at e))
 
   -- a word that is broken is told
   word_tells : (first : Item) → Tells (on_item check env (log_word check env) first)
   word_tells first = by (out-Item first) refl
     where
-      always : {A B : Type 0} (m : Checked A) (why : Rule) (place : Place) → Tells {A = B} (broken_anyway m why place)
-      always (Ok a) why place = tt
-      always (Err []) why place = tt
-      always (Err (one ∷ rules)) why place = tt
+      always : {A : Type 0} (B : Type 0) (m : Checked A) (why : Rule) (place : Place) → Tells {A = B} (broken_anyway m why place)
+      always B (Ok a) why place = tt
+      always B (Err []) why place = tt
+      always B (Err (one ∷ rules)) why place = tt
 
       of_type : (one : Expr) (word : Declared) (known : Option (Option RecordNo)) → word_of (found env) one ≡ Some word → log_type env.scripts word.name ≡ known → Tells (log_word check env one)
-      of_type one word None is k = rw (is, k) (always (check Nothing one) rule.WrongType (expr_place env one))
+      of_type one word None is k = rw (is, k) (always (Declared × Option RecordNo) (check Nothing one) rule.WrongType (expr_place env one))
       of_type one word (Some known) is k = rw (is, k) tt
 
       of_word : (one : Expr) (word : Option Declared) → word_of (found env) one ≡ word → Tells (log_word check env one)
-      of_word one None is = rw is (always (check Nothing one) rule.WrongType (expr_place env one))
+      of_word one None is = rw is (always (Declared × Option RecordNo) (check Nothing one) rule.WrongType (expr_place env one))
       of_word one (Some word) is = of_type one word (log_type env.scripts word.name) is refl
 
       by : (f : Item-F Expr Item Part Link) → out-Item first ≡ f → Tells (on_item check env (log_word check env) first)
       by (written.Value value) is = rw is (of_word value (word_of (found env) value) refl)
-      by (written.Item::Field place name value) is = rw is (always (check Nothing value) rule.WrongType (at env place))
+      by (written.Item::Field place name value) is = rw is (always (Declared × Option RecordNo) (check Nothing value) rule.WrongType (at env place))
 
   log_said : (place : Place) (first : Item) (others : List Item) → Quiet (log_typed check env place CreateStream (first ∷ others)) → IsKnown (said env.scripts env.home others)
   log_said place first others e = by (on_item check env (log_word check env) first) refl (word_tells first) e
@@ -416,7 +418,7 @@ module _ (env : Env) (tells : (name : Name) → Tells (type_named env.scripts en
           of_word (Some declared) is = same declared is (bytes_eq declared.name word) refl
 
       judged : (one : Declared) → look_up env.scripts.names env.home.module_name name.text ≡ Some one → one.meant ≡ Log CreateStream → (local : Bool) → is_local env name ≡ local → Quiet (log_typed check env (at env name.place) CreateStream items)
-      judged one there means true k = absurd (never_named rule.WrongType (at env name.place) (each (argument check env Unclear) items) (rw k at e))
+      judged one there means true k = absurd (never_named _ rule.WrongType (at env name.place) (each (argument check env Unclear) items) (rw k at e))
       judged one there means false k = let told = rw (k, there, means) at e in untold_bind (log_typed check env (at env name.place) CreateStream items) gives told
 
       meant : (one : Declared) (of : Meant) → look_up env.scripts.names env.home.module_name name.text ≡ Some one → one.meant ≡ of → AllByRecursion IsKnown (created_in env.scripts word call)

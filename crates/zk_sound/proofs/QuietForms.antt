@@ -24,7 +24,7 @@ use Rattle.zk_typed.specs.Predefined as type
 use Rattle.zk_typed.specs.Resolving.{type_named}
 use Rattle.zk_typed.specs.Typing.{Typed, Env, at, Wanted, Nothing, Wants, Unclear, Check, fit, left_of_in, linked, chained, expr_place, found}
 use Rattle.zk_sound.proofs.Growth.{all_append}
-use Rattle.zk_sound.proofs.Quiet.{Quiet, CallRight, Right, FindsRight, calls, in_items, never_quiet, name_right, exprs_right, left_finds, items_find, container_right, brackets_right}
+use Rattle.zk_sound.proofs.Quiet.{Quiet, CallRight, Right, FindsRight, calls, in_items, never_quiet, grouped, name_right, exprs_right, left_finds, items_find, container_right, brackets_right}
 use Rattle.zk_sound.proofs.QuietCalls.{call_right, hook_right, create_right}
 use Rattle.zk_sound.proofs.Told.{Tells, untold_both, untold_bind}
 
@@ -88,10 +88,10 @@ module _ (env : Env) (tells : (name : Name) → Tells (type_named env.scripts en
     arms_right depth within Nothing a b e = let parts = untold_both (check Nothing a) (check Nothing b) (untold_bind (both (check Nothing a) (check Nothing b)) _ e) in
         all_append (CallRight env.scripts) (calls env depth a) (calls env depth b) (well depth within Nothing a parts.0) (well depth within Nothing b parts.1)
 
-    choice_right : (depth : ℕ) → depth ≤ most → (wanted : Wanted) (test a b : Expr) → Quiet (choice check env wanted test a b) → Right env (calls env depth test ++ (calls env depth a ++ calls env depth b))
+    choice_right : (depth : ℕ) → depth ≤ most → (wanted : Wanted) (test a b : Expr) → Quiet (choice check env wanted test a b) → Right env (calls env depth test ++ calls env depth a ++ calls env depth b)
     choice_right depth within wanted test a b e =
         let parts = untold_both (check (Wants type.bool) test) (arms check env wanted a b) (untold_bind (both (check (Wants type.bool) test) (arms check env wanted a b)) _ e) in
-        all_append (CallRight env.scripts) (calls env depth test) (calls env depth a ++ calls env depth b) (well depth within (Wants type.bool) test parts.0) (arms_right depth within wanted a b parts.1)
+        grouped env (calls env depth test) (calls env depth a) (calls env depth b) (all_append (CallRight env.scripts) (calls env depth test) (calls env depth a ++ calls env depth b) (well depth within (Wants type.bool) test parts.0) (arms_right depth within wanted a b parts.1))
 
     pub side_right : (depth : ℕ) → depth ≤ most → (one : Expr) → Quiet (left_side check env one) → Right env (calls env depth one)
     side_right depth within one e = by (out-Expr one) refl
@@ -102,8 +102,8 @@ module _ (env : Env) (tells : (name : Name) → Tells (type_named env.scripts en
           where
             ending : (ends : Bool) → ends_in_element parts ≡ ends → Right env (calls env depth one)
             ending true k = well depth within Nothing one (untold_bind (check Nothing one) _ (rw (is, k) at e))
-            ending false k = absurd (never_quiet (check Nothing one) rule.WrongType (expr_place env one) (rw (is, k) at e))
-        by f is = absurd (never_quiet (check Nothing one) rule.WrongType (expr_place env one) (rw is at e))
+            ending false k = absurd (never_quiet _ (check Nothing one) rule.WrongType (expr_place env one) (rw (is, k) at e))
+        by f is = absurd (never_quiet _ (check Nothing one) rule.WrongType (expr_place env one) (rw is at e))
 
     unary_right : (depth : ℕ) → depth ≤ most → (place : Place) (operator : Prefix) (operand : Expr) → Quiet (unary_typed check env place operator operand) → Right env (calls env depth operand)
     unary_right depth within place prefix.Not operand e = well depth within (Wants type.bool) operand (untold_bind (check (Wants type.bool) operand) _ e)
@@ -123,7 +123,7 @@ module _ (env : Env) (tells : (name : Name) → Tells (type_named env.scripts en
             let told : Quiet (both before (each (check Nothing) keys) >>= _) = rw is at e in
             let parts = untold_both before (each (check Nothing) keys) (untold_bind (both before (each (check Nothing) keys)) _ told) in
             (parts.0, rw is (exprs_right env (check Nothing) (calls env depth) (λ one. well depth within Nothing one) keys parts.1))
-        by (written.Call items) is = absurd (never_quiet (both before (each (argument check env Nothing) items)) rule.WrongType place (rw is at e))
+        by (written.Call items) is = absurd (never_quiet _ (both before (each (argument check env Nothing) items)) rule.WrongType place (rw is at e))
 
     parts_right : (depth : ℕ) → depth ≤ most → (place : Place) (parts : List Part) (before : Checked Typed) → Quiet (parts_typed check env place before parts) → Quiet before × Right env (in_parts (calls env depth) parts)
     parts_right depth within place [] before e = (e, tt)
@@ -156,9 +156,13 @@ module _ (env : Env) (tells : (name : Name) → Tells (type_named env.scripts en
         by : (f : Expr-F Expr Item Part Link) (g : Part-F Expr Item Part Link) → out-Expr first ≡ f → out-Part part ≡ g
             → Right env (named_call env.home whole first (part ∷ parts) ++ (calls env depth first ++ in_parts (calls env depth) (part ∷ parts)))
         by (written.Name name) (written.Call items) is of = named name items is of (rw (is, of) at e)
-        by f g is of =
+        by (written.Name name) g is of =
             let none : named_call env.home whole first (part ∷ parts) ≡ [] = rw (is, of) refl in
             let none_called : called_name first (part ∷ parts) ≡ None = rw (is, of) refl in
+            rw none (plain (rw none_called at e))
+        by f g is of =
+            let none : named_call env.home whole first (part ∷ parts) ≡ [] = rw is refl in
+            let none_called : called_name first (part ∷ parts) ≡ None = rw is refl in
             rw none (plain (rw none_called at e))
 
     -- Forms ------------------------------------------------------------------------------------------------------------
@@ -181,14 +185,14 @@ module _ (env : Env) (tells : (name : Name) → Tells (type_named env.scripts en
       fitted m e = untold_bind m (fit (expr_place env one) wanted) e
 
       by : (f : Expr-F Expr Item Part Link) → out-Expr one ≡ f → Right env (calls env (suc most) one)
-      by (written.Assign a operator b) is = absurd (never_quiet (assigned_parts check env operator a b) rule.WrongType (expr_place env one) (rw is at e))
+      by (written.Assign a operator b) is = absurd (never_quiet _ (assigned_parts check env operator a b) rule.WrongType (expr_place env one) (rw is at e))
       by (written.Choice test a b) is = rw is (choice_right check most well most whole wanted test a b (rw is at e))
       by (written.Chain level first links) is =
           let told = chained_right check most well most whole level (expr_place env first) links (check (wanted_first level) first) (fitted (chained check env level (expr_place env first) (check (wanted_first level) first) links) (rw is at e)) in
           rw is (all_append (CallRight env.scripts) (calls env most first) (in_links (calls env most) links) (well most whole (wanted_first level) first told.0) told.1)
       by (written.Compare a operator b) is = rw is (compared_right check most well most whole operator a b (fitted (compared check env operator a b) (rw is at e)))
       by (written.Unary place operator operand) is = rw is (unary_right check most well most whole (at env place) operator operand (fitted (unary_typed check env (at env place) operator operand) (rw is at e)))
-      by (written.Post first parts) is = rw is (post_right check most well most whole one (expr_place env first) first parts (fitted (post_typed check env (expr_place env first) first parts (called_name first parts)) (rw is at e)))
+      by (written.Post first parts) is = rw is (grouped env (named_call env.home one first parts) (calls env most first) (in_parts (calls env most) parts) (post_right check most well most whole one (expr_place env first) first parts (fitted (post_typed check env (expr_place env first) first parts (called_name first parts)) (rw is at e))))
       by (written.Parenthesis place inner) is = rw is (well most whole wanted inner (rw is at e))
       by (written.Size place inner) is = rw is (well most whole Nothing inner (untold_bind (check Nothing inner) _ (fitted (check Nothing inner >>= _) (rw is at e))))
       by (written.List place items) is = rw is (brackets_right env check most well most whole (at env place) items wanted (rw is at e))

@@ -53,7 +53,7 @@ use Rattle.zk_sound.specs.Agreeing.{IsKnown}
 use Rattle.zk_sound.proofs.Columns.{event_untold, function_untold, named_tells}
 use Rattle.zk_sound.proofs.Fields.{flat_within}
 use Rattle.zk_sound.proofs.Growth.{all_append, all_map}
-use Rattle.zk_sound.proofs.Quiet.{Quiet, CallRight, Right, FindsRight, calls, in_items, never_quiet, never_named, assign_right, exprs_right, name_right, arguments_right, braces_right}
+use Rattle.zk_sound.proofs.Quiet.{Quiet, CallRight, Right, FindsRight, calls, in_items, never_quiet, never_named, grouped, assign_right, exprs_right, name_right, arguments_right, braces_right}
 use Rattle.zk_sound.proofs.QuietCalls.{printed_right, call_right, create_right}
 use Rattle.zk_sound.proofs.QuietForms.{in_part, in_parts, side_right, post_right, finds}
 use Rattle.zk_sound.proofs.Told.{Tells, Untold, none_told, all_types_tell, untold_both, untold_bind}
@@ -87,7 +87,7 @@ module _ (env : Env) (tells : (name : Name) → Tells (type_named env.scripts en
   given_right place left_place by side right e less under = of_type (added_type by side.type) e
     where
       of_type : (wanted : Option ValueType) → Quiet (added (expr_to depth_max env) place left_place by side right wanted) → Right env (calls env less right)
-      of_type None e = absurd (never_quiet (expr_to depth_max env Nothing right) rule.WrongType left_place e)
+      of_type None e = absurd (never_quiet _ (expr_to depth_max env Nothing right) rule.WrongType left_place e)
       of_type (Some wanted) e = well less under (Wants wanted) right (untold_bind (expr_to depth_max env (Wants wanted) right) _ e)
 
   assignment_right : (one left : Expr) (by : Assigning) (right : Expr) → out-Expr one ≡ written.Assign left by right → Quiet (assignment (expr_to depth_max env) env (expr_place env one) left by right) → One one
@@ -112,7 +112,7 @@ module _ (env : Env) (tells : (name : Name) → Tells (type_named env.scripts en
     where
       by : (f : Expr-F Expr Item Part Link) → out-Expr first ≡ f → named_call env.home whole first (part ∷ []) ≡ []
       by (written.Name name) of = rw (of, is) refl
-      by f of = rw (of, is) refl
+      by f of = rw of refl
 
   -- parts before an index and the keys in it make the whole
   fronts : (depth : ℕ) (parts : List Part) (found : List Part × List Expr) → indexed parts ≡ Some found → Right env (in_parts (calls env depth) found.0) → Right env (flat_map (calls env depth) found.1) → Right env (in_parts (calls env depth) parts)
@@ -126,17 +126,19 @@ module _ (env : Env) (tells : (name : Name) → Tells (type_named env.scripts en
           let own_right : Right env (flat_map (calls env depth) own) = rw (← pair) at keys in
           rw of (all_append (CallRight env.scripts) (flat_map (calls env depth) own) [] own_right tt)
       by f of = absurd (let told : None ≡ Some found = rw of at is in cc)
-  fronts depth (part ∷ second ∷ more) found is front keys = by (indexed (second ∷ more)) refl
+  fronts depth (part ∷ second ∷ more) found is front keys = by (indexed (second ∷ more)) refl (λ inner named front_right keys_right. fronts depth (second ∷ more) inner named front_right keys_right)
     where
-      by : (inner : Option (List Part × List Expr)) → indexed (second ∷ more) ≡ inner → Right env (in_parts (calls env depth) (part ∷ second ∷ more))
-      by None k = absurd (let told : None ≡ Some found = rw k at is in cc)
-      by (Some inner) k =
+      by : (inner : Option (List Part × List Expr)) → indexed (second ∷ more) ≡ inner
+          → ((inner : List Part × List Expr) → indexed (second ∷ more) ≡ Some inner → Right env (in_parts (calls env depth) inner.0) → Right env (flat_map (calls env depth) inner.1) → Right env (in_parts (calls env depth) (second ∷ more)))
+          → Right env (in_parts (calls env depth) (part ∷ second ∷ more))
+      by None k rest = absurd (let told : None ≡ Some found = rw k at is in cc)
+      by (Some inner) k rest =
           let told : Some (part ∷ inner.0, inner.1) ≡ Some found = rw k at is in
           let pair : (part ∷ inner.0, inner.1) ≡ found = cc in
           let before : Right env (in_part (calls env depth) (out-Part part) ++ in_parts (calls env depth) inner.0) = rw (← pair) at front in
           let after : Right env (flat_map (calls env depth) inner.1) = rw (← pair) at keys in
           let parts = all_split (CallRight env.scripts) (in_part (calls env depth) (out-Part part)) (in_parts (calls env depth) inner.0) before in
-          all_append (CallRight env.scripts) (in_part (calls env depth) (out-Part part)) (in_parts (calls env depth) (second ∷ more)) parts.0 (fronts depth (second ∷ more) inner k parts.1 after)
+          all_append (CallRight env.scripts) (in_part (calls env depth) (out-Part part)) (in_parts (calls env depth) (second ∷ more)) parts.0 (rest inner k parts.1 after)
 
   -- what stands before an index, with the call of a name that it begins with, and the keys in the index
   index_right : (depth : ℕ) → depth ≤ depth_max → (whole : Expr) (place : Place) (first : Expr) (parts : List Part) (found : List Part × List Expr) → indexed parts ≡ Some found
@@ -175,13 +177,13 @@ module _ (env : Env) (tells : (name : Name) → Tells (type_named env.scripts en
   -- an expression with parts, to each depth
   parted : (depth : ℕ) (one first : Expr) (parts : List Part) → out-Expr one ≡ written.Post first parts → ((less : ℕ) → suc less ≤ depth → Right env (named_call env.home one first parts ++ (calls env less first ++ in_parts (calls env less) parts))) → Right env (calls env depth one)
   parted zero one first parts is h = tt
-  parted (suc depth) one first parts is h = rw is (h depth (omega arith))
+  parted (suc depth) one first parts is h = rw is (grouped env (named_call env.home one first parts) (calls env depth first) (in_parts (calls env depth) parts) (h depth (omega arith)))
 
   element_right : (place : Place) (tables : Bool) (one : Expr) → Quiet (element_of (expr_to depth_max env) env place tables one) → One one
   element_right place tables one e = by (out-Expr one) refl
     where
       of_index : (first : Expr) (parts : List Part) (found : Option (List Part × List Expr)) → out-Expr one ≡ written.Post first parts → indexed parts ≡ found → One one
-      of_index first parts None is k = absurd (never_quiet (expr_to depth_max env Nothing one) rule.WrongType place (rw (is, k) at e))
+      of_index first parts None is k = absurd (never_quiet _ (expr_to depth_max env Nothing one) rule.WrongType place (rw (is, k) at e))
       of_index first parts (Some found) is k =
           let front = post_typed (expr_to depth_max env) env (expr_place env first) first found.0 (called_name first found.0) in
           let keys = each (expr_to depth_max env Nothing) found.1 in
@@ -191,7 +193,7 @@ module _ (env : Env) (tells : (name : Name) → Tells (type_named env.scripts en
 
       by : (f : Expr-F Expr Item Part Link) → out-Expr one ≡ f → One one
       by (written.Post first parts) is = of_index first parts (indexed parts) is refl
-      by f is = absurd (never_quiet (expr_to depth_max env Nothing one) rule.WrongType place (rw is at e))
+      by f is = absurd (never_quiet _ (expr_to depth_max env Nothing one) rule.WrongType place (rw is at e))
 
   -- Expressions that stand as statements -------------------------------------------------------------------------------
 
@@ -210,11 +212,13 @@ module _ (env : Env) (tells : (name : Name) → Tells (type_named env.scripts en
 
       one_part : (first : Expr) (part : Part) → out-Expr one ≡ written.Post first (part ∷ []) → (f : Expr-F Expr Item Part Link) (g : Part-F Expr Item Part Link) → out-Expr first ≡ f → out-Part part ≡ g → One one
       one_part first part is (written.Name name) (written.Call items) of too = called first part name items is of too (untold_bind (call_of (expr_to depth_max env) env name items) _ (rw (is, of, too) at e))
-      one_part first part is f g of too = evaluated (rw (is, of, too) at e)
+      one_part first part is (written.Name name) g of too = evaluated (rw (is, of, too) at e)
+      one_part first part is f g of too = evaluated (rw (is, of) at e)
 
       many_parts : (first : Expr) (part second : Part) (more : List Part) → out-Expr one ≡ written.Post first (part ∷ second ∷ more) → (f : Expr-F Expr Item Part Link) (g : Part-F Expr Item Part Link) → out-Expr first ≡ f → out-Part part ≡ g → One one
       many_parts first part second more is (written.Name name) (written.Call items) of too = evaluated (rw (is, of, too) at e)
-      many_parts first part second more is f g of too = evaluated (rw (is, of, too) at e)
+      many_parts first part second more is (written.Name name) g of too = evaluated (rw (is, of, too) at e)
+      many_parts first part second more is f g of too = evaluated (rw (is, of) at e)
 
       by : (f : Expr-F Expr Item Part Link) → out-Expr one ≡ f → One one
       by (written.Assign left operator right) is = assignment_right one left operator right is (rw is at e)
@@ -233,10 +237,10 @@ module _ (env : Env) (tells : (name : Name) → Tells (type_named env.scripts en
 
       of_meant : (meant : Meant) (one : Declared) → Quiet (event_args (expr_to depth_max env) env place name items (Some (record one { meant = meant }))) → Right env (in_items (calls env depth_max) items)
       of_meant (Event signature) one e = arguments_right env (expr_to depth_max env) depth_max well depth_max enough place (params_of env.scripts signature) items (untold_bind (arguments (expr_to depth_max env) env place (params_of env.scripts signature) items) _ e)
-      of_meant meant one e = absurd (never_named rule.WrongType (at env name.place) behind e)
+      of_meant meant one e = absurd (never_named _ rule.WrongType (at env name.place) behind e)
 
       by : (one : Option Declared) → Quiet (event_args (expr_to depth_max env) env place name items one) → Right env (in_items (calls env depth_max) items)
-      by None e = absurd (never_named rule.Unknown (at env name.place) behind e)
+      by None e = absurd (never_named _ rule.Unknown (at env name.place) behind e)
       by (Some one) e = of_meant one.meant one e
 
   returned_right : (context : Context) (place : Place) (value : Option Expr) → Quiet (return_typed context (expr_to depth_max env) place value) → Right env (maybe_calls env.home value)
@@ -245,9 +249,9 @@ module _ (env : Env) (tells : (name : Name) → Tells (type_named env.scripts en
     where
       by : (kind : Within) → Quiet (return_typed (record context { within = kind }) (expr_to depth_max env) place (Some one)) → One one
       by (InFunction (Some wanted)) e = value_right wanted one (untold_bind (expr_to depth_max env wanted one) _ e)
-      by (InFunction None) e = absurd (never_quiet (expr_to depth_max env Nothing one) rule.Return place e)
-      by InHook e = absurd (never_quiet (expr_to depth_max env Nothing one) rule.Return place e)
-      by InHandler e = absurd (never_quiet (expr_to depth_max env Nothing one) rule.Return place e)
+      by (InFunction None) e = absurd (never_quiet _ (expr_to depth_max env Nothing one) rule.Return place e)
+      by InHook e = absurd (never_quiet _ (expr_to depth_max env Nothing one) rule.Return place e)
+      by InHandler e = absurd (never_quiet _ (expr_to depth_max env Nothing one) rule.Return place e)
 
 -- Statements -----------------------------------------------------------------------------------------------------------
 
@@ -321,7 +325,7 @@ stmt_right (suc depth) context locals one tell e = by (out-Stmt one) refl (stmt_
         let told : rules_of (both condition (both first.made second.made) >>= _) ≡ [] = rw is at e in
         let parts = untold_both condition (both first.made second.made) (untold_bind (both condition (both first.made second.made)) _ told) in
         let two = untold_both first.made second.made parts.1 in
-        rw is (all_append P (expr_calls context.home test) (more a ++ more b) (value_right env tell (Wants type.bool) test parts.0) (all_append P (more a) (more b) (deep context locals a tell two.0) (deep context first.locals b tell two.1)))
+        rw is (grouped env (expr_calls context.home test) (more a) (more b) (all_append P (expr_calls context.home test) (more a ++ more b) (value_right env tell (Wants type.bool) test parts.0) (all_append P (more a) (more b) (deep context locals a tell two.0) (deep context first.locals b tell two.1))))
     by (stmt.While place test a) is deep =
         let condition = check_in context locals (Wants type.bool) test in
         let inner = stmt_to depth (looping context) locals a in
@@ -395,7 +399,7 @@ module _ (scripts : Scripts) (tells : (home : Home) (t : «Type») → Tells (ty
 
     no_value_given : (init : Option Init) → Quiet (no_value scripts home init) → AllRight (init_calls home init)
     no_value_given None e = tt
-    no_value_given (Some one) e = absurd (never_quiet (init_checked scripts home Nothing one) rule.WrongType (init_place (env_at scripts home) one) e)
+    no_value_given (Some one) e = absurd (never_quiet _ (init_checked scripts home Nothing one) rule.WrongType (init_place (env_at scripts home) one) e)
 
     bodiless_given : (signature : Signature) (init : Option Init) (attrs : List Attr) → Quiet (bodiless_rules scripts home signature init attrs) → AllRight (init_calls home init)
     bodiless_given signature init attrs e =
@@ -457,22 +461,22 @@ module _ (scripts : Scripts) (tells : (home : Home) (t : «Type») → Tells (ty
 -- what passes a test has what it has where it passes
 passed_all : {A : Type 0} (P : A → Type 0) (test : A → Bool) (xs : List A) → AllByRecursion (λ x. test x ≡ true → P x) xs → AllByRecursion P (filter test xs)
 passed_all P test [] all = tt
-passed_all P test (x ∷ xs) all = by (test x) refl
+passed_all P test (x ∷ xs) all = by (test x) refl (passed_all P test xs all.1)
   where
-    by : (passes : Bool) → test x ≡ passes → AllByRecursion P (filter test (x ∷ xs))
-    by true e = rw e (all.0 e, passed_all P test xs all.1)
-    by false e = rw e (passed_all P test xs all.1)
+    by : (passes : Bool) → test x ≡ passes → AllByRecursion P (filter test xs) → AllByRecursion P (filter test (x ∷ xs))
+    by true e rest = rw e (all.0 e, rest)
+    by false e rest = rw e rest
 
 one_known : (said : List (Option RecordNo)) → AllByRecursion IsKnown said → one_type said ≢ Some None
 one_known [] all e = cc
 one_known (None ∷ said) all e = absurd all.0
 one_known (Some number ∷ []) all e = cc
-one_known (Some number ∷ second ∷ more) all e = by (one_type (second ∷ more)) refl
+one_known (Some number ∷ second ∷ more) all e = by (one_type (second ∷ more)) refl (one_known (second ∷ more) all.1)
   where
-    by : (others : Option (Option RecordNo)) → one_type (second ∷ more) ≡ others → ⊥
-    by None is = let told : None ≡ Some None = rw is at e in cc
-    by (Some None) is = one_known (second ∷ more) all.1 is
-    by (Some (Some other)) is = same (number.0 == other.0) refl
+    by : (others : Option (Option RecordNo)) → one_type (second ∷ more) ≡ others → one_type (second ∷ more) ≢ Some None → ⊥
+    by None is rest = let told : None ≡ Some None = rw is at e in cc
+    by (Some None) is rest = rest is
+    by (Some (Some other)) is rest = same (number.0 == other.0) refl
       where
         same : (that : Bool) → (number.0 == other.0) ≡ that → ⊥
         same true k = let told : Some (Some number) ≡ Some None = rw (is, k) at e in cc

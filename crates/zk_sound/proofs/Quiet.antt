@@ -199,8 +199,8 @@ module _ (env : Env) where
 
         by : (f : Expr-F Expr Item Part Link) → out-Expr one ≡ f → Right (calls depth one)
         by (written.Assign left assigning.Set right) is = set left right (out-Expr left) is refl
-        by (written.List place items) is = bracket_right depth within one place items is (λ less under. values_right less under wanted items (rw is at e))
-        by f is = whole (rw is at e)
+        by (written.List place items) is = bracket_right depth within one place items is (λ less under. values_right less under wanted items (rw is at (rw is at e)))
+        by f is = whole (rw is at (rw is at e))
 
     loosely_finds : (depth : ℕ) → depth ≤ most → (made : Container) (wanted : Wanted) → FindsIn depth (loosely check env made wanted)
     loosely_finds depth within container.Vector wanted = value_finds depth within wanted

@@ -22,7 +22,7 @@ use Rattle.zk_typed.specs.declared.script.primitive.BuiltIn.{BuiltIn}
 use Rattle.zk_typed.specs.declared.script.primitive.BuiltIn.TheVariants as built_in
 use Rattle.zk_typed.specs.Checked.{Checked, broken, broken_anyway, with_rule, ◌>>◌, both, each, require, rules_of}
 use Rattle.zk_typed.specs.LogCalls.{Call, item_expr, word_of, settings, setting, optional, columns_type, if_known, created_in, log_type, path_literal, log_path, named_signature, event_setting, policy_setting, string_set, names_setting, among, setting_name, setting_rules, only_settings, not_local, stream_settings, create_typed, filter_settings, filter_typed, with_settings, row_wanted, log_with, astray, log_arguments, log_of, log_word, wordless, all_wordless, log_behind, log_typed}
-use Rattle.zk_typed.specs.Making.{argument, arguments, printed, format_text, lone_argument, by_row, built_in_typed, gives, made_of, made_by, item_values, call_typed, call_of, hook_typed, record_typed}
+use Rattle.zk_typed.specs.Making.{Called, argument, arguments, printed, format_text, lone_argument, by_row, built_in_typed, gives, made_of, made_by, item_values, call_typed, call_of, hook_typed, record_typed}
 use Rattle.zk_typed.specs.Names.{Declared, Meant, KnownType, WrittenType, Hook, Function, BuiltInFunction, Log, LogFunction, CreateStream, AddFilter, RemoveFilter, RemoveDefaultFilter, Write, Signature, look_up}
 use Rattle.zk_typed.specs.Operations.{built_in_type}
 use Rattle.zk_typed.specs.Predefined as type
@@ -170,10 +170,16 @@ module _ (env : Env) (tells : (name : Name) → Tells (type_named env.scripts en
       settings_right depth (codes "columns" ∷ codes "ev" ∷ codes "path" ∷ codes "policy" ∷ []) [] items all.0 (λ name one allowed fresh.
       one_of (λ name. setting name items ≡ Some one → Right env (calls env depth one)) name (codes "columns" ∷ codes "ev" ∷ codes "path" ∷ codes "policy" ∷ []) allowed (
         (λ there. columns_right depth items one there first.0),
-        (λ there. judged_right (event_setting env known) depth (λ one e. signed_right depth _ _ one (untold_bind (named_signature env _ _ one) _ e)) items (codes "ev") one there first.1),
-        (λ there. judged_right (log_path check env) depth (log_path_right depth within) items (codes "path") one there second.0),
-        (λ there. judged_right (policy_setting env known) depth (λ one e. signed_right depth _ _ one (untold_bind (named_signature env _ _ one) _ e)) items (codes "policy") one there second.1),
-        tt,
+        (
+          (λ there. judged_right (event_setting env known) depth (λ one e. signed_right depth _ _ one (untold_bind (named_signature env _ _ one) _ e)) items (codes "ev") one there first.1),
+          (
+            (λ there. judged_right (log_path check env) depth (log_path_right depth within) items (codes "path") one there second.0),
+            (
+              (λ there. judged_right (policy_setting env known) depth (λ one e. signed_right depth _ _ one (untold_bind (named_signature env _ _ one) _ e)) items (codes "policy") one there second.1),
+              tt,
+            ),
+          ),
+        ),
       ))
 
   -- the settings of a filter
@@ -195,11 +201,19 @@ module _ (env : Env) (tells : (name : Name) → Tells (type_named env.scripts en
       settings_right depth allowed_names [] items first.0 (λ given one allowed fresh.
       one_of (λ given. setting given items ≡ Some one → Right env (calls env depth one)) given allowed_names allowed (
         (λ there. judged_right (path_literal check env) depth (path_right depth within) items (codes "name") one there paths.0),
-        (λ there. judged_right (log_path check env) depth (log_path_right depth within) items (codes "path") one there paths.1),
-        (λ there. judged_right (names_setting check env) depth (names_right depth within) items (codes "include") one there kept.0),
-        (λ there. judged_right (names_setting check env) depth (names_right depth within) items (codes "exclude") one there kept.1),
-        (λ there. judged_right (policy_setting env known) depth (λ one e. signed_right depth _ _ one (untold_bind (named_signature env _ _ one) _ e)) items (codes "policy") one there second.1),
-        tt,
+        (
+          (λ there. judged_right (log_path check env) depth (log_path_right depth within) items (codes "path") one there paths.1),
+          (
+            (λ there. judged_right (names_setting check env) depth (names_right depth within) items (codes "include") one there kept.0),
+            (
+              (λ there. judged_right (names_setting check env) depth (names_right depth within) items (codes "exclude") one there kept.1),
+              (
+                (λ there. judged_right (policy_setting env known) depth (λ one e. signed_right depth _ _ one (untold_bind (named_signature env _ _ one) _ e)) items (codes "policy") one there second.1),
+                tt,
+              ),
+            ),
+          ),
+        ),
       ))
 
   with_settings_right : {A : Type 0} (typing : Place → List Item → Checked A) → ((less : ℕ) → less ≤ most → (place : Place) (items : List Item) → Quiet (typing place items) → Right env (in_items (calls env less) items))
@@ -269,11 +283,11 @@ module _ (env : Env) (tells : (name : Name) → Tells (type_named env.scripts en
 
   made_right : (depth : ℕ) → depth ≤ most → (place : Place) (items : List Item) (of : ValueType) → Quiet (made_of check env place items of) → Right env (in_items (calls env depth) items)
   made_right depth within place items (Record number) e = record_right env check most well depth within place number items (untold_bind (record_typed check env place number items) _ e)
-  made_right depth within place items of e = absurd (never_named _ rule.WrongType place (item_values check Unclear items) e)
+  made_right depth within place items of e = absurd (never_named Called rule.WrongType place (item_values check Unclear items) e)
 
   made_by_right : (depth : ℕ) → depth ≤ most → (place : Place) (items : List Item) (of : Checked ValueType) → Quiet (made_by check env place items of) → Right env (in_items (calls env depth) items)
   made_by_right depth within place items (Ok of) e = made_right depth within place items of e
-  made_by_right depth within place items (Err rules) e = values_right env check most well depth within Unclear items (quiet_along {A = Rattle.zk_typed.specs.Making.Called} (Err rules) (item_values check Unclear items) e).1
+  made_by_right depth within place items (Err rules) e = values_right env check most well depth within Unclear items (quiet_along {A = Called} (Err rules) (item_values check Unclear items) e).1
 
   pub call_right : (depth : ℕ) → depth ≤ most → (name : Name) (items : List Item) → Quiet (call_of check env name items) → Right env (in_items (calls env depth) items)
   call_right depth within name items e = by (found env name) e
@@ -290,10 +304,10 @@ module _ (env : Env) (tells : (name : Name) → Tells (type_named env.scripts en
       of_meant (Log function) one e = log_right depth within place function items (untold_bind (log_typed check env place function items) _ e)
       of_meant (KnownType of) one e = made_right depth within place items of e
       of_meant (WrittenType home tree) one e = made_by_right depth within place items (type_named env.scripts env.home name) e
-      of_meant meant one e = absurd (never_named _ rule.WrongType place behind e)
+      of_meant meant one e = absurd (never_named Called rule.WrongType place behind e)
 
       by : (one : Option Declared) → Quiet (call_typed check env name items one) → Right env (in_items (calls env depth) items)
-      by None e = absurd (never_named _ rule.Unknown place behind e)
+      by None e = absurd (never_named Called rule.Unknown place behind e)
       by (Some one) e = of_meant one.meant one e
 
   pub hook_right : (depth : ℕ) → depth ≤ most → (place : Place) (name : Name) (items : List Item) → Quiet (hook_typed check env place name items (found env name)) → Right env (in_items (calls env depth) items)
@@ -304,10 +318,10 @@ module _ (env : Env) (tells : (name : Name) → Tells (type_named env.scripts en
 
       of_meant : (meant : Meant) (one : Declared) → Quiet (hook_typed check env place name items (Some (record one { meant = meant }))) → Right env (in_items (calls env depth) items)
       of_meant (Hook signature) one e = arguments_right env check most well depth within place (params_of env.scripts signature) items (untold_bind (arguments check env place (params_of env.scripts signature) items) _ e)
-      of_meant meant one e = absurd (never_named _ rule.WrongType (at env name.place) behind e)
+      of_meant meant one e = absurd (never_named Typed rule.WrongType (at env name.place) behind e)
 
       by : (one : Option Declared) → Quiet (hook_typed check env place name items one) → Right env (in_items (calls env depth) items)
-      by None e = absurd (never_named _ rule.Unknown (at env name.place) behind e)
+      by None e = absurd (never_named Typed rule.Unknown (at env name.place) behind e)
       by (Some one) e = of_meant one.meant one e
 
   -- Calls of `create_stream` -------------------------------------------------------------------------------------------
@@ -418,7 +432,7 @@ module _ (env : Env) (tells : (name : Name) → Tells (type_named env.scripts en
           of_word (Some declared) is = same declared is (bytes_eq declared.name word) refl
 
       judged : (one : Declared) → look_up env.scripts.names env.home.module_name name.text ≡ Some one → one.meant ≡ Log CreateStream → (local : Bool) → is_local env name ≡ local → Quiet (log_typed check env (at env name.place) CreateStream items)
-      judged one there means true k = absurd (never_named _ rule.WrongType (at env name.place) (each (argument check env Unclear) items) (rw k at e))
+      judged one there means true k = absurd (never_named Called rule.WrongType (at env name.place) (each (argument check env Unclear) items) (rw k at e))
       judged one there means false k = let told = rw (k, there, means) at e in untold_bind (log_typed check env (at env name.place) CreateStream items) gives told
 
       meant : (one : Declared) (of : Meant) → look_up env.scripts.names env.home.module_name name.text ≡ Some one → one.meant ≡ of → AllByRecursion IsKnown (created_in env.scripts word call)

@@ -1,6 +1,7 @@
 -- Where no rule of a script is told, each log that has a stream has a record type that is known.
 use Rattle.std.proofs.Common.{◌≡◌, ◌≢◌, ◌≤◌, ℕ, zero, suc, ◌==◌, Bool, true, false, not, List, [], ◌∷◌, ◌++◌, filter, flat_map, codes, Option, Some, None, Ok, Err, refl, arith}
 use Rattle.std.specs.List.{AllByRecursion}
+use Rattle.zk_base.specs.declared.numbers.EventNo.{EventNo}
 use Rattle.zk_base.specs.declared.numbers.RecordNo.{RecordNo}
 use Rattle.zk_tree.specs.declared.decl.BodyKind.{BodyKind}
 use Rattle.zk_tree.specs.declared.decl.Decl.{Decl, out-Decl}
@@ -237,10 +238,10 @@ module _ (env : Env) (tells : (name : Name) → Tells (type_named env.scripts en
 
       of_meant : (meant : Meant) (one : Declared) → Quiet (event_args (expr_to depth_max env) env place name items (Some (record one { meant = meant }))) → Right env (in_items (calls env depth_max) items)
       of_meant (Event signature) one e = arguments_right env (expr_to depth_max env) depth_max well depth_max enough place (params_of env.scripts signature) items (untold_bind (arguments (expr_to depth_max env) env place (params_of env.scripts signature) items) _ e)
-      of_meant meant one e = absurd (never_named _ rule.WrongType (at env name.place) behind e)
+      of_meant meant one e = absurd (never_named (EventNo × List Typed) rule.WrongType (at env name.place) behind e)
 
       by : (one : Option Declared) → Quiet (event_args (expr_to depth_max env) env place name items one) → Right env (in_items (calls env depth_max) items)
-      by None e = absurd (never_named _ rule.Unknown (at env name.place) behind e)
+      by None e = absurd (never_named (EventNo × List Typed) rule.Unknown (at env name.place) behind e)
       by (Some one) e = of_meant one.meant one e
 
   returned_right : (context : Context) (place : Place) (value : Option Expr) → Quiet (return_typed context (expr_to depth_max env) place value) → Right env (maybe_calls env.home value)

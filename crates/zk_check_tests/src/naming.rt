@@ -1,7 +1,7 @@
 //! Scripts whose names mean nothing, are declared twice, or lead back to themselves.
 
 /// Scripts that break the rule `Unknown` first, and the byte at which it is told.
-pub const UNKNOWN: [(&[u8], u64); 41] = [
+pub const UNKNOWN: [(&[u8], u64); 42] = [
     // A name means nothing visible: as a value, a function, a type, an event, a hook.
     (b"event zeek_init() { print nosuch; }", 26),
     (b"event zeek_init() { print nosuch(1); }", 26),
@@ -95,6 +95,11 @@ pub const UNKNOWN: [(&[u8], u64); 41] = [
         47,
     ),
     (b"global b = b + y;", 15),
+    // What stands behind what is broken elsewhere.
+    (
+        b"event zeek_init() { print T($a=nosuch); } type T: never;",
+        31,
+    ),
 ];
 
 /// Scripts that break the rule `Twice` first, and the byte at which it is told.

@@ -1,7 +1,7 @@
 //! Scripts in which a value has another type than its place asks.
 
 /// Scripts that break the rule `WrongType` first, and the byte at which it is told.
-pub const WRONG_TYPE: [(&[u8], u64); 157] = [
+pub const WRONG_TYPE: [(&[u8], u64); 163] = [
     // A value has another type than its place asks.
     (b"global x: count = \"a\";", 18),
     (b"event zeek_init() { local x: string = 1; }", 38),
@@ -308,4 +308,26 @@ pub const WRONG_TYPE: [(&[u8], u64); 157] = [
     // Types of events and functions stand behind a global's name alone.
     (b"type R: record { a: event(); };", 20),
     (b"type G: function(a: count);", 8),
+    // What can't stand where it does, whatever it rests on elsewhere.
+    (
+        b"event zeek_init() { f($a=x); } function f(a: count) { } global x: nosuch;",
+        22,
+    ),
+    (b"event zeek_init() { delete x; } global x: nosuch;", 20),
+    (
+        b"event zeek_init() { print [x] in t; } global x: nosuch; global t: table[count] of count;",
+        26,
+    ),
+    (
+        b"redef enum Log::ID += { L }; type R: record { a: count &log; }; global y = Log::write(L, [$a=1]); event zeek_init() { Log::create_stream(L, y); }",
+        140,
+    ),
+    (
+        b"redef enum Log::ID += { L }; type R: record { a: count &log; }; global y = Log::write(L, [$a=1]); event zeek_init() { Log::create_stream(L, $columns=y); }",
+        140,
+    ),
+    (
+        b"event zeek_init() { Log::write(x, [$a=1]); } global x: nosuch;",
+        31,
+    ),
 ];

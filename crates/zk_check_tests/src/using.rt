@@ -1,7 +1,7 @@
 //! Scripts that break the other rules: of fields, constants, calls, returns, loops, attributes and texts.
 
 /// Scripts that break the rule `Field` first, and the byte at which it is told.
-pub const FIELD: [(&[u8], u64); 14] = [
+pub const FIELD: [(&[u8], u64); 15] = [
     // A field that the record lacks: the whole expression, or the item's `$`.
     (
         b"event connection_state_remove(c: connection) { print c$nosuch; }",
@@ -56,6 +56,11 @@ pub const FIELD: [(&[u8], u64); 14] = [
         b"redef record conn_id += { a: count &optional; b: string &log; };",
         46,
     ),
+    // A setting that is missing, whatever the others rest on elsewhere.
+    (
+        b"redef enum Log::ID += { L }; type R: record { a: count &log; }; global y = Log::write(L, [$a=1]); event zeek_init() { Log::create_stream(L, [$path=y]); }",
+        140,
+    ),
 ];
 
 /// Scripts that break the rule `NotConst` first, and the byte at which it is told.
@@ -99,7 +104,7 @@ pub const FIXED_GLOBAL: [(&[u8], u64); 8] = [
 ];
 
 /// Scripts that break the rule `Arguments` first, and the byte at which it is told.
-pub const ARGUMENTS: [(&[u8], u64); 19] = [
+pub const ARGUMENTS: [(&[u8], u64); 23] = [
     // Another number of arguments: the call, or the statement.
     (b"function f(a: count) { } event zeek_init() { f(); }", 45),
     (
@@ -154,10 +159,28 @@ pub const ARGUMENTS: [(&[u8], u64); 19] = [
         b"event e(a: string) { } module M; event e(a: count) { }",
         33,
     ),
+    // Another number of arguments, whatever they rest on elsewhere.
+    (
+        b"event zeek_init() { f(x); } function f(a: count, b: count) { } global x: nosuch;",
+        20,
+    ),
+    (
+        b"redef enum Log::ID += { L }; type R: record { a: count &log; }; global y = Log::write(L, [$a=1]); event zeek_init() { print copy(y, Log::create_stream(L, [$columns=nosuch])); }",
+        124,
+    ),
+    (
+        b"redef enum Log::ID += { L }; type R: record { a: count &log; }; global y = Log::write(L, [$a=1]); event zeek_init() { Log::create_stream(L, [$columns=R], y); }",
+        118,
+    ),
+    // Arguments past the parameters hide nothing.
+    (
+        b"event zeek_init() { f(1, nosuch); } function f(a: count) { }",
+        20,
+    ),
 ];
 
 /// Scripts that break the rule `Return` first, and the byte at which it is told.
-pub const RETURN: [(&[u8], u64); 5] = [
+pub const RETURN: [(&[u8], u64); 6] = [
     (b"event zeek_init() { return 1; }", 20),
     (b"function f() { return 1; }", 15),
     (b"hook h() { return T; }", 11),
@@ -166,6 +189,7 @@ pub const RETURN: [(&[u8], u64); 5] = [
         b"function f(n: count): count { if ( n == 0 ) return 1; return; }",
         54,
     ),
+    (b"event zeek_init() { return x; } global x: nosuch;", 20),
 ];
 
 /// Scripts that break the rule `Break` first, and the byte at which it is told.

@@ -1,5 +1,5 @@
 -- A call of a name that means no function of the log framework is no call of it.
-use Rattle.std.proofs.Common.{◌≡◌, ℕ, ◌+◌, ◌==◌, length, zero, suc, Bool, true, false, List, [], ◌∷◌, Option, Some, None, is_some, Ok, Err, refl, ap, sym, ◌∙◌}
+use Rattle.std.proofs.Common.{◌≡◌, ℕ, ◌+◌, zero, suc, Bool, true, false, List, [], ◌∷◌, Option, Some, None, is_some, Ok, Err, refl, ap, sym, ◌∙◌}
 use Rattle.zk_tree.specs.declared.expr.Expr.{Expr, out-Expr}
 use Rattle.zk_tree.specs.declared.expr.Expr.TheOpen.{Part-F}
 use Rattle.zk_tree.specs.declared.expr.Expr.TheOpen as written
@@ -18,14 +18,14 @@ use Rattle.zk_typed.specs.declared.script.primitive.BuiltIn.TheVariants as built
 use Rattle.zk_typed.specs.declared.script.primitive.Primitive.TheVariants as primitive
 use Rattle.zk_typed.specs.declared.script.types.SimpleType.{SimpleType}
 use Rattle.zk_typed.specs.declared.script.types.SimpleType.TheVariants as simple
-use Rattle.zk_typed.specs.Checked.{Checked, both, each, require, broken, ◌>>=◌, ◌>>◌}
+use Rattle.zk_typed.specs.Checked.{Checked, both, each, require, broken_anyway, ◌>>=◌, ◌>>◌}
 use Rattle.zk_typed.specs.Forms as form
 use Rattle.zk_typed.specs.Declarations.{env_at}
 use Rattle.zk_typed.specs.Errors.{log_call}
 use Rattle.zk_typed.specs.Expressions.{expr_to, expr_typed}
 use Rattle.zk_typed.specs.LoadOrder.{Home}
 use Rattle.zk_typed.specs.LogCalls.{Call}
-use Rattle.zk_typed.specs.Making.{Called, Gives, Performs, argument, arguments, built_in_call, built_in_typed, by_row, call_of, call_typed, called_name, copy_typed, element, field_of, fmt_typed, format_text, function_typed, given_field, given_once, givens, gives, keys_fit, made_of, part_typed, parts_typed, printed, record_typed, value_of, verbs_take, with_result, wrong_name, all_given}
+use Rattle.zk_typed.specs.Making.{Called, Gives, Performs, argument, arguments, built_in_call, built_in_typed, by_row, call_of, call_typed, called_name, copy_typed, element, field_of, fmt_typed, format_text, function_typed, given_field, given_once, givens, gives, keys_fit, lone_argument, made_by, made_of, part_typed, parts_typed, printed, record_typed, value_of, verbs_take, with_result, all_given}
 use Rattle.zk_typed.specs.Names.{Declared, Meant, KnownType, WrittenType, Word, Variable, Event, Hook, Function, BuiltInFunction, Log, look_up, module_in}
 use Rattle.zk_typed.specs.Operations.{built_in_type}
 use Rattle.zk_typed.specs.Predefined as type
@@ -63,6 +63,10 @@ gives_plain : (part : Checked Typed) → Plain part → PlainCall (part >>= give
 gives_plain (Ok one) plain = plain
 gives_plain (Err rules) plain = refl
 
+anyway_plain : {A : Type 0} (part : Checked A) (broken : Rule) (place : Place) → Plain (broken_anyway part broken place)
+anyway_plain (Ok one) broken place = refl
+anyway_plain (Err rules) broken place = refl
+
 value_plain : (place : Place) (call : Checked Called) → PlainCall call → Plain (call >>= value_of place)
 value_plain place (Ok (Gives one)) plain = plain
 value_plain place (Ok (Performs function args)) plain = refl
@@ -96,7 +100,7 @@ module _ (check : Check) (env : Env) where
   part_by place before part (written.Index keys) e =
       rw e (then_plain (both before (each (check Nothing) keys)) (λ parts. element env place parts.0 keys parts.1) (λ parts. element_plain env place parts.0.type parts.0.expr keys parts.1))
   part_by place before part (written.Call items) e =
-      rw e (then_plain (both before (each (argument check env Nothing) items)) (λ parts. broken rule.WrongType place) (λ parts. refl))
+      rw e (anyway_plain (both before (each (argument check env Nothing) items)) rule.WrongType place)
 
   parts_plain : (place : Place) (before : Checked Typed) (parts : List Part) → Plain before → Plain (parts_typed check env place before parts)
   parts_plain place before [] plain = plain
@@ -118,8 +122,7 @@ module _ (check : Check) (env : Env) where
   copy_plain : (place : Place) (items : List Item) → PlainCall (copy_typed check env place items)
   copy_plain place [] = refl
   copy_plain place (first ∷ others) =
-      then_call (argument check env Nothing first) (λ one. require (length others == 0) rule.Arguments place >> gives (typed one.type (built_in_call built_in.Copy (one ∷ []))))
-      (λ one. then_call (require (length others == 0) rule.Arguments place) (λ done. gives (typed one.type (built_in_call built_in.Copy (one ∷ [])))) (λ done. refl))
+      then_call (lone_argument check env place first others) (λ one. gives (typed one.type (built_in_call built_in.Copy (one ∷ [])))) (λ one. refl)
 
   built_in_plain : (place : Place) (function : BuiltIn) (items : List Item) → PlainCall (built_in_typed check env place function items)
   built_in_plain place built_in.Fmt items = fmt_plain place items
@@ -146,6 +149,10 @@ module _ (check : Check) (env : Env) where
   made_plain place items (Set keys) = refl
   made_plain place items (Vector item) = refl
 
+  named_plain : (place : Place) (items : List Item) (type : Checked ValueType) → PlainCall (made_by check env place items type)
+  named_plain place items (Ok type) = made_plain place items type
+  named_plain place items (Err rules) = refl
+
   -- a name that means no function of the log framework
   pub call_plain : (name : Name) (items : List Item) (whole : List ℕ) (exported : Bool) (meant : Meant) → is_log meant ≡ false →
       PlainCall (call_typed check env name items (Some (record { name = whole; exported = exported; meant = meant })))
@@ -157,7 +164,7 @@ module _ (check : Check) (env : Env) where
   call_plain name items whole exported (Log function) differs = absurd (both_ways true differs refl)
   call_plain name items whole exported (KnownType type) differs = made_plain (at env name.place) items type
   call_plain name items whole exported (WrittenType home tree) differs =
-      then_call (type_named env.scripts env.home name) (made_of check env (at env name.place) items) (made_plain (at env name.place) items)
+      named_plain (at env name.place) items (type_named env.scripts env.home name)
   call_plain name items whole exported (Word number) differs = refl
   call_plain name items whole exported (Variable home lasting tree init attrs) differs = refl
   call_plain name items whole exported (Event signature) differs = refl

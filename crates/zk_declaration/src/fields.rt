@@ -13,7 +13,7 @@ use crate::told::require;
 use zk_names::{Home, place_in};
 use zk_operator::also;
 use zk_tree::{Field, Type};
-use zk_typed::{Refusal, Rule};
+use zk_typed::{Refusal, Rule, one_broken};
 
 /// The rules that the type and the attributes of a field break.
 #[tactic(auto, using(crate::proofs::RuleLaws::type_passed))]
@@ -50,7 +50,8 @@ pub fn nested(ground: &Ground<'_>, depth: u64, home: Home<'_>, tree: &Type) -> R
     ensures { Tells (λ done. done) result (spec.nested_to depth (scripts_in ground.now.names.now) (home_of home.entry) tree.now) }
 {
     if depth == 0 {
-        return Ok(());
+        let place = place_in(home, tree.place());
+        return Err(Refusal::Broken(one_broken(ground.alloc, Rule::Recursive, place)?));
     }
     match tree {
         Type::Table {

@@ -18,7 +18,7 @@ use crate::told::dropped;
 use sqlite_items::Items;
 use std::alloc::Global;
 use zk_base::Mem;
-use zk_expression::{Env, Globals, init_typed};
+use zk_expression::{Env, Globals, init_typed, refused};
 use zk_names::{Declared, Home, Meant, Scripts, Signature, place_in};
 use zk_operator::{Typed, Wanted, also, signature_attrs};
 use zk_tree::{Attr, Init, Lasting, Place, Type};
@@ -211,20 +211,17 @@ impl Valued<'_> {
 
 impl Valued<'_> {
     /// The rule of a value that a name of events, hooks or functions is given.
-    #[tactic(auto, using(crate::proofs::ValueLaws::typed_passed))]
+    #[tactic(auto, using(zk_expression::proofs::Refusals::refused))]
     fn no_value(&self, home: Home<'_>, init: &Option<Init>) -> Result<(), Refusal>
         requires { IsValued self.now }
         ensures { Tells (λ done. done) result (spec.no_value (scripts_in self.now.ground.names.now) (home_of home.entry) init.now) }
     {
         match init {
-            Some(init) => match self.init_checked(home, Wanted::Nothing, init) {
-                Ok(_) => Err(Refusal::Broken(one_broken(
-                    self.ground.alloc,
-                    Rule::WrongType,
-                    init_place(home, init),
-                )?)),
-                Err(refusal) => Err(refusal),
-            },
+            Some(init) => {
+                let judged = self.init_checked(home, Wanted::Nothing, init);
+                let place = init_place(home, init);
+                Err(refused(self.ground.alloc, judged, Rule::WrongType, place))
+            }
             None => Ok(()),
         }
     }

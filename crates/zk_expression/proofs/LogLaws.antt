@@ -18,10 +18,10 @@ use Rattle.zk_tree.specs.declared.name.Name.{Name}
 use Rattle.zk_typed.specs.declared.refusal.Refusal.{Refusal}
 use Rattle.zk_typed.specs.declared.refusal.Refusal.TheVariants.{Broken, NoMemory}
 use Rattle.zk_typed.specs.declared.rule.Rule.TheVariants as rule
-use Rattle.zk_typed.specs.Checked.{Checked, broken, both, require, ◌>>=◌, ◌>>◌}
+use Rattle.zk_typed.specs.Checked.{Checked, broken_anyway, both, require, ◌>>=◌, ◌>>◌}
 use Rattle.zk_typed.specs.Declarations.{nothing}
 use Rattle.zk_typed.specs.Errors.{kind_of}
-use Rattle.zk_typed.specs.LogCalls.{among, event_kind, hook_kind, log_type, log_word, named_signature, only_settings, setting_name, setting_rules, word_of}
+use Rattle.zk_typed.specs.LogCalls.{StreamTold, among, event_kind, hook_kind, log_type, log_word, named_signature, only_settings, setting_name, setting_rules, word_of}
 use Rattle.zk_typed.specs.Names.{BuiltInFunction, Declared, Event, Function, Hook, KnownType, Log, Meant, Signature, Variable, Word, WrittenType}
 use Rattle.zk_typed.specs.Resolving.{params_of}
 use Rattle.zk_typed.specs.Tells.{Tells}
@@ -32,7 +32,7 @@ use Rattle.zk_operator.specs.Views.{typed_of}
 use Rattle.zk_expression.specs.declared.log_words.LogWord.{LogWord}
 use Rattle.zk_expression.specs.Refusing.{Refuses}
 use Rattle.zk_expression.proofs.Refusals.{refused}
-use Rattle.zk_expression.specs.LogSettings.{AreAlike, ColumnsTold, PathsTold, StreamTold, filter_view, kept_view, log_word_of, logged_word, signed_declared, typed_word, with_type}
+use Rattle.zk_expression.specs.LogSettings.{AreAlike, ColumnsTold, PathsTold, filter_view, kept_view, log_word_of, logged_word, signed_declared, typed_word, with_type}
 
 -- Refusals ---------------------------------------------------------------------------------------------------------
 
@@ -45,11 +45,6 @@ pub filter_passed : {B B' : Type 0} (vb : B → B') (ca : Checked ((Unit {0} × 
     Tells filter_view (Err refusal) ca → Tells vb (Err refusal) (ca >>= k)
 filter_passed vb ca k (Broken rules) h = rw h refl
 filter_passed vb ca k NoMemory h = tt
-
-pub word_passed : {B B' : Type 0} (vb : B → B') (ca : Checked (Declared × Option RecordNo)) (k : Declared × Option RecordNo → Checked B') (refusal : Refusal) →
-    Tells log_word_of (Err refusal) ca → Tells vb (Err refusal) (ca >>= k)
-word_passed vb ca k (Broken rules) h = rw h refl
-word_passed vb ca k NoMemory h = tt
 
 -- Names ------------------------------------------------------------------------------------------------------------
 
@@ -103,7 +98,7 @@ hooks_are = λ i meant. hook_is meant i
 
 -- the word of a log that has a stream, or what is wrong with an argument that names none
 abbrev pub word_or : Check → Env → Expr → Option (Declared × Option RecordNo) → Checked (Declared × Option RecordNo)
-word_or check env one None = check Nothing one >> broken rule.WrongType (expr_place env one)
+word_or check env one None = broken_anyway (check Nothing one) rule.WrongType (expr_place env one)
 word_or check env one (Some word) = Ok word
 
 by_type : (check : Check) (env : Env) (one : Expr) (word : Declared) (type : Option (Option RecordNo)) →
@@ -119,8 +114,8 @@ pub word_is : (check : Check) (env : Env) (one : Expr) → log_word check env on
 word_is check env one = by_word check env one (word_of (found env) one) refl
 
 pub no_word : (check : Check) (env : Env) (one : Expr) (part : Result RustTyped Refusal) (refusal : Refusal) → None ≡ logged_word env one →
-    Refuses (record { rule = rule.WrongType; place = expr_place env one } ∷ []) part refusal → Tells typed_of part (check Nothing one) → Tells log_word_of (Err refusal) (log_word check env one)
-no_word check env one part refusal none h k = rw (word_is check env one ∙ ap (word_or check env one) (sym none)) (refused typed_of log_word_of part _ refusal (check Nothing one) h k)
+    Refuses rule.WrongType (expr_place env one) part refusal → Tells typed_of part (check Nothing one) → Tells log_word_of (Err refusal) (log_word check env one)
+no_word check env one part refusal none h k = rw (word_is check env one ∙ ap (word_or check env one) (sym none)) (refused typed_of log_word_of rule.WrongType (expr_place env one) part refusal (check Nothing one) h k)
 
 pub the_word : (check : Check) (env : Env) (one : Expr) (word : LogWord) → Some (log_word_of word) ≡ logged_word env one → Tells log_word_of (Ok word) (log_word check env one)
 the_word check env one word is = word_is check env one ∙ ap (word_or check env one) (sym is)

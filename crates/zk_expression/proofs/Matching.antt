@@ -1,24 +1,29 @@
 -- Arguments with their parameters, one after another.
-use Rattle.std.proofs.Common.{◌≡◌, ℕ, suc, ◌+◌, ◌<◌, ◌≤◌, Result, Ok, List, [], ◌∷◌, length, map, drop, get_or, refl, ap, sym, ◌∙◌, subst, drop-cons, add-one}
-use Rattle.std.proofs.lemmas.List.{drop_all}
+use Rattle.std.proofs.Common.{◌≡◌, ℕ, suc, ◌+◌, ◌<◌, ◌≤◌, Result, Ok, List, [], ◌∷◌, length, map, drop, get_or, refl, ap, sym, ◌∙◌, subst, drop-cons, add-one, ◌==◌}
+use Rattle.std.proofs.lemmas.List.{drop_all, length-map}
 use Rattle.std.specs.declared.alloc.Global.{Global}
 use Rattle.std.specs.declared.vec.Vec.{Vec}
 use Rattle.zk_tree.specs.declared.expr.Item.{Item}
 use Rattle.zk_tree.specs.declared.expr.Part.{Part}
 use Rattle.zk_tree.specs.declared.place.Place.{Place}
 use Rattle.zk_operator.specs.declared.operands.Typed.{Typed as RustTyped}
+use Rattle.zk_operator.proofs.BothLaws.{along_tells}
+use Rattle.zk_operator.specs.Gather.{IsAlong}
 use Rattle.zk_operator.specs.Gathering.{IsNext}
 use Rattle.zk_operator.specs.Views.{typed_of, all_typed}
 use Rattle.zk_typed.specs.declared.refusal.Refusal.{Refusal}
 use Rattle.zk_typed.specs.declared.script.types.ValueType as declared
-use Rattle.zk_typed.specs.Checked.{Checked}
-use Rattle.zk_typed.specs.Making.{argument, matched, part_typed, parts_typed}
+use Rattle.zk_typed.specs.declared.rule.Rule.{Rule}
+use Rattle.zk_typed.specs.Checked.{Checked, each}
+use Rattle.zk_typed.specs.Making.{argument, as_many, matched, part_typed, parts_typed}
 use Rattle.zk_typed.specs.Tells.{Tells}
 use Rattle.zk_typed.specs.Types.{ValueType}
-use Rattle.zk_typed.specs.Typing.{Typed, Env, Check, Wants}
+use Rattle.zk_typed.specs.Typing.{Typed, Env, Check, Unclear, Wants}
 use Rattle.zk_typed.specs.View.{type_of}
 use Rattle.zk_expression.specs.Parts.{with_last}
+use Rattle.zk_expression.specs.Refusing.{Holds}
 use Rattle.zk_expression.proofs.Eaches.{with_first, with_rest, rest_turn, no_rest, next_tells}
+use Rattle.zk_expression.proofs.Refusals.{held}
 
 -- what is told where a list of parts goes on as another
 abbrev pub GoesOn : Result (Vec RustTyped Global) Refusal → Checked (List Typed) → Checked (List Typed) → Type 0
@@ -57,3 +62,11 @@ matched_end check env params items i all whole past before =
     let left : matched check env params (drop i items) ≡ Ok [] = ap (matched check env params) (none_left items i past) ∙ matched_none check env params in
     let same : before.0 ≡ whole = sym (no_rest before.0) ∙ ap (with_rest before.0) (sym left) ∙ before.2 in
     subst (λ (x : Checked (List Typed)). Tells all_typed all x) same before.1
+
+-- items as many as these types, and those past the types
+pub many_told : (check : Check) (env : Env) (rule : Rule) (place : Place) (types : List declared.ValueType) (items : List Item) (placed counted others whole : Result (Vec RustTyped Global) Refusal) →
+    Tells all_typed placed (matched check env (map type_of types) items) → Holds (length types == length items) rule place placed counted →
+    Tells all_typed others (each (argument check env Unclear) (drop (length types) items)) → IsAlong counted others whole →
+    Tells all_typed whole (as_many check env rule place (map type_of types) items)
+many_told check env rule place types items placed counted others whole told holds beside is =
+    rw (length-map types type_of) (along_tells all_typed all_typed counted others whole _ _ (held all_typed (length types == length items) rule place placed counted _ holds told) beside is)

@@ -10,7 +10,7 @@ use Rattle.zk_typed.specs.declared.rule.Rule.TheVariants as rule
 use Rattle.zk_typed.specs.declared.script.primitive.Primitive.TheVariants as primitive
 use Rattle.zk_typed.specs.declared.script.types.SimpleType.{SimpleType}
 use Rattle.zk_typed.specs.declared.script.types.ValueType.TheVariants as rust
-use Rattle.zk_typed.specs.Checked.{Checked, broken, both, each, require, ◌>>=◌, ◌>>◌}
+use Rattle.zk_typed.specs.Checked.{Checked, broken_anyway, both, each, require, ◌>>=◌, ◌>>◌}
 use Rattle.zk_typed.specs.Making.{member_keys, one_value, bracketed, joined, simple_types, set_alone, plain_shape, loose, wanted_container, braces_typed}
 use Rattle.zk_typed.specs.Operations.{same_type}
 use Rattle.zk_typed.specs.Types.{ValueType, Simple, Record, Table, Set, Vector}
@@ -89,7 +89,7 @@ set_is place first others =
     Ok (typed (Set keys) (apply (primitive.NewSet (plain_shape keys)) (joined (all_typed first ∷ map all_typed others)))))) (typed_length first.items)
 
 abbrev pub braces_by : Check → Env → Place → List Expr → ValueType → Option Container → Checked Typed
-braces_by check env place values type None = each (loose check env Nothing) values >> broken rule.WrongType place
+braces_by check env place values type None = broken_anyway (each (loose check env Nothing) values) rule.WrongType place
 braces_by check env place values type (Some made) = wanted_container check env place made (λ judge. each judge values) type
 
 -- what values in braces make by the container that is wanted

@@ -1,24 +1,49 @@
 -- Rules that are told of parts, and those of the whole.
-use Rattle.std.proofs.Common.{◌≡◌, Result, Ok, Err, List, [], ◌∷◌, ◌++◌, refl, ap, sym}
+use Rattle.std.proofs.Common.{◌≡◌, ◌≢◌, Bool, true, false, Result, Ok, Err, List, [], ◌∷◌, ◌++◌, refl, ap, sym}
 use Rattle.zk_typed.specs.declared.refusal.Broken.{Broken as BrokenRule}
 use Rattle.zk_typed.specs.declared.refusal.Refusal.{Refusal}
 use Rattle.zk_typed.specs.declared.refusal.Refusal.TheVariants.{Broken, NoMemory}
 use Rattle.zk_tree.specs.declared.place.Place.{Place}
 use Rattle.zk_typed.specs.declared.rule.Rule.{Rule}
-use Rattle.zk_typed.specs.Checked.{Checked, broken, ◌>>=◌}
+use Rattle.zk_typed.specs.Checked.{Checked, broken, broken_anyway, elsewhere, require, told_or, with_rule, ◌>>=◌, ◌>>◌}
 use Rattle.zk_typed.specs.Tells.{Tells}
-use Rattle.zk_expression.specs.Refusing.{Refuses}
+use Rattle.zk_expression.specs.Refusing.{Holds, Hushes, Refuses}
 
-abbrev by_rules : {A : Type 0} → List BrokenRule → Checked A
-by_rules rules = Err rules
+-- some rules are told before others
+pub told_first : (before others : List BrokenRule) → before ≢ [] → told_or before others ≡ before
+told_first [] others some = absurd (some refl)
+told_first (one ∷ more) others some = refl
+
+told_alone : (rules : List BrokenRule) → told_or rules [] ≡ rules
+told_alone [] = refl
+told_alone (one ∷ more) = refl
 
 -- what is refused in a part, or else because of where it stands, is refused in the whole
-pub refused : {A A' B B' : Type 0} (va : A → A') (vb : B → B') (part : Result A Refusal) (after : List BrokenRule) (refusal : Refusal) (ca : Checked A') →
-    Refuses after part refusal → Tells va part ca → Tells vb (Err refusal) (ca >>= (λ a. by_rules after))
-refused va vb (Ok one) after (Broken rules) ca h k = rw k (ap Err (sym h))
-refused va vb (Err (Broken before)) after (Broken rules) ca h k = rw k (ap Err (sym h))
-refused va vb (Err NoMemory) after (Broken rules) ca h k = absurd h
-refused va vb part after NoMemory ca h k = tt
+pub refused : {A A' B B' : Type 0} (va : A → A') (vb : B → B') (rule : Rule) (place : Place) (part : Result A Refusal) (refusal : Refusal) (ca : Checked A') →
+    Refuses rule place part refusal → Tells va part ca → Tells vb (Err refusal) (broken_anyway ca rule place)
+refused va vb rule place (Ok one) (Broken rules) ca h k = rw k (ap Err (sym h))
+refused va vb rule place (Err (Broken before)) (Broken rules) ca h k = rw k (ap Err (sym h))
+refused va vb rule place (Err NoMemory) (Broken rules) ca h k = absurd h
+refused va vb rule place part NoMemory ca h k = tt
+
+-- what is broken in a part that rests on what isn't known
+pub hushed : {A A' B B' : Type 0} (va : A → A') (vb : B → B') (part : Result A Refusal) (refusal : Refusal) (ca : Checked A') → Hushes part refusal → Tells va part ca → Tells vb (Err refusal) (ca >> elsewhere)
+hushed va vb (Ok one) (Broken rules) ca h k = rw k (ap Err (sym h))
+hushed va vb (Err (Broken before)) (Broken rules) ca h k = rw k (ap Err (sym h))
+hushed va vb (Err NoMemory) (Broken rules) ca h k = absurd h
+hushed va vb part NoMemory ca h k = tt
+
+-- a part under a rule of the whole that doesn't rest on it
+pub held : {A A' : Type 0} (va : A → A') (holds : Bool) (rule : Rule) (place : Place) (part result : Result A Refusal) (ca : Checked A') →
+    Holds holds rule place part result → Tells va part ca → Tells va result (with_rule ca (require holds rule place))
+held va true rule place (Ok one) result ca h k = rw (h, k) refl
+held va true rule place (Err (Broken rules)) result ca h k = rw (h, k) (ap Err (told_alone rules))
+held va true rule place (Err NoMemory) result ca h k = rw h tt
+held va false rule place part (Ok one) ca h k = absurd h
+held va false rule place (Ok one) (Err (Broken rules)) ca h k = rw k (ap Err (sym h))
+held va false rule place (Err (Broken before)) (Err (Broken rules)) ca h k = rw k (ap Err (sym h))
+held va false rule place (Err NoMemory) (Err (Broken rules)) ca h k = absurd h
+held va false rule place part (Err NoMemory) ca h k = tt
 
 same_rules : {A : Type 0} {before after : List BrokenRule} → Path (Checked A) (Err before) (Err after) → before ≡ after
 same_rules e = cc

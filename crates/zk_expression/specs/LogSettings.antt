@@ -4,7 +4,6 @@ use Rattle.std.specs.Borrow.{Bor}
 use Rattle.std.specs.Option.{option_map}
 use Rattle.std.specs.declared.alloc.Global.{Global}
 use Rattle.std.specs.declared.vec.Vec.{Vec}
-use Rattle.zk_base.specs.declared.numbers.EventNo.{EventNo}
 use Rattle.zk_base.specs.declared.numbers.HookNo.{HookNo}
 use Rattle.zk_base.specs.declared.numbers.RecordNo.{RecordNo}
 use Rattle.zk_names.specs.Lent.{declared_of}
@@ -24,7 +23,7 @@ use Rattle.zk_typed.specs.declared.script.types.ValueType.{ValueType as RustType
 use Rattle.zk_typed.specs.Checked.{Checked, broken, both, each, or_broken, require, ◌>>=◌, ◌>>◌}
 use Rattle.zk_typed.specs.Errors.{kind_of}
 use Rattle.zk_typed.specs.Forms as form
-use Rattle.zk_typed.specs.LogCalls.{among, columns_type, event_setting, if_known, is_path, keeps, leaves, log_form, log_no, log_path, log_type, logged, names_setting, not_local, of_known, optional, path_literal, path_or_module, places_of, policy_setting, same_types, setting, text_of, word_of}
+use Rattle.zk_typed.specs.LogCalls.{StreamTold, among, columns_type, event_setting, if_known, is_path, keeps, leaves, log_form, log_no, log_path, log_type, logged, names_setting, not_local, of_known, optional, path_literal, path_or_module, places_of, policy_setting, same_types, setting, text_of, word_of}
 use Rattle.zk_typed.specs.Names.{Declared, Signature}
 use Rattle.zk_typed.specs.Resolving.{params_of}
 use Rattle.zk_typed.specs.Predefined as type
@@ -118,10 +117,6 @@ stream_names = codes "columns" ∷ codes "ev" ∷ codes "path" ∷ codes "policy
 
 abbrev pub filter_names : List (List ℕ)
 filter_names = codes "name" ∷ codes "path" ∷ codes "include" ∷ codes "exclude" ∷ codes "policy" ∷ []
-
--- what the settings of a stream are
-abbrev pub StreamTold : Type 0
-StreamTold = (Option RecordNo × Option EventNo) × (Option (List ℕ) × Option HookNo)
 
 abbrev pub stream_told : Check → Env → List Item → Checked StreamTold
 stream_told check env items =

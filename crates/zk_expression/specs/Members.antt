@@ -10,7 +10,7 @@ use Rattle.zk_tree.specs.declared.operator.Container.{Container}
 use Rattle.zk_tree.specs.declared.operator.Container.TheVariants as container
 use Rattle.zk_typed.specs.declared.script.types.SimpleType.{SimpleType}
 use Rattle.zk_typed.specs.declared.rule.Rule.TheVariants as rule
-use Rattle.zk_typed.specs.Checked.{Checked, broken, each, ◌>>◌}
+use Rattle.zk_typed.specs.Checked.{Checked, broken_anyway, each}
 use Rattle.zk_typed.specs.Making.{Members, members_in, entry, each_key, member_keys, one_value, loose}
 use Rattle.zk_typed.specs.Operations.{same_type}
 use Rattle.zk_typed.specs.Types.{ValueType, Simple, Record, Table, Set, Vector}
@@ -37,7 +37,7 @@ lone_key keys = None
 
 -- the keys of a member of a set that are several, in brackets
 abbrev pub several_keys : Check → Env → List SimpleType → Expr → Option (ℕ × List Item) → Checked (List Typed)
-several_keys check env keys one None = check Nothing one >> broken rule.WrongType (expr_place env one)
+several_keys check env keys one None = broken_anyway (check Nothing one) rule.WrongType (expr_place env one)
 several_keys check env keys one (Some items) = each_key check env (at env items.0) keys items.1
 
 -- how a member is checked

@@ -28,10 +28,6 @@ use Rattle.zk_operator.specs.Views.{typed_of, all_typed}
 abbrev pub and_then : {A B : Type 0} → Checked A → (A → Checked B) → Checked B
 and_then given rule = given >>= rule
 
--- a rule that is broken where the part is right
-abbrev pub then_broken : {A B : Type 0} → Checked A → Rule → Place → Checked B
-then_broken given rule place = given >> broken rule place
-
 -- what is wanted isn't known for what is broken elsewhere
 abbrev pub then_unclear : {A B : Type 0} → Checked A → Checked B
 then_unclear given = given >> elsewhere

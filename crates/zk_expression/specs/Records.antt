@@ -11,7 +11,7 @@ use Rattle.zk_tree.specs.declared.place.Place.{Place}
 use Rattle.zk_typed.specs.declared.refusal.Broken.{Broken}
 use Rattle.zk_typed.specs.declared.rule.Rule.TheVariants as rule
 use Rattle.zk_typed.specs.declared.script.expr.Given.{Given, fold-Given}
-use Rattle.zk_typed.specs.Checked.{Checked, broken, both, require, ◌>>=◌, ◌>>◌}
+use Rattle.zk_typed.specs.Checked.{Checked, broken_anyway, both, require, ◌>>=◌, ◌>>◌}
 use Rattle.zk_typed.specs.Forms.{Givens, NoField}
 use Rattle.zk_typed.specs.Forms as form
 use Rattle.zk_typed.specs.Making.{GivenField, item_place, given_once, all_given, and_given, givens}
@@ -34,7 +34,7 @@ known_given check type value = both type (check (wanted_of type) value) >>= (λ 
 
 -- a value for what its name was found to name; its own rules stand at its `$`
 abbrev pub field_given : Check → Env → ℕ → Expr → Option (ℕ × FieldInfo) → Checked GivenField
-field_given check env place value None = check Nothing value >> broken rule.Field (at env place)
+field_given check env place value None = broken_anyway (check Nothing value) rule.Field (at env place)
 field_given check env place value (Some field) =
     both field.1.field_type (check (wanted_of field.1.field_type) value) >>= (λ parts. Ok (record { number = field.0; wire = field.1.wire; value = parts.1 }))
 

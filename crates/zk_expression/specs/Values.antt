@@ -7,7 +7,7 @@ use Rattle.zk_tree.specs.declared.expr.Item.{Item}
 use Rattle.zk_tree.specs.declared.expr.Link.{Link}
 use Rattle.zk_tree.specs.declared.expr.Part.{Part}
 use Rattle.zk_tree.specs.Value as plain
-use Rattle.zk_typed.specs.Checked.{Checked, ◌>>=◌, ◌>>◌, broken}
+use Rattle.zk_typed.specs.Checked.{Checked, ◌>>=◌, ◌>>◌, broken_anyway}
 use Rattle.zk_typed.specs.declared.rule.Rule.TheVariants as rule
 use Rattle.zk_typed.specs.Expressions.{assigned_parts, wanted_first, compared, unary_typed, size_typed, choice}
 use Rattle.zk_typed.specs.Making.{post_typed, called_name, hook_typed, brackets_typed, container_typed, members_in}
@@ -40,7 +40,7 @@ fitted check env wanted one form = of_constant (constant_of form)
     of_constant None = value_typed check env one form >>= fit (expr_place env one) wanted
 
 abbrev pub by_form : Check → Env → Wanted → Expr → Expr-F Expr Item Part Link → Checked Typed
-by_form check env wanted one (written.Assign a operator b) = assigned_parts check env operator a b >> broken rule.WrongType (expr_place env one)
+by_form check env wanted one (written.Assign a operator b) = broken_anyway (assigned_parts check env operator a b) rule.WrongType (expr_place env one)
 by_form check env wanted one (written.Choice test a b) = choice check env wanted test a b
 by_form check env wanted one (written.Parenthesis place inner) = check wanted inner
 by_form check env wanted one (written.List place items) = brackets_typed check env (at env place) items wanted

@@ -1,4 +1,4 @@
-ghost use Rattle.std.specs.Prelude.{◌≡◌, map};
+ghost use Rattle.std.specs.Prelude.{◌≡◌, drop, map, Ok};
 ghost use Rattle.zk_operator.specs.Views.{typed_of, all_typed};
 ghost use Rattle.zk_typed.specs.Checked as checked;
 ghost use Rattle.zk_typed.specs.declared.rule.Rule.TheVariants as rule;
@@ -9,15 +9,27 @@ ghost use Rattle.zk_typed.specs.Typing as spec;
 ghost use Rattle.zk_typed.specs.View.{type_of};
 ghost use Rattle.zk_expression.specs.Envs.{env_of};
 ghost use Rattle.zk_expression.specs.Judging.{Judges};
-ghost use Rattle.zk_expression.specs.Parts.{then_broken};
 
 use crate::env::Env;
 use crate::judge::Judge;
+use crate::refuse::with_rule;
 use std::alloc::Global;
-use zk_operator::{Typed, Wanted, simple_type, with_part};
+use zk_operator::{Typed, Wanted, along, simple_type, with_part};
 use zk_tree::{Expr, Item, Place};
 use zk_typed::script::ValueType;
-use zk_typed::{Refusal, Rule, one_broken};
+use zk_typed::{Refusal, Rule};
+
+/// The items past so many.
+#[tactic(auto, using(crate::proofs::Matching::none_left))]
+fn past(items: &[Item], count: usize) -> &[Item]
+    ensures { result.now ≡ drop count items.entry.now }
+{
+    if count < items.len() {
+        &items[count..]
+    } else {
+        &[]
+    }
+}
 
 impl<F: Fn(Global, &Env<'_>, u64, Wanted<'_>, &Expr) -> Result<Typed, Refusal>> Judge<'_, F> {
     /// A value whose text `print` writes.
@@ -69,8 +81,25 @@ impl<F: Fn(Global, &Env<'_>, u64, Wanted<'_>, &Expr) -> Result<Typed, Refusal>> 
         all
     }
 
+    /// Items as many as these types, each of its own; those past the types are judged by themselves.
+    #[tactic(auto, using(crate::proofs::Matching::many_told))]
+    pub fn as_many(
+        &self,
+        rule: Rule,
+        place: Place,
+        types: &[ValueType],
+        items: &[Item],
+    ) -> Result<Vec<Typed>, Refusal>
+        requires { Judges self.now.depth (F.pre self.now.part) (F.post self.now.part) }
+        ensures { Tells all_typed result (making.as_many (rules.expr_to self.now.depth (env_of self.now.env.now)) (env_of self.now.env.now) rule place (map type_of types.now) items.now) }
+    {
+        let placed = self.matched(types, items);
+        let counted = with_rule(self.alloc, placed, types.len() == items.len(), rule, place);
+        let others = self.each_argument(Wanted::Unclear, past(items, types.len()));
+        along(counted, others)
+    }
+
     /// The arguments of what has these parameters, called at a place.
-    #[tactic(auto, using(crate::proofs::Steps::all_passed))]
     pub fn arguments(
         &self,
         place: Place,
@@ -80,15 +109,6 @@ impl<F: Fn(Global, &Env<'_>, u64, Wanted<'_>, &Expr) -> Result<Typed, Refusal>> 
         requires { Judges self.now.depth (F.pre self.now.part) (F.post self.now.part) }
         ensures { Tells all_typed result (making.arguments (rules.expr_to self.now.depth (env_of self.now.env.now)) (env_of self.now.env.now) place (Ok (map type_of params.now)) items.now) }
     {
-        match self.matched(params, items) {
-            Ok(args) => {
-                if params.len() == items.len() {
-                    Ok(args)
-                } else {
-                    Err(Refusal::Broken(one_broken(self.alloc, Rule::Arguments, place)?))
-                }
-            }
-            Err(refusal) => Err(refusal),
-        }
+        self.as_many(Rule::Arguments, place, params, items)
     }
 }

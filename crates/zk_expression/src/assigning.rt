@@ -1,16 +1,15 @@
 //! Assignments that stand where a value should: they have none, and their parts are judged as those of others.
 ghost use Rattle.zk_operator.specs.Views.{typed_of};
-ghost use Rattle.zk_typed.specs.Checked.{Checked};
+ghost use Rattle.zk_typed.specs.Checked.{Checked, broken_anyway};
 ghost use Rattle.zk_typed.specs.declared.rule.Rule.TheVariants as rule;
 ghost use Rattle.zk_typed.specs.Expressions as rules;
 ghost use Rattle.zk_typed.specs.Tells.{Tells};
 ghost use Rattle.zk_expression.specs.Envs.{env_of, side_of};
 ghost use Rattle.zk_expression.specs.Judging.{Judges};
-ghost use Rattle.zk_expression.specs.Parts.{then_broken};
 
 use crate::env::Env;
 use crate::judge::Judge;
-use crate::refused::wrong;
+use crate::refuse::wrong;
 use crate::side::Side;
 use std::alloc::Global;
 use zk_operator::{Typed, Wanted, added_type, both};
@@ -80,7 +79,7 @@ impl<F: Fn(Global, &Env<'_>, u64, Wanted<'_>, &Expr) -> Result<Typed, Refusal>> 
         right: &Expr,
     ) -> Result<Typed, Refusal>
         requires { Judges self.now.depth (F.pre self.now.part) (F.post self.now.part) }
-        ensures { Tells typed_of result (then_broken (rules.assigned_parts (rules.expr_to self.now.depth (env_of self.now.env.now)) (env_of self.now.env.now) operator left.now right.now) rule.WrongType place) }
+        ensures { Tells typed_of result (broken_anyway (rules.assigned_parts (rules.expr_to self.now.depth (env_of self.now.env.now)) (env_of self.now.env.now) operator left.now right.now) rule.WrongType place) }
     {
         let judged = self.assigned_parts(operator, left, right);
         Err(wrong(self.alloc, judged, place))

@@ -17,12 +17,12 @@ use crate::called::Called;
 use crate::elements::operands_behind;
 use crate::env::Env;
 use crate::judge::Judge;
-use crate::refused::{broken, wrong};
+use crate::refuse::{broken, with_rule, wrong};
 use crate::rows::built_in_row;
 use std::alloc::{AllocError, Global};
 use zk_base::Bytes;
 use zk_operator::{
-    Typed, Wanted, applied, both, one_operand, operands_of, verbs, verbs_take, with_part,
+    Typed, Wanted, along, applied, both, one_operand, operands_of, verbs, verbs_take, with_part,
 };
 use zk_tree::{Expr, Item, Literal, Place};
 use zk_typed::script::{BuiltIn, Primitive, SimpleType, ValueType};
@@ -196,6 +196,18 @@ fn formatted(
 }
 
 impl<F: Fn(Global, &Env<'_>, u64, Wanted<'_>, &Expr) -> Result<Typed, Refusal>> Judge<'_, F> {
+    /// One argument, and no other.
+    #[tactic(auto, using(zk_operator::proofs::BothLaws::along_tells, crate::proofs::Refusals::held))]
+    fn lone_argument(&self, place: Place, first: &Item, others: &[Item]) -> Result<Typed, Refusal>
+        requires { Judges self.now.depth (F.pre self.now.part) (F.post self.now.part) }
+        ensures { Tells typed_of result (making.lone_argument (rules.expr_to self.now.depth (env_of self.now.env.now)) (env_of self.now.env.now) place first.now others.now) }
+    {
+        let one = self.argument(Wanted::Nothing, first);
+        let alone = with_rule(self.alloc, one, others.len() == 0, Rule::Arguments, place);
+        let others = self.each_argument(Wanted::Unclear, others);
+        along(alone, others)
+    }
+
     /// `copy(a)`
     #[tactic(auto, using(crate::proofs::Steps::passed))]
     fn copy_typed(&self, place: Place, items: &[Item]) -> Result<Called, Refusal>
@@ -205,15 +217,8 @@ impl<F: Fn(Global, &Env<'_>, u64, Wanted<'_>, &Expr) -> Result<Typed, Refusal>> 
         let Some((first, others)) = items.split_first() else {
             return Err(Refusal::Broken(one_broken(self.alloc, Rule::Arguments, place)?));
         };
-        match self.argument(Wanted::Nothing, first) {
-            Ok(one) => {
-                if others.is_empty() {
-                    Ok(copied(self.alloc, one)?)
-                } else {
-                    drop(one);
-                    Err(Refusal::Broken(one_broken(self.alloc, Rule::Arguments, place)?))
-                }
-            }
+        match self.lone_argument(place, first, others) {
+            Ok(one) => Ok(copied(self.alloc, one)?),
             Err(refusal) => Err(refusal),
         }
     }

@@ -1,13 +1,16 @@
-ghost use Rattle.std.specs.Prelude.{Some, Err};
+ghost use Rattle.std.specs.Prelude.{List, Some, Err};
 ghost use Rattle.zk_names.specs.Lent.{signature_of, declared_of, log_function_of};
 ghost use Rattle.zk_operator.specs.Views.{typed_of, typed_all, all_typed};
-ghost use Rattle.zk_typed.specs.Checked.{each};
+ghost use Rattle.zk_typed.specs.Checked.{Checked, each};
+ghost use Rattle.zk_typed.specs.declared.rule.Rule.TheVariants as rule;
 ghost use Rattle.zk_typed.specs.Expressions as rules;
 ghost use Rattle.zk_typed.specs.LogCalls as logs;
 ghost use Rattle.zk_typed.specs.Making as making;
 ghost use Rattle.zk_typed.specs.Resolving as resolving;
 ghost use Rattle.zk_typed.specs.Tells.{Tells};
+ghost use Rattle.zk_typed.specs.Types.{ValueType as ValueForm};
 ghost use Rattle.zk_typed.specs.Typing as spec;
+ghost use Rattle.zk_typed.specs.Typing.{Typed as TypedForm};
 ghost use Rattle.zk_typed.specs.View.{type_of};
 ghost use Rattle.zk_expression.specs.Envs.{env_of, called_of};
 ghost use Rattle.zk_expression.specs.Judging.{Judges};
@@ -21,10 +24,32 @@ use crate::judge::Judge;
 use std::alloc::Global;
 use zk_base::HookNo;
 use zk_names::{Declared, Kind, LogFunction, Meant, Signature};
-use zk_operator::{Typed, Wanted, operands_of};
+use zk_operator::{Typed, Wanted, along, operands_of};
 use zk_tree::{Expr, Item, Name, Part, Place};
 use zk_typed::script::{Expr as TypedExpr, SimpleType, ValueType};
 use zk_typed::{Refusal, Rule, one_broken};
+
+/// The rules that are broken where a name is wrong, with those of what stands behind it.
+fn wrong_behind(
+    alloc: Global,
+    rule: Rule,
+    place: Place,
+    behind: Result<Vec<Typed>, Refusal>,
+) -> Refusal
+    ensures { (told : Checked (List TypedForm)) → Tells all_typed behind told → Tells behind_view (Err result) (behind_wrong rule place told) }
+{
+    let Ok(mut rules) = one_broken(alloc, rule, place) else {
+        return Refusal::NoMemory;
+    };
+    match behind {
+        Ok(_) => Refusal::Broken(rules),
+        Err(Refusal::Broken(more)) => match rules.append(more) {
+            Ok(()) => Refusal::Broken(rules),
+            Err(_) => Refusal::NoMemory,
+        },
+        Err(Refusal::NoMemory) => Refusal::NoMemory,
+    }
+}
 
 impl<F: Fn(Global, &Env<'_>, u64, Wanted<'_>, &Expr) -> Result<Typed, Refusal>> Judge<'_, F> {
     /// The arguments of an event, a hook or a function, called at a place.
@@ -87,6 +112,15 @@ impl<F: Fn(Global, &Env<'_>, u64, Wanted<'_>, &Expr) -> Result<Typed, Refusal>> 
         }
     }
 
+    /// The items of what is no constructor of a record, behind its name.
+    fn wrong_constructor(&self, place: Place, items: &[Item]) -> Refusal
+        requires { Judges self.now.depth (F.pre self.now.part) (F.post self.now.part) }
+        ensures { Tells behind_view (Err result) (behind_wrong rule.WrongType place (making.item_values (rules.expr_to self.now.depth (env_of self.now.env.now)) spec.Unclear items.now)) }
+    {
+        let behind = self.item_values(Wanted::Unclear, items);
+        wrong_behind(self.alloc, Rule::WrongType, place, behind)
+    }
+
     /// The constructor of a record type by its name.
     #[tactic(auto, using(crate::proofs::Steps::passed))]
     fn made_of(&self, place: Place, items: &[Item], one: &ValueType) -> Result<Called, Refusal>
@@ -101,17 +135,29 @@ impl<F: Fn(Global, &Env<'_>, u64, Wanted<'_>, &Expr) -> Result<Typed, Refusal>> 
             ValueType::Simple(_)
             | ValueType::Table { .. }
             | ValueType::Set { .. }
-            | ValueType::Vector { .. } => {
-                Err(Refusal::Broken(one_broken(self.alloc, Rule::WrongType, place)?))
-            }
+            | ValueType::Vector { .. } => Err(self.wrong_constructor(place, items)),
         }
     }
 
+    /// Items behind a name whose type is broken.
+    #[tactic(auto, using(zk_operator::proofs::BothLaws::along_tells))]
+    fn broken_constructor(
+        &self,
+        place: Place,
+        refusal: Refusal,
+        items: &[Item],
+    ) -> Result<Called, Refusal>
+        requires { Judges self.now.depth (F.pre self.now.part) (F.post self.now.part) }
+        ensures { (told : Checked ValueForm) → Tells type_of (Err refusal) told → Tells called_of result (making.made_by (rules.expr_to self.now.depth (env_of self.now.env.now)) (env_of self.now.env.now) place items.now told) }
+    {
+        let items = self.item_values(Wanted::Unclear, items);
+        along(Err(refusal), items)
+    }
+
     /// The constructor of a record type that a declaration names.
-    #[tactic(auto, using(crate::proofs::Steps::type_passed))]
     fn made_of_written(&self, place: Place, name: &Name, items: &[Item]) -> Result<Called, Refusal>
         requires { Judges self.now.depth (F.pre self.now.part) (F.post self.now.part) }
-        ensures { Tells called_of result (and_then (resolving.type_named (env_of self.now.env.now).scripts (env_of self.now.env.now).home name.now) (making.made_of (rules.expr_to self.now.depth (env_of self.now.env.now)) (env_of self.now.env.now) place items.now)) }
+        ensures { Tells called_of result (making.made_by (rules.expr_to self.now.depth (env_of self.now.env.now)) (env_of self.now.env.now) place items.now (resolving.type_named (env_of self.now.env.now).scripts (env_of self.now.env.now).home name.now)) }
     {
         match self
             .env
@@ -120,7 +166,7 @@ impl<F: Fn(Global, &Env<'_>, u64, Wanted<'_>, &Expr) -> Result<Typed, Refusal>> 
             .type_named(self.alloc, self.env.home, name)
         {
             Ok(one) => self.made_of(place, items, &one),
-            Err(refusal) => Err(refusal),
+            Err(refusal) => self.broken_constructor(place, refusal, items),
         }
     }
 
@@ -129,17 +175,8 @@ impl<F: Fn(Global, &Env<'_>, u64, Wanted<'_>, &Expr) -> Result<Typed, Refusal>> 
         requires { Judges self.now.depth (F.pre self.now.part) (F.post self.now.part) }
         ensures { Tells behind_view (Err result) (behind_wrong rule place (each (making.argument (rules.expr_to self.now.depth (env_of self.now.env.now)) (env_of self.now.env.now) spec.Unclear) items.now)) }
     {
-        let Ok(mut rules) = one_broken(self.alloc, rule, place) else {
-            return Refusal::NoMemory;
-        };
-        match self.each_argument(Wanted::Unclear, items) {
-            Ok(_) => Refusal::Broken(rules),
-            Err(Refusal::Broken(more)) => match rules.append(more) {
-                Ok(()) => Refusal::Broken(rules),
-                Err(_) => Refusal::NoMemory,
-            },
-            Err(Refusal::NoMemory) => Refusal::NoMemory,
-        }
+        let behind = self.each_argument(Wanted::Unclear, items);
+        wrong_behind(self.alloc, rule, place, behind)
     }
 
     /// A call of the log framework.

@@ -10,7 +10,7 @@ ghost use Rattle.zk_expression.specs.Parts.{and_then, related_pair, member_pair,
 use crate::env::Env;
 use crate::judge::Judge;
 use crate::membership::membership;
-use crate::refused::wrong;
+use crate::refuse::wrong;
 use std::alloc::Global;
 use zk_operator::{Typed, Wanted, beside, both, related, relation_of};
 use zk_tree::{Comparing, Expr};

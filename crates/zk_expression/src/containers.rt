@@ -1,6 +1,6 @@
 ghost use Rattle.std.specs.Prelude.{◌≡◌, map, IfOk, Err};
 ghost use Rattle.zk_operator.specs.Views.{typed_of, typed_all, all_typed, wanted_in};
-ghost use Rattle.zk_typed.specs.Checked.{each};
+ghost use Rattle.zk_typed.specs.Checked.{broken_anyway, each};
 ghost use Rattle.zk_tree.specs.declared.operator.Container.TheVariants as container;
 ghost use Rattle.zk_typed.specs.declared.rule.Rule.TheVariants as rule;
 ghost use Rattle.zk_typed.specs.declared.script.primitive.Primitive.TheVariants as primitive;
@@ -15,12 +15,12 @@ ghost use Rattle.zk_typed.specs.View.{type_of};
 ghost use Rattle.zk_expression.specs.Envs.{env_of};
 ghost use Rattle.zk_expression.specs.Judging.{Judges};
 ghost use Rattle.zk_expression.specs.Members.{member_of, members_of, keys_same, is_same, all_same, container_in};
-ghost use Rattle.zk_expression.specs.Parts.{then_broken, then_unclear};
+ghost use Rattle.zk_expression.specs.Parts.{then_unclear};
 
 use crate::env::Env;
 use crate::judge::Judge;
 use crate::members::{Member, Members, joined};
-use crate::refused::{unclear, wrong};
+use crate::refuse::{unclear, wrong};
 use sqlite_items::Boxed;
 use std::alloc::{AllocError, Global};
 use zk_base::{Mem, Sequence};
@@ -189,7 +189,7 @@ impl<F: Fn(Global, &Env<'_>, u64, Wanted<'_>, &Expr) -> Result<Typed, Refusal>> 
     /// The members of a container where none of its kind is wanted.
     fn misplaced_members(&self, place: Place, made: Container, members: Members<'_>) -> Refusal
         requires { Judges self.now.depth (F.pre self.now.part) (F.post self.now.part) }
-        ensures { Tells typed_of (Err result) (then_broken (members_of (rules.expr_to self.now.depth (env_of self.now.env.now)) (env_of self.now.env.now) members.entry (making.loosely (rules.expr_to self.now.depth (env_of self.now.env.now)) (env_of self.now.env.now) made spec.Nothing)) rule.WrongType place) }
+        ensures { Tells typed_of (Err result) (broken_anyway (members_of (rules.expr_to self.now.depth (env_of self.now.env.now)) (env_of self.now.env.now) members.entry (making.loosely (rules.expr_to self.now.depth (env_of self.now.env.now)) (env_of self.now.env.now) made spec.Nothing)) rule.WrongType place) }
     {
         let judged = self.members(loosely(made, Wanted::Nothing), members);
         wrong(self.alloc, judged, place)
@@ -327,7 +327,7 @@ impl<F: Fn(Global, &Env<'_>, u64, Wanted<'_>, &Expr) -> Result<Typed, Refusal>> 
     }
 
     /// A container.
-    #[tactic(auto, using(crate::proofs::Refusals::refused))]
+    #[tactic(auto, using(crate::proofs::Refusals::hushed))]
     pub fn container_typed(
         &self,
         place: Place,
@@ -350,14 +350,14 @@ impl<F: Fn(Global, &Env<'_>, u64, Wanted<'_>, &Expr) -> Result<Typed, Refusal>> 
     #[tactic(auto, using(crate::proofs::Refusals::refused))]
     fn misplaced_braces(&self, place: Place, values: &[Expr]) -> Refusal
         requires { Judges self.now.depth (F.pre self.now.part) (F.post self.now.part) }
-        ensures { Tells typed_of (Err result) (then_broken (each (making.loose (rules.expr_to self.now.depth (env_of self.now.env.now)) (env_of self.now.env.now) spec.Nothing) values.now) rule.WrongType place) }
+        ensures { Tells typed_of (Err result) (broken_anyway (each (making.loose (rules.expr_to self.now.depth (env_of self.now.env.now)) (env_of self.now.env.now) spec.Nothing) values.now) rule.WrongType place) }
     {
         let judged = self.members(Member::Loose(Wanted::Nothing), Members::Values(values));
         wrong(self.alloc, judged, place)
     }
 
     /// What values in braces make: what is wanted.
-    #[tactic(auto, using(crate::proofs::Refusals::refused, crate::proofs::MemberLaws::braces_is))]
+    #[tactic(auto, using(crate::proofs::Refusals::hushed, crate::proofs::MemberLaws::braces_is))]
     pub fn braces_typed(
         &self,
         place: Place,
@@ -381,7 +381,7 @@ impl<F: Fn(Global, &Env<'_>, u64, Wanted<'_>, &Expr) -> Result<Typed, Refusal>> 
     }
 
     /// Items in brackets: the constructor of a record where one is wanted.
-    #[tactic(auto, using(crate::proofs::Refusals::refused))]
+    #[tactic(auto, using(crate::proofs::Refusals::refused, crate::proofs::Refusals::hushed))]
     pub fn brackets_typed(
         &self,
         place: Place,

@@ -12,7 +12,7 @@ ghost use Rattle.zk_expression.specs.Envs.{env_of};
 ghost use Rattle.zk_expression.specs.Parts.{and_then, behind_form, fitting_key};
 
 use crate::env::Env;
-use crate::refused::broken;
+use crate::refuse::broken;
 use sqlite_items::Items;
 use std::alloc::{AllocError, Global};
 use zk_operator::{Typed, applied, fits, one_operand, operands_of, with_part};

@@ -13,7 +13,7 @@ ghost use Rattle.zk_expression.specs.Values.{constant_of, value_typed, fitted};
 use crate::env::Env;
 use crate::judge::Judge;
 use crate::names::name_typed;
-use crate::refused::broken;
+use crate::refuse::broken;
 use std::alloc::Global;
 use zk_base::Mem;
 use zk_operator::{Typed, Wanted, constant, interval_of, literal_typed};

@@ -1,6 +1,6 @@
 ghost use Rattle.std.specs.Prelude.{◌≡◌};
 ghost use Rattle.zk_operator.specs.Views.{typed_of, all_typed, wanted_in};
-ghost use Rattle.zk_typed.specs.Checked.{each};
+ghost use Rattle.zk_typed.specs.Checked.{broken_anyway, each};
 ghost use Rattle.zk_typed.specs.declared.rule.Rule.TheVariants as rule;
 ghost use Rattle.zk_typed.specs.Expressions as rules;
 ghost use Rattle.zk_typed.specs.LogCalls.{item_expr};
@@ -10,10 +10,9 @@ ghost use Rattle.zk_typed.specs.Tells.{Tells};
 ghost use Rattle.zk_typed.specs.Typing as spec;
 ghost use Rattle.zk_expression.specs.Envs.{env_of};
 ghost use Rattle.zk_expression.specs.Judging.{Judges};
-ghost use Rattle.zk_expression.specs.Parts.{then_broken};
 
 use crate::env::Env;
-use crate::refused::wrong;
+use crate::refuse::wrong;
 use std::alloc::Global;
 use zk_operator::{Typed, Wanted, with_part};
 use zk_tree::{Expr, Item};
@@ -61,7 +60,7 @@ impl<F: Fn(Global, &Env<'_>, u64, Wanted<'_>, &Expr) -> Result<Typed, Refusal>> 
     #[tactic(auto, using(crate::proofs::Refusals::refused))]
     pub fn named_item(&self, place: u64, value: &Expr) -> Result<Typed, Refusal>
         requires { Judges self.now.depth (F.pre self.now.part) (F.post self.now.part) }
-        ensures { Tells typed_of result (then_broken (rules.expr_to self.now.depth (env_of self.now.env.now) spec.Nothing value.now) rule.WrongType (spec.at (env_of self.now.env.now) place)) }
+        ensures { Tells typed_of result (broken_anyway (rules.expr_to self.now.depth (env_of self.now.env.now) spec.Nothing value.now) rule.WrongType (spec.at (env_of self.now.env.now) place)) }
     {
         let judged = self.check(Wanted::Nothing, value);
         Err(wrong(self.alloc, judged, self.env.at(place)))

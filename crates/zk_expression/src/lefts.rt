@@ -17,7 +17,7 @@ use crate::env::Env;
 use crate::fields::known_type;
 use crate::judge::Judge;
 use crate::names::{global_type, local_meant};
-use crate::refused::{broken, wrong};
+use crate::refuse::{broken, wrong};
 use crate::side::{Side, assignable};
 use sqlite_items::Items;
 use std::alloc::Global;

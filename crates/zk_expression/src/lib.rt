@@ -24,13 +24,14 @@ mod log_made;
 mod log_names;
 mod log_parts;
 mod log_settings;
+mod log_wordless;
 mod log_words;
 mod members;
 mod membership;
 mod names;
 mod parts;
 mod records;
-mod refused;
+mod refuse;
 mod rows;
 mod side;
 mod whole;
@@ -43,6 +44,7 @@ pub use fields::{Read, is_wire, wire_read};
 pub use found::{Found, look_up};
 pub use judge::Judge;
 pub use names::{local_meant, local_named, name_typed};
+pub use refuse::refused;
 pub use side::{Side, assignable};
 pub use whole::{
     call_of, each_printed, each_typed, expr_typed, init_typed, left_side, post_typed, rest_of,

@@ -1,11 +1,14 @@
 //! The typing of calls of the log framework (Zeek manual, Logging Framework).
-ghost use Rattle.std.specs.Prelude.{codes, ◌∷◌, [], IfOk};
+ghost use Rattle.std.specs.Prelude.{◌≡◌, codes, [], Err, IfOk, Option, is_some};
 ghost use Rattle.zk_names.specs.Lent.{declared_of, log_function_of};
 ghost use Rattle.zk_operator.specs.Views.{typed_of};
 ghost use Rattle.zk_tree.specs.declared.expr.Item.{out-Item};
-ghost use Rattle.zk_typed.specs.Checked.{both};
+ghost use Rattle.zk_base.specs.declared.numbers.RecordNo.{RecordNo as RecordNumber};
+ghost use Rattle.zk_typed.specs.Checked.{Checked, along, both, broken};
+ghost use Rattle.zk_typed.specs.declared.rule.Rule.TheVariants as rule;
 ghost use Rattle.zk_typed.specs.Expressions as rules;
 ghost use Rattle.zk_typed.specs.LogCalls as logs;
+ghost use Rattle.zk_typed.specs.Names.{Declared as DeclaredName};
 ghost use Rattle.zk_typed.specs.Tells.{Tells};
 ghost use Rattle.zk_typed.specs.Typing as spec;
 ghost use Rattle.zk_expression.specs.Envs.{env_of};
@@ -18,11 +21,11 @@ use crate::log_columns::is_among;
 use crate::log_made::{default_removed, filter_made, row_written, stream_made};
 use crate::log_parts::{FilterParts, StreamParts};
 use crate::log_words::{LogWord, logged_word};
-use crate::refused::{refused, wrong};
+use crate::refuse::{broken, refused, with_rule, wrong};
 use std::alloc::{AllocError, Global};
 use zk_base::RecordNo;
-use zk_names::{Declared, LogFunction};
-use zk_operator::{Typed, Wanted, also, both};
+use zk_names::{Declared, LogFunction, setting};
+use zk_operator::{Typed, Wanted, along, also, both};
 use zk_tree::{Expr, Item, Place};
 use zk_typed::script::ValueType;
 use zk_typed::{Refusal, Rule, one_broken};
@@ -45,6 +48,13 @@ fn given_names<'a>(
         }
         Item::Value { .. } => Ok(given),
     }
+}
+
+/// Whether a setting is there.
+fn has_setting(name: &[u8], items: &[Item]) -> bool
+    ensures { result ≡ is_some (logs.setting name.now items.now) }
+{
+    setting(name, items).is_some()
 }
 
 impl<F: Fn(Global, &Env<'_>, u64, Wanted<'_>, &Expr) -> Result<Typed, Refusal>> Judge<'_, F> {
@@ -86,14 +96,34 @@ impl<F: Fn(Global, &Env<'_>, u64, Wanted<'_>, &Expr) -> Result<Typed, Refusal>> 
         told
     }
 
-    /// The settings of `Log::create_stream`.
-    fn stream_settings(&self, items: &[Item]) -> Result<((), StreamParts), Refusal>
+    /// The settings of `Log::create_stream`, whatever is missing.
+    fn stream_given(&self, items: &[Item]) -> Result<((), StreamParts), Refusal>
         requires { Judges self.now.depth (F.pre self.now.part) (F.post self.now.part) }
         ensures { Tells (λ parts. parts) result (both (logs.only_settings (rules.expr_to self.now.depth (env_of self.now.env.now)) (env_of self.now.env.now) stream_names [] items.now) (stream_told (rules.expr_to self.now.depth (env_of self.now.env.now)) (env_of self.now.env.now) items.now)) }
     {
         let allowed: [&[u8]; 4] = [b"columns", b"ev", b"path", b"policy"];
         let only = self.only_settings(&allowed, items);
         both(only, self.stream_parts(items))
+    }
+
+    /// The settings of `Log::create_stream`, in brackets at a place.
+    #[tactic(auto, using(crate::proofs::Refusals::held))]
+    pub fn stream_settings(
+        &self,
+        brackets: Place,
+        items: &[Item],
+    ) -> Result<((), StreamParts), Refusal>
+        requires { Judges self.now.depth (F.pre self.now.part) (F.post self.now.part) }
+        ensures { Tells (λ parts. parts) result (logs.stream_settings (rules.expr_to self.now.depth (env_of self.now.env.now)) (env_of self.now.env.now) brackets items.now) }
+    {
+        let given = self.stream_given(items);
+        with_rule(
+            self.alloc,
+            given,
+            has_setting(b"columns", items),
+            Rule::Field,
+            brackets,
+        )
     }
 
     /// `Log::create_stream`, by the settings in its brackets.
@@ -108,14 +138,14 @@ impl<F: Fn(Global, &Env<'_>, u64, Wanted<'_>, &Expr) -> Result<Typed, Refusal>> 
         requires { Judges self.now.depth (F.pre self.now.part) (F.post self.now.part) }
         ensures { Tells typed_of result (logs.create_typed (rules.expr_to self.now.depth (env_of self.now.env.now)) (env_of self.now.env.now) place (declared_of word.now) brackets items.now) }
     {
-        match self.stream_settings(items) {
+        match self.stream_settings(brackets, items) {
             Ok(((), parts)) => stream_made(self.alloc, self.env, place, word, brackets, parts),
             Err(refusal) => Err(refusal),
         }
     }
 
-    /// The settings of `Log::add_filter`.
-    fn filter_settings<'i>(
+    /// The settings of `Log::add_filter`, whatever is missing.
+    fn filter_given<'i>(
         &self,
         known: Option<RecordNo>,
         items: &'i [Item],
@@ -130,6 +160,27 @@ impl<F: Fn(Global, &Env<'_>, u64, Wanted<'_>, &Expr) -> Result<Typed, Refusal>> 
         both(both(only, paths), kept)
     }
 
+    /// The settings of `Log::add_filter`, in brackets at a place.
+    #[tactic(auto, using(crate::proofs::Refusals::held))]
+    pub fn filter_settings<'i>(
+        &self,
+        known: Option<RecordNo>,
+        brackets: Place,
+        items: &'i [Item],
+    ) -> Result<FilterParts<'i>, Refusal>
+        requires { Judges self.now.depth (F.pre self.now.part) (F.post self.now.part) }
+        ensures { Tells filter_view result (logs.filter_settings (rules.expr_to self.now.depth (env_of self.now.env.now)) (env_of self.now.env.now) known brackets items.entry.now) }
+    {
+        let given = self.filter_given(known, items);
+        with_rule(
+            self.alloc,
+            given,
+            has_setting(b"name", items),
+            Rule::Field,
+            brackets,
+        )
+    }
+
     /// `Log::add_filter`, by the settings in its brackets.
     #[tactic(auto, using(crate::proofs::LogLaws::filter_passed))]
     fn filter_typed(
@@ -141,7 +192,7 @@ impl<F: Fn(Global, &Env<'_>, u64, Wanted<'_>, &Expr) -> Result<Typed, Refusal>> 
         requires { Judges self.now.depth (F.pre self.now.part) (F.post self.now.part) }
         ensures { Tells typed_of result (logs.filter_typed (rules.expr_to self.now.depth (env_of self.now.env.now)) (env_of self.now.env.now) (declared_of word.now.declared.now) word.now.columns brackets items.now) }
     {
-        match self.filter_settings(word.columns, items) {
+        match self.filter_settings(word.columns, brackets, items) {
             Ok((named, kept)) => {
                 let ((), paths) = named;
                 filter_made(self.alloc, self.env, word, brackets, paths, kept)
@@ -270,9 +321,9 @@ impl<F: Fn(Global, &Env<'_>, u64, Wanted<'_>, &Expr) -> Result<Typed, Refusal>> 
         }
     }
 
-    /// A function of the log framework with a word, an item behind it and others.
-    #[tactic(auto, using(crate::proofs::Refusals::refused))]
-    fn log_behind(
+    /// A function of the log framework with a word, an item behind it, and others that have no place.
+    #[tactic(auto, using(zk_operator::proofs::BothLaws::along_tells, crate::proofs::Refusals::refused))]
+    fn log_arguments(
         &self,
         place: Place,
         function: LogFunction,
@@ -281,24 +332,24 @@ impl<F: Fn(Global, &Env<'_>, u64, Wanted<'_>, &Expr) -> Result<Typed, Refusal>> 
         others: &[Item],
     ) -> Result<Typed, Refusal>
         requires { Judges self.now.depth (F.pre self.now.part) (F.post self.now.part) }
-        ensures { Tells typed_of result (logs.log_of (rules.expr_to self.now.depth (env_of self.now.env.now)) (env_of self.now.env.now) place (log_function_of function) (declared_of word.now.declared.now) word.now.columns (item.now ∷ others.now)) }
+        ensures { Tells typed_of result (logs.log_arguments (rules.expr_to self.now.depth (env_of self.now.env.now)) (env_of self.now.env.now) place (log_function_of function) (declared_of word.now.declared.now) word.now.columns item.now others.now) }
     {
-        match function {
-            LogFunction::RemoveDefaultFilter => {
-                Err(Refusal::Broken(one_broken(self.alloc, Rule::Arguments, place)?))
-            }
-            LogFunction::CreateStream
-            | LogFunction::AddFilter
-            | LogFunction::RemoveFilter
-            | LogFunction::Write => {
-                let judged = self.log_item(place, function, word, item);
-                if others.is_empty() {
-                    judged
-                } else {
-                    Err(refused(self.alloc, judged, Rule::Arguments, place))
-                }
-            }
+        let judged = self.log_item(place, function, word, item);
+        if others.is_empty() {
+            return judged;
         }
+        let refusal = refused(self.alloc, judged, Rule::Arguments, place);
+        along(Err(refusal), self.each_argument(Wanted::Unclear, others))
+    }
+
+    /// `Log::remove_default_filter` with items behind the word.
+    #[tactic(auto, using(zk_operator::proofs::BothLaws::along_tells, crate::proofs::Refusals::broken_is))]
+    fn none_removed(&self, place: Place, items: &[Item]) -> Result<Typed, Refusal>
+        requires { Judges self.now.depth (F.pre self.now.part) (F.post self.now.part) }
+        ensures { Tells typed_of result (along (broken rule.Arguments place) (logs.astray (rules.expr_to self.now.depth (env_of self.now.env.now)) (env_of self.now.env.now) items.now)) }
+    {
+        let refusal = broken(self.alloc, Rule::Arguments, place);
+        along(Err(refusal), self.each_argument(Wanted::Unclear, items))
     }
 
     /// A function of the log framework with a word and the items behind it.
@@ -314,7 +365,13 @@ impl<F: Fn(Global, &Env<'_>, u64, Wanted<'_>, &Expr) -> Result<Typed, Refusal>> 
     {
         match items.split_first() {
             None => self.log_alone(place, function, word),
-            Some((item, others)) => self.log_behind(place, function, word, item, others),
+            Some((item, others)) => match function {
+                LogFunction::RemoveDefaultFilter => self.none_removed(place, items),
+                LogFunction::CreateStream
+                | LogFunction::AddFilter
+                | LogFunction::RemoveFilter
+                | LogFunction::Write => self.log_arguments(place, function, word, item, others),
+            },
         }
     }
 
@@ -347,8 +404,25 @@ impl<F: Fn(Global, &Env<'_>, u64, Wanted<'_>, &Expr) -> Result<Typed, Refusal>> 
         }
     }
 
+    /// A function of the log framework with what its first argument is, and the items behind that.
+    #[tactic(auto, using(zk_operator::proofs::BothLaws::along_tells))]
+    fn log_behind(
+        &self,
+        place: Place,
+        function: LogFunction,
+        word: Result<LogWord<'_>, Refusal>,
+        others: &[Item],
+    ) -> Result<Typed, Refusal>
+        requires { Judges self.now.depth (F.pre self.now.part) (F.post self.now.part) }
+        ensures { (told : Checked (DeclaredName × Option RecordNumber)) → Tells log_word_of word told → Tells typed_of result (logs.log_behind (rules.expr_to self.now.depth (env_of self.now.env.now)) (env_of self.now.env.now) place (log_function_of function) others.now told) }
+    {
+        match word {
+            Ok(word) => self.log_of(place, function, &word, others),
+            Err(refusal) => along(Err(refusal), self.all_wordless(function, others)),
+        }
+    }
+
     /// A call of a function of the log framework, at a place.
-    #[tactic(auto, using(crate::proofs::LogLaws::word_passed))]
     pub fn log_typed(
         &self,
         place: Place,
@@ -360,10 +434,10 @@ impl<F: Fn(Global, &Env<'_>, u64, Wanted<'_>, &Expr) -> Result<Typed, Refusal>> 
     {
         match items.split_first() {
             None => Err(Refusal::Broken(one_broken(self.alloc, Rule::Arguments, place)?)),
-            Some((first, others)) => match self.word_item(first) {
-                Ok(word) => self.log_of(place, function, &word, others),
-                Err(refusal) => Err(refusal),
-            },
+            Some((first, others)) => {
+                let word = self.word_item(first);
+                self.log_behind(place, function, word, others)
+            }
         }
     }
 }

@@ -1,7 +1,7 @@
 ghost use Rattle.std.specs.Prelude.{◌≡◌, map, Err, IfOk};
 ghost use Rattle.std.specs.Option.{option_map};
 ghost use Rattle.zk_operator.specs.Views.{typed_all, all_typed, wanted_in};
-ghost use Rattle.zk_typed.specs.Checked.{each};
+ghost use Rattle.zk_typed.specs.Checked.{broken_anyway, each};
 ghost use Rattle.zk_typed.specs.declared.rule.Rule.TheVariants as rule;
 ghost use Rattle.zk_typed.specs.Expressions as rules;
 ghost use Rattle.zk_typed.specs.Making as making;
@@ -11,17 +11,17 @@ ghost use Rattle.zk_typed.specs.View.{type_of};
 ghost use Rattle.zk_expression.specs.Envs.{env_of};
 ghost use Rattle.zk_expression.specs.Judging.{Judges};
 ghost use Rattle.zk_expression.specs.Members.{member_of, members_of, all_members, brackets_in, lone_key, several_keys};
-ghost use Rattle.zk_expression.specs.Parts.{then_broken, with_last};
+ghost use Rattle.zk_expression.specs.Parts.{with_last};
 
 use crate::env::Env;
 use crate::judge::Judge;
-use crate::refused::wrong;
+use crate::refuse::wrong;
 use crate::rows::{alone, simple_types};
 use std::alloc::{AllocError, Global};
 use zk_operator::{Typed, Wanted, with_part};
 use zk_tree::{Assigning, Expr, Item, Place};
 use zk_typed::script::{SimpleType, ValueType};
-use zk_typed::{Refusal, Rule, one_broken};
+use zk_typed::{Refusal, Rule};
 
 /// What a member of a container is to be.
 #[derive(Clone, Copy)]
@@ -85,7 +85,6 @@ impl<F: Fn(Global, &Env<'_>, u64, Wanted<'_>, &Expr) -> Result<Typed, Refusal>> 
     }
 
     /// Keys in brackets, of these types.
-    #[tactic(auto, using(crate::proofs::Steps::all_passed))]
     fn each_key(
         &self,
         place: Place,
@@ -96,23 +95,14 @@ impl<F: Fn(Global, &Env<'_>, u64, Wanted<'_>, &Expr) -> Result<Typed, Refusal>> 
         ensures { Tells all_typed result (making.each_key (rules.expr_to self.now.depth (env_of self.now.env.now)) (env_of self.now.env.now) place keys.now items.now) }
     {
         let wanted = simple_types(self.alloc, keys)?;
-        match self.matched(&wanted, items) {
-            Ok(fitting) => {
-                if keys.len() == items.len() {
-                    Ok(fitting)
-                } else {
-                    Err(Refusal::Broken(one_broken(self.alloc, Rule::WrongType, place)?))
-                }
-            }
-            Err(refusal) => Err(refusal),
-        }
+        self.as_many(Rule::WrongType, place, &wanted, items)
     }
 
     /// An expression that can't stand where it does.
     #[tactic(auto, using(crate::proofs::Refusals::refused))]
     fn misplaced(&self, one: &Expr) -> Refusal
         requires { Judges self.now.depth (F.pre self.now.part) (F.post self.now.part) }
-        ensures { Tells all_typed (Err result) (then_broken (rules.expr_to self.now.depth (env_of self.now.env.now) spec.Nothing one.now) rule.WrongType (spec.expr_place (env_of self.now.env.now) one.now)) }
+        ensures { Tells all_typed (Err result) (broken_anyway (rules.expr_to self.now.depth (env_of self.now.env.now) spec.Nothing one.now) rule.WrongType (spec.expr_place (env_of self.now.env.now) one.now)) }
     {
         let judged = self.check(Wanted::Nothing, one);
         wrong(self.alloc, judged, self.env.expr_place(one))

@@ -1,7 +1,7 @@
 ghost use Rattle.std.specs.Prelude.{List, Err};
 ghost use Rattle.zk_operator.specs.Views.{typed_of};
 ghost use Rattle.zk_typed.specs.Checked as checked;
-ghost use Rattle.zk_typed.specs.Checked.{Checked, each};
+ghost use Rattle.zk_typed.specs.Checked.{Checked, broken_anyway, each};
 ghost use Rattle.zk_typed.specs.declared.rule.Rule.TheVariants as rule;
 ghost use Rattle.zk_typed.specs.Expressions as rules;
 ghost use Rattle.zk_typed.specs.Making as making;
@@ -10,13 +10,13 @@ ghost use Rattle.zk_typed.specs.Typing as spec;
 ghost use Rattle.zk_typed.specs.Typing.{Typed as TypedForm};
 ghost use Rattle.zk_expression.specs.Envs.{env_of};
 ghost use Rattle.zk_expression.specs.Judging.{Judges};
-ghost use Rattle.zk_expression.specs.Parts.{and_then, then_broken, element_view, element_pair, field_read, field_tested};
+ghost use Rattle.zk_expression.specs.Parts.{and_then, element_view, element_pair, field_read, field_tested};
 
 use crate::elements::element;
 use crate::env::Env;
 use crate::fields::field_of;
 use crate::judge::Judge;
-use crate::refused::wrong;
+use crate::refuse::wrong;
 use std::alloc::Global;
 use zk_operator::{Typed, Wanted, applied, both, one_operand};
 use zk_tree::{Expr, Item, Name, Part, Place};
@@ -123,7 +123,7 @@ impl<F: Fn(Global, &Env<'_>, u64, Wanted<'_>, &Expr) -> Result<Typed, Refusal>> 
         items: &[Item],
     ) -> Refusal
         requires { Judges self.now.depth (F.pre self.now.part) (F.post self.now.part) }
-        ensures { (given : Checked TypedForm) → Tells typed_of before given → Tells typed_of (Err result) (then_broken (checked.both given (each (making.argument (rules.expr_to self.now.depth (env_of self.now.env.now)) (env_of self.now.env.now) spec.Nothing) items.now)) rule.WrongType place) }
+        ensures { (given : Checked TypedForm) → Tells typed_of before given → Tells typed_of (Err result) (broken_anyway (checked.both given (each (making.argument (rules.expr_to self.now.depth (env_of self.now.env.now)) (env_of self.now.env.now) spec.Nothing) items.now)) rule.WrongType place) }
     {
         let pair = self.with_items(before, items);
         wrong(self.alloc, pair, place)

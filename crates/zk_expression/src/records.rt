@@ -20,7 +20,7 @@ ghost use Rattle.zk_expression.specs.Records.{given_of, all_given_of, known_give
 use crate::env::Env;
 use crate::fields::{Read, field_named, wire_read};
 use crate::judge::Judge;
-use crate::refused::{refused, unclear, wrong};
+use crate::refuse::{refused, unclear, wrong};
 use sqlite_items::Items;
 use std::alloc::{AllocError, Global};
 use std::collections::BTreeSet;
@@ -41,7 +41,7 @@ pub struct GivenField {
 
 impl<F: Fn(Global, &Env<'_>, u64, Wanted<'_>, &Expr) -> Result<Typed, Refusal>> Judge<'_, F> {
     /// A value for a field.
-    #[tactic(auto, using(crate::proofs::Refusals::refused))]
+    #[tactic(auto, using(crate::proofs::Refusals::hushed))]
     fn field_value(&self, value_type: &Option<ValueType>, value: &Expr) -> Result<Typed, Refusal>
         requires { Judges self.now.depth (F.pre self.now.part) (F.post self.now.part) }
         ensures { Tells typed_of result (known_given (rules.expr_to self.now.depth (env_of self.now.env.now)) (known_or (option_map type_of value_type.now)) value.now) }

@@ -2,11 +2,11 @@
 use Rattle.std.proofs.Common.{◌≡◌, List, [], ◌++◌, Result, Ok, Err, refl, ap, sym, ◌∙◌, append_assoc, append-nil}
 use Rattle.zk_typed.specs.declared.refusal.Refusal.{Refusal}
 use Rattle.zk_typed.specs.declared.refusal.Refusal.TheVariants.{Broken, NoMemory}
-use Rattle.zk_typed.specs.Checked.{Checked, both, ◌>>=◌}
+use Rattle.zk_typed.specs.Checked.{Checked, along, both, ◌>>=◌}
 use Rattle.zk_typed.specs.declared.refusal.Broken.{Broken as BrokenRule}
 use Rattle.zk_typed.specs.Declarations.{nothing}
 use Rattle.zk_typed.specs.Tells.{Tells}
-use Rattle.zk_operator.specs.Gather.{told, Told, IsBoth, Adds}
+use Rattle.zk_operator.specs.Gather.{told, Told, IsAlong, IsBoth, Adds}
 
 -- what is refused in a part is refused in the whole
 pub passed : {A A' B B' : Type 0} (va : A → A') (vb : B → B') (ca : Checked A') (k : A' → Checked B') (refusal : Refusal) →
@@ -31,6 +31,23 @@ both_tell va vb (Err (Broken before)) (Err (Broken more)) (Err (Broken rules)) c
 both_tell va vb (Err (Broken before)) (Err NoMemory) (Err (Broken rules)) ca cb h k both_is = absurd both_is.1
 both_tell va vb (Err NoMemory) second (Err (Broken rules)) ca cb h k both_is = absurd both_is.0
 both_tell va vb first second (Err NoMemory) ca cb h k both_is = tt
+
+-- a part, with what is judged beside it
+pub along_tells : {A A' B B' : Type 0} (va : A → A') (vb : B → B') (part : Result A Refusal) (other : Result B Refusal) (whole : Result A Refusal) (ca : Checked A') (cb : Checked B') →
+    Tells va part ca → Tells vb other cb → IsAlong part other whole → Tells va whole (along ca cb)
+along_tells va vb (Ok a) (Ok b) (Ok one) ca cb h k is = let same : a ≡ one = (let e = is.2 in cc) in rw (h, k) (ap (λ x. Ok (va x)) same)
+along_tells va vb (Ok a) (Err (Broken more)) (Ok one) ca cb h k is = absurd (let e = is.2 in cc)
+along_tells va vb (Ok a) (Err NoMemory) (Ok one) ca cb h k is = absurd is.1
+along_tells va vb (Err (Broken before)) other (Ok one) ca cb h k is = absurd (let e = is.2 in cc)
+along_tells va vb (Err NoMemory) other (Ok one) ca cb h k is = absurd is.0
+along_tells va vb (Ok a) (Ok b) (Err (Broken rules)) ca cb h k is = absurd (let e = is.2 in cc)
+along_tells va vb (Ok a) (Err (Broken more)) (Err (Broken rules)) ca cb h k is = rw (h, k) (ap Err (same_rules is.2))
+along_tells va vb (Ok a) (Err NoMemory) (Err (Broken rules)) ca cb h k is = absurd is.1
+along_tells va vb (Err (Broken before)) (Ok b) (Err (Broken rules)) ca cb h k is = rw (h, k) (ap Err (same_rules is.2))
+along_tells va vb (Err (Broken before)) (Err (Broken more)) (Err (Broken rules)) ca cb h k is = rw (h, k) (ap Err (same_rules is.2))
+along_tells va vb (Err (Broken before)) (Err NoMemory) (Err (Broken rules)) ca cb h k is = absurd is.1
+along_tells va vb (Err NoMemory) other (Err (Broken rules)) ca cb h k is = absurd is.0
+along_tells va vb part other (Err NoMemory) ca cb h k is = tt
 
 -- an answer without parts tells what is broken
 abbrev pub Rules : Result (Unit {0}) Refusal → Checked (Unit {0}) → Type 0

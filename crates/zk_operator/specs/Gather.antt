@@ -2,7 +2,7 @@
 use Rattle.std.specs.Prelude.{◌≡◌, [], ◌++◌, Result, Ok, Err}
 use Rattle.zk_typed.specs.declared.refusal.Refusal.{Refusal}
 use Rattle.zk_typed.specs.declared.refusal.Refusal.TheVariants.{Broken, NoMemory}
-use Rattle.zk_typed.specs.Checked.{Checked, both}
+use Rattle.zk_typed.specs.Checked.{Checked, along, both}
 use Rattle.zk_typed.specs.Declarations.{nothing}
 
 -- what an answer says of a part
@@ -35,3 +35,9 @@ abbrev pub Adds : Result (Unit {0}) Refusal → Result (Unit {0}) Refusal → Re
 Adds first second (Err NoMemory) = Unit {0}
 Adds first second (Err (Broken rules)) = Told first × Told second × (nothing (both (told first) (told second)) ≡ Err rules)
 Adds first second (Ok one) = Told first × Told second × (nothing (both (told first) (told second)) ≡ Ok tt)
+
+-- a part, and what is judged beside it
+abbrev pub IsAlong : {A B : Type 0} → Result A Refusal → Result B Refusal → Result A Refusal → Type 0
+IsAlong part other (Err NoMemory) = Unit {0}
+IsAlong part other (Err (Broken rules)) = Told part × Told other × (along (told part) (told other) ≡ Err rules)
+IsAlong part other (Ok one) = Told part × Told other × (along (told part) (told other) ≡ Ok one)

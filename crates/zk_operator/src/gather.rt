@@ -1,4 +1,4 @@
-ghost use Rattle.zk_operator.specs.Gather.{Adds, IsBoth, Follows};
+ghost use Rattle.zk_operator.specs.Gather.{Adds, Follows, IsAlong, IsBoth};
 
 use zk_typed::Refusal;
 
@@ -43,6 +43,22 @@ pub fn also(first: Result<(), Refusal>, second: Result<(), Refusal>) -> Result<(
 {
     match both(first, second) {
         Ok(_) => Ok(()),
+        Err(refusal) => Err(refusal),
+    }
+}
+
+/// A part, and what is judged beside it for its own sake: all rules that are broken in either.
+pub fn along<A: Drop, B: Drop>(
+    part: Result<A, Refusal>,
+    other: Result<B, Refusal>,
+) -> Result<A, Refusal>
+    ensures { IsAlong part other result }
+{
+    match both(part, other) {
+        Ok((part, other)) => {
+            drop(other);
+            Ok(part)
+        }
         Err(refusal) => Err(refusal),
     }
 }

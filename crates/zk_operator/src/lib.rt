@@ -24,7 +24,7 @@ pub use attributes::{
 };
 pub use attrs::{Attributes, attr_rules};
 pub use defaults::constant_typed;
-pub use gather::{also, both};
+pub use gather::{along, also, both};
 pub use gathering::with_part;
 pub use kinds::signature_attrs;
 pub use laws::operators_keep_types;

@@ -1,6 +1,6 @@
 -- Calls that the rules make have types: of functions, of hooks, of built-in functions and of the log framework.
-use Rattle.std.proofs.Common.{◌≡◌, ℕ, ◌==◌, length, Bool, true, false, List, [], ◌∷◌, Option, Some, None, Ok, refl, sym, ap, subst, ◌∙◌}
-use Rattle.std.specs.Prelude.{if◌then◌else◌, codes}
+use Rattle.std.proofs.Common.{◌≡◌, ℕ, ◌==◌, length, Bool, true, false, List, [], ◌∷◌, Option, Some, None, Ok, refl, sym, ap, subst, ◌∙◌, Err}
+use Rattle.std.specs.Prelude.{if◌then◌else◌}
 use Rattle.std.specs.List.{AllByRecursion}
 use Rattle.zk_base.specs.declared.numbers.RecordNo.{RecordNo}
 use Rattle.zk_tree.specs.declared.expr.Expr.{Expr, out-Expr}
@@ -16,10 +16,10 @@ use Rattle.zk_typed.specs.declared.script.log_call.LogCall.TheVariants as log
 use Rattle.zk_typed.specs.declared.script.primitive.BuiltIn.{BuiltIn}
 use Rattle.zk_typed.specs.declared.script.primitive.BuiltIn.TheVariants as built_in
 use Rattle.zk_typed.specs.declared.script.primitive.Primitive.TheVariants as primitive
-use Rattle.zk_typed.specs.Checked.{Checked, broken, elsewhere, ◌>>=◌, ◌>>◌, both, each, or_broken}
+use Rattle.zk_typed.specs.Checked.{Checked, broken, elsewhere, ◌>>=◌, ◌>>◌, both, each, or_broken, broken_anyway, with_rule, require}
 use Rattle.zk_typed.specs.Forms as form
-use Rattle.zk_typed.specs.LogCalls.{is_log_word, if_word, word_of, log_type, stream_type, log_form, log_no, optional, not_local, setting, columns_type, if_known, only_settings, event_setting, policy_setting, log_path, path_literal, path_or_module, names_setting, of_known, places_of, keeps, logged, leaves, create_typed, filter_typed, with_settings, bracketed, row_wanted, log_with, log_of, log_word, log_typed}
-use Rattle.zk_typed.specs.Making.{Called, Gives, Performs, gives, built_in_call, text_literal, printed, format_text, fmt_typed, cat_typed, copy_typed, by_row, built_in_typed, with_result, function_typed, made_of, call_typed, hook_typed, value_of, part_typed, parts_typed, call_of, post_typed, argument, arguments, element, field_of, verbs_take}
+use Rattle.zk_typed.specs.LogCalls.{is_log_word, if_word, word_of, log_type, stream_type, log_form, log_no, path_literal, path_or_module, of_known, places_of, keeps, logged, leaves, create_typed, filter_typed, with_settings, bracketed, row_wanted, log_with, log_of, log_word, log_typed, stream_settings, filter_settings, log_arguments, log_behind, astray, all_wordless}
+use Rattle.zk_typed.specs.Making.{Called, Gives, Performs, gives, built_in_call, text_literal, printed, format_text, fmt_typed, cat_typed, copy_typed, by_row, built_in_typed, with_result, function_typed, lone_argument, made_of, call_typed, hook_typed, value_of, part_typed, parts_typed, call_of, post_typed, argument, arguments, element, field_of, verbs_take, item_values, made_by}
 use Rattle.zk_typed.specs.Names.{Declared, Meant, KnownType, WrittenType, Variable, Hook, Function, BuiltInFunction, Log, LogFunction, CreateStream, AddFilter, RemoveFilter, RemoveDefaultFilter, Write, Signature, look_up}
 use Rattle.zk_typed.specs.Operations.{built_in_type}
 use Rattle.zk_typed.specs.Predefined as type
@@ -30,7 +30,7 @@ use Rattle.zk_typed.specs.Typing.{Typed, typed, Env, at, expr_place, Nothing, Wa
 use Rattle.zk_sound.specs.Worlds.{Names, row_type}
 use Rattle.zk_sound.specs.Having.{IsSimple, BuiltInTakes}
 use Rattle.zk_sound.specs.Agreeing.{FunctionAgrees, EnvAgrees}
-use Rattle.zk_sound.proofs.Checks.{Sound, sound_bind, sound_after, never_ok, sound_require, sound_both, sound_each, sound_any, sound_is, sound_more}
+use Rattle.zk_sound.proofs.Checks.{Sound, sound_bind, sound_after, never_ok, sound_require, sound_along, sound_held, sound_both, sound_each, sound_any, sound_is, sound_more}
 use Rattle.zk_sound.proofs.Formed.{types_of, IsForm, Formed, ChecksWell, have_forms, applied, at_type, printable_sound, item_sound, items_sound}
 use Rattle.zk_sound.proofs.Constructed.{AreForms, arguments_sound, given_arguments, FieldAt, field_sound, element_sound, record_sound}
 
@@ -97,10 +97,13 @@ module _ (program : Program) (names : Names) (check : Check) (well : ChecksWell 
 
   copy_sound : (place : Place) (items : List Item) → Sound (CalledForm program names) (copy_typed check env place items)
   copy_sound place [] = tt
-  copy_sound place (first ∷ others) = sound_bind (IsForm program names) (CalledForm program names) (argument check env Nothing first) _
-      (item_sound program names check env (IsForm program names) (check Nothing) any_form first) (λ one h.
-      sound_require (CalledForm program names) (length others == 0) rule.Arguments place (gives (typed one.type (built_in_call built_in.Copy (one ∷ [])))) (λ alone.
-      applied program names (primitive.BuiltIn built_in.Copy) (one ∷ []) one.type (h, tt) refl))
+  copy_sound place (first ∷ others) =
+      sound_bind (IsForm program names) (CalledForm program names) (lone_argument check env place first others) _
+      (sound_along (IsForm program names) (with_rule (argument check env Nothing first) (require (length others == 0) rule.Arguments place)) (each (argument check env Unclear) others)
+      (sound_held (IsForm program names) (argument check env Nothing first) (length others == 0) rule.Arguments place
+      (sound_more (IsForm program names) (λ one. (length others == 0) ≡ true → IsForm program names one) (argument check env Nothing first) (λ one h alone. h)
+      (item_sound program names check env (IsForm program names) (check Nothing) any_form first))))
+      (λ one h. applied program names (primitive.BuiltIn built_in.Copy) (one ∷ []) one.type (h, tt) refl)
 
   row_sound : (place : Place) (function : BuiltIn) (items : List Item) (row : Option (List ValueType × ValueType)) → ((types : List ValueType) (given : List ValueType × ValueType) → row ≡ Some given → types ≡ given.0 → BuiltInTakes function types given.1)
       → Sound (CalledForm program names) (by_row check env place function items row)
@@ -181,7 +184,7 @@ module _ (program : Program) (names : Names) (check : Check) (well : ChecksWell 
   word_sound : (one : Expr) → Sound Known (log_word check env one)
   word_sound one = by (word_of (found env) one) refl
     where
-      wrong : Sound Known (check Nothing one >> broken rule.WrongType (expr_place env one))
+      wrong : Sound Known (broken_anyway (check Nothing one) rule.WrongType (expr_place env one))
       wrong = never_ok Known (check Nothing one) rule.WrongType (expr_place env one)
 
       typed_by : (word : Declared) (known : Option (Option RecordNo)) → word_of (found env) one ≡ Some word → log_type env.scripts word.name ≡ known → Sound Known (log_word check env one)
@@ -206,16 +209,13 @@ module _ (program : Program) (names : Names) (check : Check) (well : ChecksWell 
 
   create_sound : (place : Place) (word : Declared) (brackets : Place) (items : List Item) → Sound (IsForm program names) (create_typed check env place word brackets items)
   create_sound place word brackets items =
-      let columns = optional (not_local env) (setting (codes "columns") items) >> columns_type env.scripts env.home items in
-      let settings = both (only_settings check env (codes "columns" ∷ codes "ev" ∷ codes "path" ∷ codes "policy" ∷ []) [] items)
-      (both (both columns (optional (event_setting env (if_known columns)) (setting (codes "ev") items))) (both (optional (log_path check env) (setting (codes "path") items)) (optional (policy_setting env (if_known columns)) (setting (codes "policy") items)))) in
+      let settings = stream_settings check env brackets items in
       sound_bind (λ parts. Unit {0}) (IsForm program names) settings _ (sound_any settings) (λ parts any. sound_bind (λ number. Unit {0}) (IsForm program names) (or_broken parts.1.0.0 rule.Field brackets) _ (sound_any (or_broken parts.1.0.0 rule.Field brackets)) (λ number any.
       sound_bind (λ path. Unit {0}) (IsForm program names) (path_or_module place word parts.1.1.0) _ (sound_any (path_or_module place word parts.1.1.0)) (λ path any logs. ([], tt, (refl, refl, logs.0)))))
 
   filter_sound : (word : Declared) (known : Option RecordNo) (brackets : Place) (items : List Item) → Sound (IsForm program names) (filter_typed check env word known brackets items)
   filter_sound word known brackets items =
-      let settings = both (both (only_settings check env (codes "name" ∷ codes "path" ∷ codes "include" ∷ codes "exclude" ∷ codes "policy" ∷ []) [] items) (both (optional (path_literal check env) (setting (codes "name") items)) (optional (log_path check env) (setting (codes "path") items))))
-      (both (both (optional (names_setting check env) (setting (codes "include") items)) (optional (names_setting check env) (setting (codes "exclude") items))) (optional (policy_setting env known) (setting (codes "policy") items))) in
+      let settings = filter_settings check env known brackets items in
       sound_bind (λ parts. Unit {0}) (IsForm program names) settings _ (sound_any settings) (λ parts any. sound_bind (λ name. Unit {0}) (IsForm program names) (or_broken parts.0.1.0 rule.Field brackets) _ (sound_any (or_broken parts.0.1.0 rule.Field brackets)) (λ name any.
       known_sound known (λ number. log_form (log.AddFilter (log_no env word) name parts.0.1.1 parts.1.1 (places_of (keeps parts.1.0.0 parts.1.0.1) 0 (logged (leaves env.scripts number))))) (λ number logs. ([], tt, (refl, refl, logs.0)))))
 
@@ -238,32 +238,40 @@ module _ (program : Program) (names : Names) (check : Check) (well : ChecksWell 
   with_sound place RemoveDefaultFilter word known is one = tt
   with_sound place Write word known is one = sound_bind (Formed program names (row_wanted known)) (IsForm program names) (check (row_wanted known) one) (λ row. Ok (typed type.bool (form.Write (log_no env word) row.expr))) (well (row_wanted known) one) (λ row h. row_form word known row is h)
 
+  arguments_of : (place : Place) (function : LogFunction) (word : Declared) (known : Option RecordNo) → row_type program (log_no env word) ≡ known → (one : Item) (others : List Item) → Sound (IsForm program names) (log_arguments check env place function word known one others)
+  arguments_of place function word known is one [] = item_sound program names check env (IsForm program names) (log_with check env place function word known) (with_sound place function word known is) one
+  arguments_of place function word known is one (other ∷ others) = let wrong = broken_anyway {B = Typed} (on_item check env (log_with check env place function word known) one) rule.Arguments place in
+      sound_along (IsForm program names) wrong (astray check env (other ∷ others)) (never_ok (IsForm program names) (on_item check env (log_with check env place function word known) one) rule.Arguments place)
+
   log_of_sound : (place : Place) (function : LogFunction) (word : Declared) (known : Option RecordNo) → row_type program (log_no env word) ≡ known → (items : List Item) → Sound (IsForm program names) (log_of check env place function word known items)
   log_of_sound place RemoveDefaultFilter word known is [] = λ logs. ([], tt, (refl, refl, logs.0))
-  log_of_sound place RemoveDefaultFilter word known is (one ∷ others) = tt
+  log_of_sound place RemoveDefaultFilter word known is (one ∷ others) = sound_along (IsForm program names) (broken rule.Arguments place) (astray check env (one ∷ others)) tt
   log_of_sound place CreateStream word known is [] = tt
-  log_of_sound place CreateStream word known is (one ∷ []) = item_sound program names check env (IsForm program names) (log_with check env place CreateStream word known) (with_sound place CreateStream word known is) one
-  log_of_sound place CreateStream word known is (one ∷ other ∷ others) = never_ok (IsForm program names) (on_item check env (log_with check env place CreateStream word known) one) rule.Arguments place
+  log_of_sound place CreateStream word known is (one ∷ others) = arguments_of place CreateStream word known is one others
   log_of_sound place AddFilter word known is [] = tt
-  log_of_sound place AddFilter word known is (one ∷ []) = item_sound program names check env (IsForm program names) (log_with check env place AddFilter word known) (with_sound place AddFilter word known is) one
-  log_of_sound place AddFilter word known is (one ∷ other ∷ others) = never_ok (IsForm program names) (on_item check env (log_with check env place AddFilter word known) one) rule.Arguments place
+  log_of_sound place AddFilter word known is (one ∷ others) = arguments_of place AddFilter word known is one others
   log_of_sound place RemoveFilter word known is [] = tt
-  log_of_sound place RemoveFilter word known is (one ∷ []) = item_sound program names check env (IsForm program names) (log_with check env place RemoveFilter word known) (with_sound place RemoveFilter word known is) one
-  log_of_sound place RemoveFilter word known is (one ∷ other ∷ others) = never_ok (IsForm program names) (on_item check env (log_with check env place RemoveFilter word known) one) rule.Arguments place
+  log_of_sound place RemoveFilter word known is (one ∷ others) = arguments_of place RemoveFilter word known is one others
   log_of_sound place Write word known is [] = tt
-  log_of_sound place Write word known is (one ∷ []) = item_sound program names check env (IsForm program names) (log_with check env place Write word known) (with_sound place Write word known is) one
-  log_of_sound place Write word known is (one ∷ other ∷ others) = never_ok (IsForm program names) (on_item check env (log_with check env place Write word known) one) rule.Arguments place
+  log_of_sound place Write word known is (one ∷ others) = arguments_of place Write word known is one others
+
+  behind_sound : (place : Place) (function : LogFunction) (others : List Item) (word : Checked (Declared × Option RecordNo)) → Sound Known word → Sound (IsForm program names) (log_behind check env place function others word)
+  behind_sound place function others (Ok word) is = log_of_sound place function word.0 word.1 is others
+  behind_sound place function others (Err rules) is = sound_along (IsForm program names) (Err rules) (all_wordless check env function others) tt
 
   log_sound : (place : Place) (function : LogFunction) (items : List Item) → Sound (IsForm program names) (log_typed check env place function items)
   log_sound place function [] = tt
-  log_sound place function (first ∷ others) = sound_bind Known (IsForm program names) (on_item check env (log_word check env) first) (λ word. log_of check env place function word.0 word.1 others)
-      (item_sound program names check env Known (log_word check env) word_sound first) (λ word is. log_of_sound place function word.0 word.1 is others)
+  log_sound place function (first ∷ others) = behind_sound place function others (on_item check env (log_word check env) first) (item_sound program names check env Known (log_word check env) word_sound first)
 
   -- Calls ------------------------------------------------------------------------------------------------------------
 
   made_sound : (place : Place) (items : List Item) (of : ValueType) → Sound (CalledForm program names) (made_of check env place items of)
   made_sound place items (Record number) = sound_bind (Formed program names (Wants (Record number))) (CalledForm program names) _ gives (record_sound program names check well env agree place number items) (λ one h. h.0)
-  made_sound place items of = tt
+  made_sound place items of = sound_after (CalledForm program names) (both (broken {A = Unit {0}} rule.WrongType place) (item_values check Unclear items)) elsewhere tt
+
+  made_by_sound : (place : Place) (items : List Item) (of : Checked ValueType) → Sound (CalledForm program names) (made_by check env place items of)
+  made_by_sound place items (Ok of) = made_sound place items of
+  made_by_sound place items (Err rules) = sound_along (CalledForm program names) (Err rules) (item_values check Unclear items) tt
 
   pub call_sound : (name : Name) (items : List Item) → Sound (CalledForm program names) (call_of check env name items)
   call_sound name items = by (found env name) refl
@@ -276,7 +284,7 @@ module _ (program : Program) (names : Names) (check : Check) (well : ChecksWell 
       of_meant (BuiltInFunction function) one is = built_in_sound place function items
       of_meant (Log function) one is = sound_bind (IsForm program names) (CalledForm program names) (log_typed check env place function items) gives (log_sound place function items) (λ made h. h)
       of_meant (KnownType of) one is = made_sound place items of
-      of_meant (WrittenType home tree) one is = sound_bind (λ of. Unit {0}) (CalledForm program names) (type_named env.scripts env.home name) (made_of check env place items) (sound_any _) (λ of any. made_sound place items of)
+      of_meant (WrittenType home tree) one is = made_by_sound place items (type_named env.scripts env.home name)
       of_meant meant one is = sound_after (CalledForm program names) (both (broken {A = Unit {0}} rule.WrongType (at env name.place)) (each (argument check env Unclear) items)) elsewhere tt
 
       by : (one : Option Declared) → found env name ≡ one → Sound (CalledForm program names) (call_typed check env name items one)

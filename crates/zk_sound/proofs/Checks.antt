@@ -3,7 +3,7 @@ use Rattle.std.proofs.Common.{◌≡◌, Bool, true, false, List, [], ◌∷◌,
 use Rattle.std.specs.List.{AllByRecursion}
 use Rattle.zk_tree.specs.declared.place.Place.{Place}
 use Rattle.zk_typed.specs.declared.rule.Rule.{Rule}
-use Rattle.zk_typed.specs.Checked.{Checked, broken, ◌>>=◌, ◌>>◌, both, each, require, or_broken}
+use Rattle.zk_typed.specs.Checked.{Checked, along, broken_anyway, with_rule, ◌>>=◌, ◌>>◌, both, each, require, or_broken}
 
 -- it holds of what was checked, where no rule is broken
 abbrev pub Sound : {A : Type 0} → (A → Type 0) → Checked A → Type 0
@@ -20,13 +20,25 @@ sound_after Q (Ok a) next h = h
 sound_after Q (Err rules) next h = tt
 
 -- nothing comes of it
-pub never_ok : {A B : Type 0} (Q : B → Type 0) (m : Checked A) (rule : Rule) (place : Place) → Sound Q (m >> broken rule place)
+pub never_ok : {A B : Type 0} (Q : B → Type 0) (m : Checked A) (rule : Rule) (place : Place) → Sound Q (broken_anyway m rule place)
 never_ok Q (Ok a) rule place = tt
 never_ok Q (Err rules) rule place = tt
 
 pub sound_require : {B : Type 0} (Q : B → Type 0) (holds : Bool) (rule : Rule) (place : Place) (next : Checked B) → (holds ≡ true → Sound Q next) → Sound Q (require holds rule place >> next)
 sound_require Q true rule place next h = h refl
 sound_require Q false rule place next h = tt
+
+-- a part, with what is judged beside it
+pub sound_along : {A B : Type 0} (P : A → Type 0) (m : Checked A) (other : Checked B) → Sound P m → Sound P (along m other)
+sound_along P (Ok a) (Ok b) h = h
+sound_along P (Ok a) (Err rules) h = tt
+sound_along P (Err rules) other h = tt
+
+-- a part under a rule of the whole
+pub sound_held : {A : Type 0} (P : A → Type 0) (m : Checked A) (holds : Bool) (rule : Rule) (place : Place) → Sound (λ a. holds ≡ true → P a) m → Sound P (with_rule m (require holds rule place))
+sound_held P (Ok a) true rule place h = h refl
+sound_held P (Ok a) false rule place h = tt
+sound_held P (Err rules) holds rule place h = tt
 
 pub sound_both : {A B : Type 0} (P : A → Type 0) (Q : B → Type 0) (a : Checked A) (b : Checked B) → Sound P a → Sound Q b → Sound (λ pair. P pair.0 × Q pair.1) (both a b)
 sound_both P Q (Ok a) (Ok b) h k = (h, k)

@@ -19,7 +19,7 @@ use Rattle.zk_typed.specs.declared.rule.Rule.TheVariants as rule
 use Rattle.zk_typed.specs.declared.script.action.Action.TheVariants as action
 use Rattle.zk_typed.specs.declared.script.action.Left.TheVariants as left
 use Rattle.zk_typed.specs.declared.script.stmt.Names.{Names as LoopNames}
-use Rattle.zk_typed.specs.Checked.{Checked, ◌>>=◌, ◌>>◌, both, require}
+use Rattle.zk_typed.specs.Checked.{Checked, ◌>>=◌, ◌>>◌, both, require, broken}
 use Rattle.zk_typed.specs.Expressions.{expr_typed}
 use Rattle.zk_typed.specs.Forms as form
 use Rattle.zk_typed.specs.Operations.{same_type}
@@ -36,7 +36,7 @@ use Rattle.zk_sound.specs.Having.{NamesTake, NameTakes, LoopTakes, StmtFits, Stm
 use Rattle.zk_sound.specs.Agreeing.{EnvAgrees, StmtLogsFit, StmtsLogsFit, LocalsAgree, StandsIn}
 use Rattle.zk_sound.proofs.Growth.{got_behind, got_last}
 use Rattle.zk_sound.proofs.Same.{same_type_is}
-use Rattle.zk_sound.proofs.Checks.{Sound, sound_bind, sound_after, never_ok, sound_require, sound_both, sound_any, sound_is, sound_ok}
+use Rattle.zk_sound.proofs.Checks.{Sound, sound_bind, sound_after, sound_require, sound_both, sound_any, sound_is, sound_ok}
 use Rattle.zk_sound.proofs.Formed.{types_of, IsForm, Formed, have_forms, at_type}
 use Rattle.zk_sound.proofs.Constructed.{braces_sound}
 use Rattle.zk_sound.proofs.Judged.{local_is, expr_sound}
@@ -224,7 +224,7 @@ for_over_sound context place over_place keys (Some name) (Table types item) expr
     (λ many. (refl, last_length (key_names keys) name ∙ (ap suc (sym (eqb-true (length (key_types types)) (length (key_names keys)) many)) ∙ sym (last_length (key_types types) item))))
 for_over_sound context place over_place keys (Some name) (Vector item) expr = sound_require (Overs keys (Some name) (Vector item)) (1 == length (key_names keys)) rule.WrongType (place_of context place) (Ok (type.count ∷ item ∷ []))
     (λ many. (refl, last_length (key_names keys) name ∙ ap suc (sym (eqb-true 1 (length (key_names keys)) many))))
-for_over_sound context place over_place keys (Some name) (Set types) expr = never_ok (Overs keys (Some name) (Set types)) (require (length (key_types types) == length (key_names keys)) rule.WrongType (place_of context place)) rule.WrongType (place_of context name.place)
+for_over_sound context place over_place keys (Some name) (Set types) expr = sound_after (Overs keys (Some name) (Set types)) (require (length (key_types types) == length (key_names keys)) rule.WrongType (place_of context place)) (broken rule.WrongType (place_of context name.place)) tt
 for_over_sound context place over_place keys named (Simple one) expr = tt
 for_over_sound context place over_place keys named (Record number) expr = tt
 

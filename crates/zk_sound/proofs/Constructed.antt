@@ -1,5 +1,5 @@
 -- Fields, elements, records and containers that the rules make have types.
-use Rattle.std.proofs.Common.{◌≡◌, ℕ, suc, ◌+◌, ◌==◌, Bool, true, false, ◌&&◌, List, [], ◌∷◌, ◌++◌, length, map, Option, Some, None, Ok, Err, refl, sym, ap, ◌∙◌, arith}
+use Rattle.std.proofs.Common.{◌≡◌, ℕ, suc, ◌+◌, ◌==◌, Bool, true, false, ◌&&◌, List, [], ◌∷◌, ◌++◌, length, Option, Some, None, Ok, Err, refl, sym, ap, ◌∙◌, arith, drop}
 use Rattle.std.specs.Prelude.{slice_get, if◌then◌else◌}
 use Rattle.std.specs.List.{AllByRecursion, list_all}
 use Rattle.std.specs.Str.{bytes_eq}
@@ -16,14 +16,15 @@ use Rattle.zk_tree.specs.declared.operator.Assigning.TheVariants as assigning
 use Rattle.zk_tree.specs.declared.operator.Container.{Container}
 use Rattle.zk_tree.specs.declared.operator.Container.TheVariants as container
 use Rattle.zk_tree.specs.declared.place.Place.{Place}
+use Rattle.zk_typed.specs.declared.rule.Rule.{Rule}
 use Rattle.zk_typed.specs.declared.rule.Rule.TheVariants as rule
 use Rattle.zk_typed.specs.declared.script.primitive.FieldNo.{FieldNo}
 use Rattle.zk_typed.specs.declared.script.primitive.Primitive.TheVariants as primitive
 use Rattle.zk_typed.specs.declared.script.types.SimpleType.{SimpleType}
 use Rattle.zk_typed.specs.declared.script.types.SimpleType.TheVariants as simple
-use Rattle.zk_typed.specs.Checked.{Checked, broken, elsewhere, ◌>>◌, both, each, or_broken}
+use Rattle.zk_typed.specs.Checked.{Checked, elsewhere, ◌>>◌, both, each, or_broken, broken_anyway, with_rule, require}
 use Rattle.zk_typed.specs.Forms as form
-use Rattle.zk_typed.specs.Making.{argument, matched, arguments, field_named, field_of, is_wire, fitted_keys, keys_fit, element, GivenField, wire_read, and_given, givens, given_field, given_once, all_given, record_typed, plain_shape, Members, members_in, one_value, bracketed, each_key, member_keys, joined, entry, item_values, loose, loosely, wanted_container, types_same, vector_alone, simple_types, set_alone, container_alone, container_typed, braces_typed, brackets_typed}
+use Rattle.zk_typed.specs.Making.{argument, matched, arguments, field_named, field_of, is_wire, fitted_keys, keys_fit, element, GivenField, wire_read, and_given, givens, given_field, given_once, all_given, record_typed, plain_shape, Members, members_in, one_value, bracketed, each_key, member_keys, joined, entry, item_values, loose, loosely, wanted_container, types_same, vector_alone, simple_types, set_alone, container_alone, container_typed, braces_typed, brackets_typed, as_many}
 use Rattle.zk_typed.specs.Operations.{same_type}
 use Rattle.zk_typed.specs.Predefined as type
 use Rattle.zk_typed.specs.Program.{Program}
@@ -37,7 +38,7 @@ use Rattle.zk_sound.specs.Agreeing.{EnvAgrees, LogsFit, GivenLogsFit}
 use Rattle.std.proofs.lemmas.List.{length-map}
 use Rattle.zk_sound.proofs.Growth.{all_append}
 use Rattle.zk_sound.proofs.Same.{same_type_is}
-use Rattle.zk_sound.proofs.Checks.{Sound, sound_bind, sound_after, never_ok, sound_require, sound_both, sound_each, sound_or, sound_is, sound_more}
+use Rattle.zk_sound.proofs.Checks.{Sound, sound_bind, sound_after, never_ok, sound_require, sound_along, sound_held, sound_both, sound_each, sound_or, sound_is, sound_more}
 use Rattle.zk_sound.proofs.Formed.{types_of, IsForm, Formed, ChecksWell, applied, fits_is, item_sound, left_sound}
 
 -- forms of these types
@@ -62,9 +63,15 @@ module _ (program : Program) (names : Names) (check : Check) (well : ChecksWell 
       (sound_both (Formed program names (Wants param)) (Match program names params items) (argument check env (Wants param) item) (matched check env params items) (argument_sound (Wants param) item) (matched_sound params items))
       (λ parts h. ((h.0.0, h.1.0), λ many. ap (λ x. x ∷ types_of parts.1) h.0.1 ∙ ap (λ xs. param ∷ xs) (h.1.1 (omega (arith, many)))))
 
+  -- as many items as types have these
+  pub many_sound : (rule : Rule) (place : Place) (types : List ValueType) (items : List Item) → Sound (AreForms program names types) (as_many check env rule place types items)
+  many_sound rule place types items = sound_along (AreForms program names types) (with_rule (matched check env types items) (require (length types == length items) rule place)) (each (argument check env Unclear) (drop (length types) items))
+      (sound_held (AreForms program names types) (matched check env types items) (length types == length items) rule place
+      (sound_more (Match program names types items) (λ ones. (length types == length items) ≡ true → AreForms program names types ones) (matched check env types items)
+      (λ ones h many. (h.0, h.1 (eqb-true (length types) (length items) many))) (matched_sound types items)))
+
   pub arguments_sound : (place : Place) (params : List ValueType) (items : List Item) → Sound (AreForms program names params) (arguments check env place (Ok params) items)
-  arguments_sound place params items = sound_bind (Match program names params items) (AreForms program names params) (matched check env params items) _ (matched_sound params items) (λ args h.
-      sound_require (AreForms program names params) (length params == length items) rule.Arguments place (Ok args) (λ many. (h.0, h.1 (eqb-true (length params) (length items) many))))
+  arguments_sound place params items = many_sound rule.Arguments place params items
 
   pub given_arguments : (place : Place) (params : Checked (List ValueType)) (items : List Item) → Sound (λ args. (types : List ValueType) × (params ≡ Ok types) × AreForms program names types args) (arguments check env place params items)
   given_arguments place (Ok params) items = sound_more (AreForms program names params) _ (arguments check env place (Ok params) items) (λ args h. (params, refl, h)) (arguments_sound place params items)
@@ -270,7 +277,7 @@ fitting (key ∷ keys) (one ∷ ones) = same_type one.type (Simple key) && fitti
 
 -- the keys of a member, where it is brackets
 abbrev in_brackets : Check → Env → List SimpleType → Expr → Option (ℕ × List Item) → Checked (List Typed)
-in_brackets check env keys one None = check Nothing one >> broken rule.WrongType (expr_place env one)
+in_brackets check env keys one None = broken_anyway (check Nothing one) rule.WrongType (expr_place env one)
 in_brackets check env keys one (Some items) = each_key check env (at env items.0) keys items.1
 
 -- what checks the members of a container holds of them what holds of each
@@ -293,8 +300,7 @@ module _ (program : Program) (names : Names) (check : Check) (well : ChecksWell 
   value_alone wanted one = sound_bind (Formed program names (Wants wanted)) (AreForms program names (wanted ∷ [])) (check (Wants wanted) one) (λ value. Ok (value ∷ [])) (well (Wants wanted) one) (λ value h. ((h.0, tt), ap (λ x. x ∷ []) h.1))
 
   keys_of_items : (place : Place) (keys : List SimpleType) (items : List Item) → Sound (AreForms program names (key_types keys)) (each_key check env place keys items)
-  keys_of_items place keys items = sound_bind (Match program names (key_types keys) items) (AreForms program names (key_types keys)) (matched check env (map Simple keys) items) _ (matched_sound program names check well env (key_types keys) items) (λ ones h.
-      sound_require (AreForms program names (key_types keys)) (length keys == length items) rule.WrongType place (Ok ones) (λ many. (h.0, h.1 (length-map keys Simple ∙ eqb-true (length keys) (length items) many))))
+  keys_of_items place keys items = many_sound program names check well env rule.WrongType place (key_types keys) items
 
   several_keys : (keys : List SimpleType) (one : Expr) (found : Option (ℕ × List Item)) → Sound (AreForms program names (key_types keys)) (in_brackets check env keys one found)
   several_keys keys one None = never_ok (AreForms program names (key_types keys)) (check Nothing one) rule.WrongType (expr_place env one)
@@ -313,7 +319,7 @@ module _ (program : Program) (names : Names) (check : Check) (well : ChecksWell 
       Entry : List Typed → Type 0
       Entry = AreForms program names (key_types keys ++ value ∷ [])
 
-      wrong : Sound Entry (check Nothing one >> broken rule.WrongType (expr_place env one))
+      wrong : Sound Entry (broken_anyway (check Nothing one) rule.WrongType (expr_place env one))
       wrong = never_ok Entry (check Nothing one) rule.WrongType (expr_place env one)
 
       set : (left right : Expr) (found : Option (ℕ × List Item)) → out-Expr one ≡ written.Assign left assigning.Set right → bracketed left ≡ found → Sound Entry (entry check env keys value one)

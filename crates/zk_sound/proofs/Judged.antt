@@ -27,7 +27,7 @@ use Rattle.zk_typed.specs.declared.script.primitive.Primitive.TheVariants as pri
 use Rattle.zk_typed.specs.declared.script.primitive.Relation.{Relation}
 use Rattle.zk_typed.specs.declared.script.primitive.Unary.TheVariants as unary
 use Rattle.zk_typed.specs.declared.script.types.SimpleType.TheVariants as simple
-use Rattle.zk_typed.specs.Checked.{Checked, broken, ◌>>=◌, ◌>>◌, both}
+use Rattle.zk_typed.specs.Checked.{Checked, ◌>>=◌, ◌>>◌, both, broken_anyway}
 use Rattle.zk_typed.specs.Expressions.{Side, side, declared_side, name_side, element_side, ends_in_element, left_side, assignable, stepped, unary_typed, compared, arms, choice, wanted_first, size_typed, assigned_parts, expr_to, expr_typed, is_fixed, has_expiry}
 use Rattle.zk_typed.specs.Expressions as expressions
 use Rattle.zk_typed.specs.Forms as form
@@ -141,7 +141,7 @@ module _ (program : Program) (names : Names) (check : Check) (well : ChecksWell 
       Sided : Side → Type 0
       Sided = SideForm program names env agree
 
-      wrong : Sound (SideForm program names env agree) (check Nothing one >> broken rule.WrongType (expr_place env one))
+      wrong : Sound (SideForm program names env agree) (broken_anyway (check Nothing one) rule.WrongType (expr_place env one))
       wrong = never_ok (SideForm program names env agree) (check Nothing one) rule.WrongType (expr_place env one)
 
       ends : (first : Expr) (parts : List Part) (element : Bool) → out-Expr one ≡ written.Post first parts → ends_in_element parts ≡ element → Sound (SideForm program names env agree) (left_side check env one)

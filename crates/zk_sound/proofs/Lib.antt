@@ -33,6 +33,13 @@ pub mod Numbers
 pub mod Once
 pub mod Apart
 pub mod Words
+pub mod Fields
+pub mod Locals
+pub mod Columns
+pub mod Quiet
+pub mod QuietCalls
+pub mod QuietForms
+pub mod QuietStmts
 pub mod Whole
 pub mod SparedForms
 pub mod SparedCalls

@@ -1,6 +1,5 @@
 -- Calls, names and whole expressions that the rules give typed forms spare the globals that no rule lets be assigned.
-use Rattle.std.proofs.Common.{◌≡◌, ℕ, zero, suc, ◌==◌, length, Bool, true, false, ◌||◌, List, [], ◌∷◌, Option, Some, None, Ok, refl}
-use Rattle.std.specs.Prelude.{codes}
+use Rattle.std.proofs.Common.{◌≡◌, ℕ, zero, suc, ◌==◌, length, Bool, true, false, ◌||◌, List, [], ◌∷◌, Option, Some, None, Ok, refl, Err}
 use Rattle.zk_agenda.specs.Sparing.{Numbers, SparesSide, SparesExpr, SpareExprs}
 use Rattle.zk_base.specs.declared.numbers.RecordNo.{RecordNo}
 use Rattle.zk_tree.specs.declared.decl.Lasting.{Lasting}
@@ -29,12 +28,12 @@ use Rattle.zk_typed.specs.declared.script.primitive.Primitive.TheVariants as pri
 use Rattle.zk_typed.specs.declared.script.primitive.Relation.{Relation}
 use Rattle.zk_typed.specs.declared.script.primitive.Unary.TheVariants as unary
 use Rattle.zk_typed.specs.declared.script.types.SimpleType.TheVariants as simple
-use Rattle.zk_typed.specs.Checked.{Checked, broken, elsewhere, ◌>>=◌, ◌>>◌, both, each, or_broken}
+use Rattle.zk_typed.specs.Checked.{Checked, broken, elsewhere, ◌>>=◌, ◌>>◌, both, each, or_broken, broken_anyway, with_rule, require}
 use Rattle.zk_typed.specs.Expressions.{Side, side, declared_side, name_side, element_side, ends_in_element, left_side, assignable, stepped, unary_typed, compared, arms, choice, wanted_first, size_typed, assigned_parts, expr_to, expr_typed, has_expiry}
 use Rattle.zk_typed.specs.Expressions as expressions
 use Rattle.zk_typed.specs.Forms as form
-use Rattle.zk_typed.specs.LogCalls.{log_form, log_no, optional, not_local, setting, columns_type, if_known, only_settings, event_setting, policy_setting, log_path, path_literal, path_or_module, names_setting, of_known, places_of, keeps, logged, leaves, create_typed, filter_typed, bracketed, with_settings, row_wanted, log_with, log_of, log_word, log_typed}
-use Rattle.zk_typed.specs.Making.{Called, Gives, Performs, gives, built_in_call, printed, format_text, fmt_typed, cat_typed, copy_typed, by_row, built_in_typed, with_result, function_typed, made_of, call_typed, hook_typed, value_of, part_typed, parts_typed, called_name, call_of, post_typed, argument, arguments, element, field_of, verbs_take, members_in, record_typed}
+use Rattle.zk_typed.specs.LogCalls.{log_form, log_no, path_literal, path_or_module, of_known, places_of, keeps, logged, leaves, create_typed, filter_typed, bracketed, with_settings, row_wanted, log_with, log_of, log_word, log_typed, stream_settings, filter_settings, log_arguments, log_behind, astray, all_wordless}
+use Rattle.zk_typed.specs.Making.{Called, Gives, Performs, gives, built_in_call, printed, format_text, fmt_typed, cat_typed, copy_typed, by_row, built_in_typed, with_result, function_typed, lone_argument, made_of, call_typed, hook_typed, value_of, part_typed, parts_typed, called_name, call_of, post_typed, argument, arguments, element, field_of, verbs_take, members_in, record_typed, item_values, made_by}
 use Rattle.zk_typed.specs.Names.{Declared, Meant, KnownType, WrittenType, Word, Variable, Hook, Function, BuiltInFunction, Log, LogFunction, CreateStream, AddFilter, RemoveFilter, RemoveDefaultFilter, Write, Signature, look_up}
 use Rattle.zk_typed.specs.Operations.{same_type, built_in_type, relation_of}
 use Rattle.zk_typed.specs.Predefined as type
@@ -42,7 +41,7 @@ use Rattle.zk_typed.specs.Resolving.{Scripts, type_named, params_of, result_of}
 use Rattle.zk_typed.specs.Types.{ValueType, Simple, Record, Table, Set, Vector}
 use Rattle.zk_typed.specs.Typing.{Typed, typed, Env, at, apply, expr_place, Wanted, Nothing, Wants, Unclear, Check, fit, constant, interval_of, literal_typed, declared_value, name_value, name_typed, local_meant, found, number_among, is_function, is_variable, on_item, beside, left_of_in, printable}
 use Rattle.zk_typed.specs.Within.{depth_max}
-use Rattle.zk_sound.proofs.Checks.{Sound, sound_bind, sound_after, never_ok, sound_require, sound_both, sound_each, sound_any}
+use Rattle.zk_sound.proofs.Checks.{Sound, sound_bind, sound_after, never_ok, sound_require, sound_along, sound_held, sound_both, sound_each, sound_any, sound_more}
 use Rattle.zk_sound.proofs.Constructed.{members_in_well}
 use Rattle.zk_sound.proofs.SparedForms.{Spare, AllSpare, SparesWell, exprs_spare, fit_spare, printable_spare, literal_spares, beside_spare, related_spares, chained_spares, membership_spares, item_spares, left_spare, argument_spares, arguments_spare, element_spares, record_spares, brackets_spare, container_spares}
 
@@ -82,8 +81,12 @@ module _ (spared : Numbers) where
 
     copy_spares : (place : Place) (items : List Item) → Sound CalledSpares (copy_typed check env place items)
     copy_spares place [] = tt
-    copy_spares place (first ∷ others) = sound_bind (Spare spared) CalledSpares (argument check env Nothing first) _ (argument_spares spared check well env Nothing first) (λ one h.
-        sound_require CalledSpares (length others == 0) rule.Arguments place (gives (typed one.type (built_in_call built_in.Copy (one ∷ [])))) (λ alone. (tt, (h, tt))))
+    copy_spares place (first ∷ others) =
+        sound_bind (Spare spared) CalledSpares (lone_argument check env place first others) _
+        (sound_along (Spare spared) (with_rule (argument check env Nothing first) (require (length others == 0) rule.Arguments place)) (each (argument check env Unclear) others)
+        (sound_held (Spare spared) (argument check env Nothing first) (length others == 0) rule.Arguments place
+        (sound_more (Spare spared) (λ one. (length others == 0) ≡ true → Spare spared one) (argument check env Nothing first) (λ one h alone. h) (argument_spares spared check well env Nothing first))))
+        (λ one h. (tt, (h, tt)))
 
     row_spares : (place : Place) (function : BuiltIn) (items : List Item) (row : Option (List ValueType × ValueType)) → Sound CalledSpares (by_row check env place function items row)
     row_spares place function items None = tt
@@ -126,9 +129,7 @@ module _ (spared : Numbers) where
 
     create_spares : (place : Place) (word : Declared) (brackets : Place) (items : List Item) → Sound (Spare spared) (create_typed check env place word brackets items)
     create_spares place word brackets items =
-        let columns = optional (not_local env) (setting (codes "columns") items) >> columns_type env.scripts env.home items in
-        let settings = both (only_settings check env (codes "columns" ∷ codes "ev" ∷ codes "path" ∷ codes "policy" ∷ []) [] items)
-        (both (both columns (optional (event_setting env (if_known columns)) (setting (codes "ev") items))) (both (optional (log_path check env) (setting (codes "path") items)) (optional (policy_setting env (if_known columns)) (setting (codes "policy") items)))) in
+        let settings = stream_settings check env brackets items in
         sound_bind (λ parts. Unit {0}) (Spare spared) settings _ (sound_any settings) (λ parts any. sound_bind (λ number. Unit {0}) (Spare spared) (or_broken parts.1.0.0 rule.Field brackets) _ (sound_any (or_broken parts.1.0.0 rule.Field brackets)) (λ number any.
         sound_bind (λ path. Unit {0}) (Spare spared) (path_or_module place word parts.1.1.0) _ (sound_any (path_or_module place word parts.1.1.0)) (λ path any. (tt, tt))))
 
@@ -138,8 +139,7 @@ module _ (spared : Numbers) where
 
     filter_spares : (word : Declared) (known : Option RecordNo) (brackets : Place) (items : List Item) → Sound (Spare spared) (filter_typed check env word known brackets items)
     filter_spares word known brackets items =
-        let settings = both (both (only_settings check env (codes "name" ∷ codes "path" ∷ codes "include" ∷ codes "exclude" ∷ codes "policy" ∷ []) [] items) (both (optional (path_literal check env) (setting (codes "name") items)) (optional (log_path check env) (setting (codes "path") items))))
-        (both (both (optional (names_setting check env) (setting (codes "include") items)) (optional (names_setting check env) (setting (codes "exclude") items))) (optional (policy_setting env known) (setting (codes "policy") items))) in
+        let settings = filter_settings check env known brackets items in
         sound_bind (λ parts. Unit {0}) (Spare spared) settings _ (sound_any settings) (λ parts any. sound_bind (λ name. Unit {0}) (Spare spared) (or_broken parts.0.1.0 rule.Field brackets) _ (sound_any (or_broken parts.0.1.0 rule.Field brackets)) (λ name any.
         known_spares known (λ number. log_form (log.AddFilter (log_no env word) name parts.0.1.1 parts.1.1 (places_of (keeps parts.1.0.0 parts.1.0.1) 0 (logged (leaves env.scripts number))))) (λ number. (tt, tt))))
 
@@ -157,32 +157,40 @@ module _ (spared : Numbers) where
     with_spares place RemoveDefaultFilter word known one = tt
     with_spares place Write word known one = sound_bind (Spare spared) (Spare spared) (check (row_wanted known) one) (λ row. Ok (typed type.bool (form.Write (log_no env word) row.expr))) (well (row_wanted known) one) (λ row h. h)
 
+    arguments_of : (place : Place) (function : LogFunction) (word : Declared) (known : Option RecordNo) (one : Item) (others : List Item) → Sound (Spare spared) (log_arguments check env place function word known one others)
+    arguments_of place function word known one [] = item_spares spared check env (Spare spared) (log_with check env place function word known) (with_spares place function word known) one
+    arguments_of place function word known one (other ∷ others) = let wrong = broken_anyway {B = Typed} (on_item check env (log_with check env place function word known) one) rule.Arguments place in
+        sound_along (Spare spared) wrong (astray check env (other ∷ others)) (never_ok (Spare spared) (on_item check env (log_with check env place function word known) one) rule.Arguments place)
+
     log_of_spares : (place : Place) (function : LogFunction) (word : Declared) (known : Option RecordNo) (items : List Item) → Sound (Spare spared) (log_of check env place function word known items)
     log_of_spares place RemoveDefaultFilter word known [] = (tt, tt)
-    log_of_spares place RemoveDefaultFilter word known (one ∷ others) = tt
+    log_of_spares place RemoveDefaultFilter word known (one ∷ others) = sound_along (Spare spared) (broken rule.Arguments place) (astray check env (one ∷ others)) tt
     log_of_spares place CreateStream word known [] = tt
-    log_of_spares place CreateStream word known (one ∷ []) = item_spares spared check env (Spare spared) (log_with check env place CreateStream word known) (with_spares place CreateStream word known) one
-    log_of_spares place CreateStream word known (one ∷ other ∷ others) = never_ok (Spare spared) (on_item check env (log_with check env place CreateStream word known) one) rule.Arguments place
+    log_of_spares place CreateStream word known (one ∷ others) = arguments_of place CreateStream word known one others
     log_of_spares place AddFilter word known [] = tt
-    log_of_spares place AddFilter word known (one ∷ []) = item_spares spared check env (Spare spared) (log_with check env place AddFilter word known) (with_spares place AddFilter word known) one
-    log_of_spares place AddFilter word known (one ∷ other ∷ others) = never_ok (Spare spared) (on_item check env (log_with check env place AddFilter word known) one) rule.Arguments place
+    log_of_spares place AddFilter word known (one ∷ others) = arguments_of place AddFilter word known one others
     log_of_spares place RemoveFilter word known [] = tt
-    log_of_spares place RemoveFilter word known (one ∷ []) = item_spares spared check env (Spare spared) (log_with check env place RemoveFilter word known) (with_spares place RemoveFilter word known) one
-    log_of_spares place RemoveFilter word known (one ∷ other ∷ others) = never_ok (Spare spared) (on_item check env (log_with check env place RemoveFilter word known) one) rule.Arguments place
+    log_of_spares place RemoveFilter word known (one ∷ others) = arguments_of place RemoveFilter word known one others
     log_of_spares place Write word known [] = tt
-    log_of_spares place Write word known (one ∷ []) = item_spares spared check env (Spare spared) (log_with check env place Write word known) (with_spares place Write word known) one
-    log_of_spares place Write word known (one ∷ other ∷ others) = never_ok (Spare spared) (on_item check env (log_with check env place Write word known) one) rule.Arguments place
+    log_of_spares place Write word known (one ∷ others) = arguments_of place Write word known one others
+
+    behind_spares : (place : Place) (function : LogFunction) (others : List Item) (word : Checked (Declared × Option RecordNo)) → Sound (Spare spared) (log_behind check env place function others word)
+    behind_spares place function others (Ok word) = log_of_spares place function word.0 word.1 others
+    behind_spares place function others (Err rules) = sound_along (Spare spared) (Err rules) (all_wordless check env function others) tt
 
     log_spares : (place : Place) (function : LogFunction) (items : List Item) → Sound (Spare spared) (log_typed check env place function items)
     log_spares place function [] = tt
-    log_spares place function (first ∷ others) = sound_bind (λ word. Unit {0}) (Spare spared) (on_item check env (log_word check env) first) (λ word. log_of check env place function word.0 word.1 others)
-        (sound_any (on_item check env (log_word check env) first)) (λ word any. log_of_spares place function word.0 word.1 others)
+    log_spares place function (first ∷ others) = behind_spares place function others (on_item check env (log_word check env) first)
 
     -- Calls ----------------------------------------------------------------------------------------------------------
 
     made_spares : (place : Place) (items : List Item) (of : ValueType) → Sound CalledSpares (made_of check env place items of)
     made_spares place items (Record number) = sound_bind (Spare spared) CalledSpares (record_typed check env place number items) gives (record_spares spared check well env place number items) (λ one h. h)
-    made_spares place items of = tt
+    made_spares place items of = sound_after CalledSpares (both (broken {A = Unit {0}} rule.WrongType place) (item_values check Unclear items)) elsewhere tt
+
+    made_by_spares : (place : Place) (items : List Item) (of : Checked ValueType) → Sound CalledSpares (made_by check env place items of)
+    made_by_spares place items (Ok of) = made_spares place items of
+    made_by_spares place items (Err rules) = sound_along CalledSpares (Err rules) (item_values check Unclear items) tt
 
     typed_spares : (name : Name) (items : List Item) (one : Option Declared) → Sound CalledSpares (call_typed check env name items one)
     typed_spares name items None = sound_after CalledSpares (both (broken {A = Unit {0}} rule.Unknown (at env name.place)) (each (argument check env Unclear) items)) elsewhere tt
@@ -196,7 +204,7 @@ module _ (spared : Numbers) where
         of_meant (BuiltInFunction function) one = built_in_spares place function items
         of_meant (Log function) one = sound_bind (Spare spared) CalledSpares (log_typed check env place function items) gives (log_spares place function items) (λ made h. h)
         of_meant (KnownType of) one = made_spares place items of
-        of_meant (WrittenType home tree) one = sound_bind (λ of. Unit {0}) CalledSpares (type_named env.scripts env.home name) (made_of check env place items) (sound_any _) (λ of any. made_spares place items of)
+        of_meant (WrittenType home tree) one = made_by_spares place items (type_named env.scripts env.home name)
         of_meant meant one = sound_after CalledSpares (both (broken {A = Unit {0}} rule.WrongType (at env name.place)) (each (argument check env Unclear) items)) elsewhere tt
 
     pub call_spares : (name : Name) (items : List Item) → Sound CalledSpares (call_of check env name items)

@@ -1,5 +1,5 @@
 -- Typed forms that the rules make of forms that spare globals spare these too: operators, fields, records and containers.
-use Rattle.std.proofs.Common.{◌≡◌, ℕ, ◌==◌, Bool, true, false, ◌&&◌, List, [], ◌∷◌, ◌++◌, length, map, Option, Some, None, Ok, Err, refl, subst, sym, ◌∙◌}
+use Rattle.std.proofs.Common.{◌≡◌, ℕ, ◌==◌, Bool, true, false, ◌&&◌, List, [], ◌∷◌, ◌++◌, length, map, drop, Option, Some, None, Ok, Err, refl, subst, sym, ◌∙◌}
 use Rattle.std.specs.Prelude.{if◌then◌else◌}
 use Rattle.std.specs.List.{AllByRecursion}
 use Rattle.zk_agenda.specs.Sparing.{Numbers, SparesExpr, SpareExprs, SpareGivens}
@@ -19,6 +19,7 @@ use Rattle.zk_tree.specs.declared.operator.Container.TheVariants as container
 use Rattle.zk_tree.specs.declared.operator.Level.{Level}
 use Rattle.zk_tree.specs.declared.operator.Level.TheVariants as level
 use Rattle.zk_tree.specs.declared.place.Place.{Place}
+use Rattle.zk_typed.specs.declared.rule.Rule.{Rule}
 use Rattle.zk_typed.specs.declared.rule.Rule.TheVariants as rule
 use Rattle.zk_typed.specs.declared.script.primitive.Binary.{Binary}
 use Rattle.zk_typed.specs.declared.script.primitive.FieldNo.{FieldNo}
@@ -27,15 +28,15 @@ use Rattle.zk_typed.specs.declared.script.primitive.Primitive.TheVariants as pri
 use Rattle.zk_typed.specs.declared.script.primitive.Relation.{Relation}
 use Rattle.zk_typed.specs.declared.script.types.SimpleType.{SimpleType}
 use Rattle.zk_typed.specs.declared.script.types.SimpleType.TheVariants as simple
-use Rattle.zk_typed.specs.Checked.{Checked, broken, elsewhere, ◌>>=◌, ◌>>◌, both, each, or_broken}
+use Rattle.zk_typed.specs.Checked.{Checked, broken, broken_anyway, with_rule, require, elsewhere, ◌>>=◌, ◌>>◌, both, each, or_broken}
 use Rattle.zk_typed.specs.Forms as form
-use Rattle.zk_typed.specs.Making.{argument, matched, arguments, field_named, fitted_keys, keys_fit, element, GivenField, wire_read, and_given, givens, given_field, given_once, all_given, record_typed, plain_shape, Members, one_value, bracketed, each_key, member_keys, joined, entry, item_values, loosely, loose, wanted_container, types_same, vector_alone, simple_types, set_alone, container_alone, container_typed, braces_typed, brackets_typed}
+use Rattle.zk_typed.specs.Making.{argument, matched, as_many, arguments, field_named, fitted_keys, keys_fit, element, GivenField, wire_read, and_given, givens, given_field, given_once, all_given, record_typed, plain_shape, Members, one_value, bracketed, each_key, member_keys, joined, entry, item_values, loosely, loose, wanted_container, types_same, vector_alone, simple_types, set_alone, container_alone, container_typed, braces_typed, brackets_typed}
 use Rattle.zk_typed.specs.Operations.{same_type, binary_of, relates}
 use Rattle.zk_typed.specs.Predefined as type
 use Rattle.zk_typed.specs.Resolving.{FieldInfo, fields_of}
 use Rattle.zk_typed.specs.Types.{ValueType, Simple, Record, Table, Set, Vector}
 use Rattle.zk_typed.specs.Typing.{Typed, typed, Env, at, exprs, apply, expr_place, Wanted, Nothing, Wants, Unclear, wanted_of, Check, to_int, fits, fit, printable, simple_type, literal_typed, beside, arithmetic_type, arithmetic_typed, related, truths, linked, chained, as_keys, in_form, negated, membership, on_item, value_in, left_of_in}
-use Rattle.zk_sound.proofs.Checks.{Sound, sound_bind, sound_after, never_ok, sound_require, sound_both, sound_each, sound_or, sound_any}
+use Rattle.zk_sound.proofs.Checks.{Sound, sound_bind, sound_after, never_ok, sound_require, sound_along, sound_held, sound_both, sound_each, sound_or, sound_any, sound_more}
 use Rattle.zk_sound.proofs.Constructed.{MembersWell, wire_is}
 use Rattle.zk_sound.proofs.Formed.{as_told, told_form, in_two, KeyForm}
 use Rattle.zk_sound.proofs.Growth.{all_append}
@@ -217,9 +218,13 @@ module _ (spared : Numbers) where
     matched_spare (param ∷ params) (item ∷ items) = sound_bind (λ pair. Spare pair.0 × AllSpare pair.1) AllSpare (both (argument check env (Wants param) item) (matched check env params items)) (λ parts. Ok (parts.0 ∷ parts.1))
         (sound_both Spare AllSpare (argument check env (Wants param) item) (matched check env params items) (argument_spares (Wants param) item) (matched_spare params items)) (λ parts h. h)
 
+    pub many_spare : (rule : Rule) (place : Place) (types : List ValueType) (items : List Item) → Sound AllSpare (as_many check env rule place types items)
+    many_spare rule place types items = sound_along AllSpare (with_rule (matched check env types items) (require (length types == length items) rule place)) (each (argument check env Unclear) (drop (length types) items))
+        (sound_held AllSpare (matched check env types items) (length types == length items) rule place
+        (sound_more AllSpare (λ ones. (length types == length items) ≡ true → AllSpare ones) (matched check env types items) (λ ones h many. h) (matched_spare types items)))
+
     pub arguments_spare : (place : Place) (params : Checked (List ValueType)) (items : List Item) → Sound AllSpare (arguments check env place params items)
-    arguments_spare place (Ok params) items = sound_bind AllSpare AllSpare (matched check env params items) _ (matched_spare params items) (λ args h.
-        sound_require AllSpare (length params == length items) rule.Arguments place (Ok args) (λ many. h))
+    arguments_spare place (Ok params) items = many_spare rule.Arguments place params items
     arguments_spare place (Err rules) items = none (each (argument check env Unclear) items)
       where
         none : (m : Checked (List Typed)) → Sound AllSpare (m >> Err rules)
@@ -308,11 +313,10 @@ module _ (spared : Numbers) where
     value_alone wanted one = sound_bind Spare AllSpare (check wanted one) (λ value. Ok (value ∷ [])) (well wanted one) (λ value h. (h, tt))
 
     keys_of_items : (place : Place) (keys : List SimpleType) (items : List Item) → Sound AllSpare (each_key check env place keys items)
-    keys_of_items place keys items = sound_bind AllSpare AllSpare (matched check env (map Simple keys) items) _ (matched_spare check well env (map Simple keys) items) (λ ones h.
-        sound_require AllSpare (length keys == length items) rule.WrongType place (Ok ones) (λ many. h))
+    keys_of_items place keys items = many_spare check well env rule.WrongType place (map Simple keys) items
 
     abbrev in_brackets : List SimpleType → Expr → Option (ℕ × List Item) → Checked (List Typed)
-    in_brackets keys one None = check Nothing one >> broken rule.WrongType (expr_place env one)
+    in_brackets keys one None = broken_anyway (check Nothing one) rule.WrongType (expr_place env one)
     in_brackets keys one (Some items) = each_key check env (at env items.0) keys items.1
 
     several_keys : (keys : List SimpleType) (one : Expr) (found : Option (ℕ × List Item)) → Sound AllSpare (in_brackets keys one found)
@@ -327,7 +331,7 @@ module _ (spared : Numbers) where
     entry_spares : (keys : List SimpleType) (value : ValueType) (one : Expr) → Sound AllSpare (entry check env keys value one)
     entry_spares keys value one = by (out-Expr one) refl
       where
-        wrong : Sound AllSpare (check Nothing one >> broken rule.WrongType (expr_place env one))
+        wrong : Sound AllSpare (broken_anyway (check Nothing one) rule.WrongType (expr_place env one))
         wrong = never_ok AllSpare (check Nothing one) rule.WrongType (expr_place env one)
 
         set : (left right : Expr) (found : Option (ℕ × List Item)) → out-Expr one ≡ written.Assign left assigning.Set right → bracketed left ≡ found → Sound AllSpare (entry check env keys value one)

@@ -60,7 +60,7 @@ tells_bind : {A B : Type 0} (m : Checked A) (next : A → Checked B) → Tells m
 tells_bind (Ok a) next h more = more a
 tells_bind {A = A} {B = B} (Err rules) next h more = tells_as A B rules h
 
-tells_each : {A B : Type 0} (check : A → Checked B) → ((a : A) → Tells (check a)) → (ones : List A) → Tells (each check ones)
+pub tells_each : {A B : Type 0} (check : A → Checked B) → ((a : A) → Tells (check a)) → (ones : List A) → Tells (each check ones)
 tells_each check h [] = tt
 tells_each check h (one ∷ ones) = tells_bind (both (check one) (each check ones)) (λ parts. Ok (parts.0 ∷ parts.1)) (tells_both (check one) (each check ones) (h one) (tells_each check h ones)) (λ parts. tt)
 

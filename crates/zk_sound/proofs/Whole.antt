@@ -26,6 +26,7 @@ use Rattle.zk_sound.specs.Telling.{IsDeclared, BodyIsDeclared}
 use Rattle.zk_sound.specs.Worlds.{global_names, hook_params, event_params}
 use Rattle.zk_sound.specs.Worlds as worlds
 use Rattle.zk_sound.proofs.Apart.{declared_once}
+use Rattle.zk_sound.proofs.Columns.{columns_of_files}
 use Rattle.zk_sound.proofs.Growth.{all_append, all_map}
 use Rattle.zk_sound.proofs.Heads.{bodies_declared}
 use Rattle.zk_sound.proofs.Initials.{fields_begin, values_fit}
@@ -148,7 +149,7 @@ whole_of_files files right says =
     let typed : Typed files (typed_program files) = record { right = right; whole = refl } in
     record {
       fields = fields_begin files (typed_program files) typed;
-      columns = says.columns;
+      columns = columns_of_files files right;
       logs = logs_are files says.written;
       filter = filter_types files;
       begins = (events_of_files files).0;

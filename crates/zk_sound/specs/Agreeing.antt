@@ -8,7 +8,6 @@ use Rattle.zk_tree.specs.declared.decl.Decl.TheOpen as decl
 use Rattle.zk_tree.specs.declared.name.Name.{Name}
 use Rattle.zk_typed.specs.declared.script.primitive.Primitive.{Primitive}
 use Rattle.zk_typed.specs.declared.script.primitive.Primitive.TheVariants as primitive
-use Rattle.zk_typed.specs.Columns.{record_fields}
 use Rattle.zk_typed.specs.Forms as form
 use Rattle.zk_typed.specs.Forms.{Expr, Exprs, Givens, Stmt, Stmts}
 use Rattle.zk_typed.specs.LogCalls.{is_log_word, stream_type}
@@ -21,7 +20,7 @@ use Rattle.zk_typed.specs.Types.{ValueType}
 use Rattle.zk_typed.specs.Typing.{Env, LocalName, Wanted, Nothing, Wants, Unclear, number_among, is_event, is_hook, is_function}
 use Rattle.zk_sound.specs.Holding.{is_word}
 use Rattle.zk_sound.specs.Worlds.{Names, type_of, global_names, field_type, hook_params, event_params, row_type}
-use Rattle.zk_sound.specs.Having.{CallTakes, MayGive, LogCallFits, ExpiryTakes, FieldLogs}
+use Rattle.zk_sound.specs.Having.{CallTakes, MayGive, LogCallFits, ExpiryTakes}
 
 -- a function of a program is called with arguments of these types, and gives a value of a type, or none
 pub record FunctionAgrees (program : Program) (number : ℕ) (params : List ValueType) (gives : Option ValueType) : Type 0 where
@@ -181,8 +180,8 @@ abbrev pub AreApart : List Declared → Type 0
 AreApart [] = Unit {0}
 AreApart (one ∷ others) = AllByRecursion (λ other. one.name ≢ other.name) others × AreApart others
 
--- A program says what its scripts say: its names are written as names, what its bodies and values say of logs fits, an expiry
--- function takes its table, and a logged field is of a type that columns have.
+-- A program says what its scripts say: its names are written as names, what its bodies and values say of logs fits, and an
+-- expiry function takes its table.
 pub record SaysItsScripts (program : Program) (scripts : Scripts) : Type 0 where
   pub written : AllByRecursion IsWritten scripts.stated
   pub functions : AllByRecursion (λ one. StmtLogsFit program one.body) program.functions
@@ -190,4 +189,3 @@ pub record SaysItsScripts (program : Program) (scripts : Scripts) : Type 0 where
   pub handlers : AllByRecursion (λ one. StmtLogsFit program one.body) program.handlers
   pub values : AllByRecursion (ValuesLogFit program) program.globals
   pub expiry : AllByRecursion (λ one. ExpiryTakes program one.global_type one.expire_func) program.globals
-  pub columns : (number : RecordNo) → AllByRecursion FieldLogs (record_fields program number)

@@ -1,5 +1,5 @@
 -- The laws: what typed programs promise of their values.
-use Rattle.std.specs.Prelude.{◌≡◌, ◌≢◌, ◌≤ℤ◌, ℕ, pos, List, [], map, Err, Option, Some, Ok, slice_get}
+use Rattle.std.specs.Prelude.{◌≡◌, ◌≢◌, ◌≤ℤ◌, ℕ, pos, List, [], map, Err, Option, Some, None, Ok, slice_get}
 use Rattle.std.specs.List.{AllByRecursion}
 use Rattle.zk_agenda.specs.Laws.{AreInOrder, IsInTime, ItemsGo, TablesStay}
 use Rattle.zk_base.specs.declared.time.Moment.{Moment}
@@ -21,6 +21,7 @@ use Rattle.zk_typed.specs.Dispatch.{dispatch, initial_body, world_after}
 use Rattle.zk_typed.specs.Expressions.{expr_typed}
 use Rattle.zk_typed.specs.Forms.{Expr, Stmt}
 use Rattle.zk_typed.specs.Log.{Row}
+use Rattle.zk_typed.specs.LogCalls.{log_type}
 use Rattle.zk_typed.specs.Meaning.{calls, value, does}
 use Rattle.zk_typed.specs.Primitives.{perform, act}
 use Rattle.zk_typed.specs.Program.{Program, Global}
@@ -116,6 +117,10 @@ RunsKeepTypes = (program : Program) (budget : ℕ) (items : List Item) (last : M
 -- Where no rule is told, no type is broken: what is not told of a type, for it rests on what is broken elsewhere, is told there.
 abbrev pub TypesAreTold : Type 0
 TypesAreTold = (files : List File) (home : Home) (tree : «Type») → errors files ≡ [] → type_of (scripts_of files) home tree ≢ Err []
+
+-- Nor is the record type of a log that has a stream unknown.
+abbrev pub LogsAreTold : Type 0
+LogsAreTold = (files : List File) (word : List ℕ) → errors files ≡ [] → log_type (scripts_of files) word ≢ Some None
 
 -- So each declared type and each type in the head of a body is known,
 abbrev pub HeadsAreKnown : Type 0

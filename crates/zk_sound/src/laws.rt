@@ -1,5 +1,5 @@
 // What typed programs promise of their values.
-ghost use Rattle.zk_sound.specs.Laws.{PrimitivesTakeTypes, ActionsTakeTypes, ExpressionsKeepTypes, StatementsKeepTypes, HandlersKeepTypes, InitialsKeepTypes, ExpiriesKeepTypes, RunsKeepTypes, RulesGiveForms, RulesGiveStatements, ValuesHaveTypes, RunsWriteRowsThatFit, ShownRowsFit, TextsTellRows, TypesAreTold, HeadsAreKnown, BodiesAreDeclared, TypedFunctionsFit, TypedHandlersFit, TypedValuesFit, TypedFieldsAgree, TypedFieldsBegin, TypedProgramsFit, TypedHandlersKeepTypes, TypedRunsKeepTypes, TypedTablesStay, TypedTimesRise};
+ghost use Rattle.zk_sound.specs.Laws.{ActionsTakeTypes, BodiesAreDeclared, ExpiriesKeepTypes, ExpressionsKeepTypes, HandlersKeepTypes, HeadsAreKnown, InitialsKeepTypes, LogsAreTold, PrimitivesTakeTypes, RulesGiveForms, RulesGiveStatements, RunsKeepTypes, RunsWriteRowsThatFit, ShownRowsFit, StatementsKeepTypes, TextsTellRows, TypedFieldsAgree, TypedFieldsBegin, TypedFunctionsFit, TypedHandlersFit, TypedHandlersKeepTypes, TypedProgramsFit, TypedRunsKeepTypes, TypedTablesStay, TypedTimesRise, TypedValuesFit, TypesAreTold, ValuesHaveTypes};
 
 use zk_agenda::{sparing_tables_stay, time_rises};
 use zk_ascii::equal_texts;
@@ -49,10 +49,12 @@ pub fn rows_fit_their_columns()
     equal_texts();
 }
 
-/// What is broken is told: where scripts break no rule that is told, no type in them is broken, and each body has
-/// the parameters and the result of its declaration. There is nothing to run.
+/// What is broken is told: where scripts break no rule that is told, no type in them is broken, each log that has a
+/// stream has a record type that is known, and each body has the parameters and the result of its declaration. There
+/// is nothing to run.
 pub fn broken_is_told()
     ensures types { TypesAreTold }
+    ensures logs { LogsAreTold }
     ensures heads { HeadsAreKnown }
     ensures bodies { BodiesAreDeclared }
 {}

@@ -19,7 +19,7 @@ use Rattle.zk_typed.specs.declared.rule.Rule.TheVariants as rule
 use Rattle.zk_typed.specs.declared.script.action.Action.{Action}
 use Rattle.zk_typed.specs.declared.script.action.Action.TheVariants as action
 use Rattle.zk_typed.specs.declared.script.types.SimpleType.{SimpleType}
-use Rattle.zk_typed.specs.Checked.{Checked, both, each, broken, ◌>>=◌, ◌>>◌}
+use Rattle.zk_typed.specs.Checked.{Checked, both, each, broken, ◌>>=◌, ◌>>◌, broken_anyway}
 use Rattle.zk_typed.specs.Forms as form
 use Rattle.zk_typed.specs.Making.{Called, Gives, Performs, call_of, called_name, keys_fit, post_typed, printed}
 use Rattle.zk_typed.specs.Statements.{Context, Locals, check_in, do_with, env_of, event_args, keys_in, place_of}
@@ -82,16 +82,16 @@ parts_in parts = (typed_of parts.0, all_typed parts.1)
 abbrev pub lent_index : Bor (List Part) × Bor (List Expr) → List Part × List Expr
 lent_index found = (found.0.now, found.1.now)
 
--- an expression that is right in itself and no element
+-- an expression that is no element
 abbrev pub wrong_element : Check → Place → Expr → Checked form.Exprs
-wrong_element check place one = check Nothing one >> broken rule.WrongType place
+wrong_element check place one = broken_anyway (check Nothing one) rule.WrongType place
 
 abbrev pub element_of_index : Check → Env → Place → Bool → Expr → List Part → List Expr → Checked form.Exprs
 element_of_index check env place tables first parts keys = element_parts check env first parts keys >>= element_of_parts env place tables keys
 
--- a rule that is broken by an expression that is right in itself
+-- an expression that is wrong where it stands
 abbrev pub wrong_value : Check → Place → Expr → Checked form.Stmt
-wrong_value check place one = check Nothing one >> broken rule.WrongType place
+wrong_value check place one = broken_anyway (check Nothing one) rule.WrongType place
 
 abbrev pub evaluated : Check → Place → Expr → Checked form.Stmt
 evaluated check place one = check Nothing one >>= (λ given. Ok (form.Evaluate place given.expr))

@@ -16,12 +16,12 @@ use sqlite_items::Items;
 use std::alloc::{AllocError, Global};
 use zk_base::Mem;
 use zk_expression::{
-    Env, Read, Side, assignable, expr_typed, is_wire, left_side, rest_of, wire_read,
+    Env, Read, Side, assignable, expr_typed, is_wire, left_side, refused, rest_of, wire_read,
 };
 use zk_operator::{Wanted, added_type, update_of};
 use zk_tree::{Assigning, Expr as Syntax, Place};
 use zk_typed::script::{Action, Expr, FieldNo, Left, Stmt, ValueType};
-use zk_typed::{Refusal, Rule, one_broken};
+use zk_typed::{Refusal, Rule};
 
 /// An assignment of a value to a left side with its operands.
 fn plainly(
@@ -161,18 +161,13 @@ fn set(
     }
 }
 
-/// An expression that is right in itself and wrong where it stands.
-#[tactic(auto, using(zk_operator::proofs::BothLaws::passed))]
+/// An expression that is wrong where it stands.
+#[tactic(auto, using(zk_expression::proofs::Refusals::refused))]
 fn wrong_value(alloc: Global, env: &Env<'_>, place: Place, one: &Syntax) -> Result<Stmt, Refusal>
     ensures { Tells stmt_of result (wrong_value (rules.expr_typed (env_of env.now)) place one.now) }
 {
-    match expr_typed(alloc, env, Wanted::Nothing, one) {
-        Ok(one) => {
-            drop(one);
-            Err(Refusal::Broken(one_broken(alloc, Rule::WrongType, place)?))
-        }
-        Err(refusal) => Err(refusal),
-    }
+    let judged = expr_typed(alloc, env, Wanted::Nothing, one);
+    Err(refused(alloc, judged, Rule::WrongType, place))
 }
 
 /// A side to which a value of a type is added, or from which one is taken.

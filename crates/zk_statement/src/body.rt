@@ -14,8 +14,8 @@ use sqlite_items::Items;
 use zk_expression::LocalName;
 use zk_operator::{Wanted, with_part};
 use zk_tree::{Block, Expr, Keys, Name, Stmt as Syntax};
-use zk_typed::Refusal;
 use zk_typed::script::{SimpleType, Stmt, ValueType};
+use zk_typed::{Refusal, Rule, one_broken};
 
 const BOOL: ValueType = ValueType::Simple(SimpleType::Bool);
 
@@ -123,7 +123,8 @@ pub fn stmt<'a>(
     ensures { Gives result locals.new.items (spec.stmt_to depth (context_of context.now) (locals_of locals.old.items) one.now) }
 {
     if depth == 0 {
-        return Err(Refusal::Broken(Items::new(context.alloc)));
+        let place = place_of(context, one.place());
+        return Err(Refusal::Broken(one_broken(context.alloc, Rule::WrongType, place)?));
     }
     let less = depth - 1;
     match one {

@@ -16,7 +16,7 @@ use crate::context::{Context, env_in, place_of};
 use crate::made::done;
 use sqlite_items::Items;
 use std::alloc::{AllocError, Global};
-use zk_expression::{Env, LocalName, each_typed, expr_typed, keys_fit, post_typed};
+use zk_expression::{Env, LocalName, each_typed, expr_typed, keys_fit, post_typed, refused};
 use zk_operator::{Typed, Wanted, both, keys_in, operands_of};
 use zk_tree::{Expr as Syntax, Part, Place};
 use zk_typed::script::{Action, Expr, Stmt};
@@ -40,7 +40,7 @@ pub fn operands_with(
 }
 
 /// What no element can be.
-#[tactic(auto, using(zk_operator::proofs::BothLaws::passed))]
+#[tactic(auto, using(zk_expression::proofs::Refusals::refused))]
 fn no_element(
     alloc: Global,
     env: &Env<'_>,
@@ -49,13 +49,8 @@ fn no_element(
 ) -> Result<Items<Expr>, Refusal>
     ensures { Tells all_of result (wrong_element (rules.expr_typed (env_of env.now)) place one.now) }
 {
-    match expr_typed(alloc, env, Wanted::Nothing, one) {
-        Ok(one) => {
-            drop(one);
-            Err(Refusal::Broken(one_broken(alloc, Rule::WrongType, place)?))
-        }
-        Err(refusal) => Err(refusal),
-    }
+    let judged = expr_typed(alloc, env, Wanted::Nothing, one);
+    Err(refused(alloc, judged, Rule::WrongType, place))
 }
 
 /// What stands before the last index, and the keys in it.

@@ -8,7 +8,7 @@ ghost use Rattle.zk_statement.specs.Bodies.{context_of};
 ghost use Rattle.zk_statement.specs.Returns.{given_back, nothing_back};
 
 use crate::context::{Context, Within, check_in};
-use zk_expression::LocalName;
+use zk_expression::{LocalName, refused};
 use zk_operator::Wanted;
 use zk_tree::{Expr, Place};
 use zk_typed::script::Stmt;
@@ -38,7 +38,7 @@ fn return_given(
 }
 
 /// `return` in a body without a result.
-#[tactic(auto, using(zk_operator::proofs::BothLaws::passed))]
+#[tactic(auto, using(zk_expression::proofs::Refusals::refused))]
 fn return_alone(
     context: &Context<'_, '_>,
     locals: &[LocalName<'_>],
@@ -48,13 +48,10 @@ fn return_alone(
     ensures { Tells stmt_of result (nothing_back (spec.check_in (context_of context.now) (locals_of locals.now)) place value.now) }
 {
     match value {
-        Some(one) => match check_in(context, locals, Wanted::Nothing, one) {
-            Ok(given) => {
-                drop(given);
-                Err(Refusal::Broken(one_broken(context.alloc, Rule::Return, place)?))
-            }
-            Err(refusal) => Err(refusal),
-        },
+        Some(one) => {
+            let judged = check_in(context, locals, Wanted::Nothing, one);
+            Err(refused(context.alloc, judged, Rule::Return, place))
+        }
         None => Ok(Stmt::Return { place, value: None }),
     }
 }

@@ -712,3 +712,41 @@ each_write_begins_it_anew_and_a_later_body_finds_what_was_given :
     (world_in (run (typed_program added_to_filters) 1000 [] (record { 0 = pos 0 }))).lines ≡ codes "default, 7" ∷ codes "8" ∷ codes "default, 7" ∷ codes "8" ∷ []
 unfolding added_to_filters written_row of_filter policy one_field logged attr call given named file handler count_at string name trees depth_max digits dispatches_max
 each_write_begins_it_anew_and_a_later_body_finds_what_was_given = refl
+
+-- What stands beside what is broken elsewhere ------------------------------------------------------------------------
+
+-- event zeek_init() { copy(1, nosuch); }
+arguments_past_the_parameters_are_judged :
+    errors (file (handler (stmt.Expr (expr.Post (expr.Name (name 20 (codes "copy"))) (part.Call (item.Value (expr.Number 25 1) ∷ item.Value (expr.Name (name 28 (codes "nosuch"))) ∷ []) ∷ [])) ∷ []) ∷ []))
+    ≡ told rule.Arguments 20 ++ told rule.Unknown 28
+unfolding file handler told name trees depth_max
+arguments_past_the_parameters_are_judged = refl
+
+-- redef enum Log::ID += { L }; type R: record { a: count &log; }; global y = Log::write(L, [$a=1]); event zeek_init() { STATEMENTS }
+resting : List Stmt → List File
+resting list = file (
+    decl.RedefEnum 0 (name 0 (codes "Log::ID")) (name 0 (codes "L") ∷ []) false ∷ one_field ∷
+    decl.Variable 0 lasting.Global (name 0 (codes "y")) None (Some (init.Value (call (codes "Log::write") (item.Value (named (codes "L")) ∷ item.Value (expr.List 0 (given (codes "a") (expr.Number 0 1) ∷ [])) ∷ [])))) [] ∷
+    handler list ∷ [])
+
+-- Log::create_stream(L, ARGUMENT)
+created : Item → Expr
+created one = call (codes "Log::create_stream") (item.Value (named (codes "L")) ∷ one ∷ [])
+
+-- with copy(y, Log::create_stream(L, [$columns=Nope]));
+a_stream_is_judged_wherever_it_stands :
+    errors (resting (stmt.Expr (expr.Post (expr.Name (name 70 (codes "copy"))) (part.Call (
+    item.Value (named (codes "y")) ∷ item.Value (created (item.Value (expr.List 0 (given (codes "columns") (expr.Name (name 90 (codes "Nope"))) ∷ [])))) ∷ []) ∷ [])) ∷ []))
+    ≡ told rule.Arguments 70 ++ told rule.Unknown 90
+unfolding resting created one_field logged call given named file handler told count_at name trees depth_max
+a_stream_is_judged_wherever_it_stands = refl
+
+-- with Log::create_stream(L, y);
+what_is_no_settings_is_told_whatever_it_rests_on : errors (resting (stmt.Expr (created (item.Value (expr.Name (name 92 (codes "y"))))) ∷ [])) ≡ told rule.WrongType 92
+unfolding resting created one_field logged call given named file handler told count_at name trees depth_max
+what_is_no_settings_is_told_whatever_it_rests_on = refl
+
+-- with Log::create_stream(L, [$path=y]);
+a_missing_setting_is_told_whatever_others_rest_on : errors (resting (stmt.Expr (created (item.Value (expr.List 92 (given (codes "path") (named (codes "y")) ∷ [])))) ∷ [])) ≡ told rule.Field 92
+unfolding resting created one_field logged call given named file handler told count_at name trees depth_max
+a_missing_setting_is_told_whatever_others_rest_on = refl

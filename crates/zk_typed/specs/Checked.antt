@@ -40,6 +40,25 @@ abbrev pub each : {A B : Type 0} → (A → Checked B) → List A → Checked (L
 each check [] = Ok []
 each check (one ∷ others) = both (check one) (each check others) >>= (λ parts. Ok (parts.0 ∷ parts.1))
 
+-- a part, and what is judged beside it for its own sake
+abbrev pub along : {A B : Type 0} → Checked A → Checked B → Checked A
+along part other = both part other >>= (λ parts. Ok parts.0)
+
+-- What is broken elsewhere hides no rule that doesn't rest on it: the rules that are told of parts, or else those of the whole.
+abbrev pub told_or : List Broken → List Broken → List Broken
+told_or [] others = others
+told_or (one ∷ more) others = one ∷ more
+
+-- a rule that a construct breaks whatever this part of it is
+abbrev pub broken_anyway : {A B : Type 0} → Checked A → Rule → Place → Checked B
+broken_anyway (Ok a) rule place = broken rule place
+broken_anyway (Err rules) rule place = Err (told_or rules (record { rule = rule; place = place } ∷ []))
+
+-- a part, and a rule of its construct that doesn't rest on what it is
+abbrev pub with_rule : {A : Type 0} → Checked A → Checked (Unit {0}) → Checked A
+with_rule (Ok a) rule = rule >> Ok a
+with_rule (Err rules) rule = Err (told_or rules (rules_of rule))
+
 abbrev pub require : Bool → Rule → Place → Checked (Unit {0})
 require holds rule place = if holds then Ok tt else broken rule place
 

@@ -256,9 +256,9 @@ fields_rules rules home before [] = Ok tt
 fields_rules rules home before (field ∷ fields) =
     both (rules home before field) (fields_rules rules home ((out-Field field).name.text ∷ before) fields) >> Ok tt
 
--- the record types within a type
+-- the record types within a type; one that nests too deep, as none does that a machine holds, is told
 abbrev pub nested_to : ℕ → Scripts → Home → «Type» → Checked (Unit {0})
-nested_to zero scripts home one = Ok tt
+nested_to zero scripts home one = broken rule.Recursive (place_in home (type_place one))
 nested_to (suc depth) scripts home one = of_form (nested_to depth scripts home) (out-Type one)
   where
     of_form : («Type» → Checked (Unit {0})) → Type-F «Type» Field Param → Checked (Unit {0})

@@ -27,7 +27,7 @@ use Rattle.zk_typed.specs.declared.script.literal.DefaultValue.TheVariants as de
 use Rattle.zk_typed.specs.declared.script.literal.Literal.TheVariants as literal
 use Rattle.zk_typed.specs.declared.script.literal.Sign.TheVariants.{Negated}
 use Rattle.zk_typed.specs.declared.script.types.SimpleType.TheVariants as simple
-use Rattle.zk_typed.specs.Checked.{Checked, Broken, broken, ◌>>=◌, ◌>>◌, both, each, require, rules_of}
+use Rattle.zk_typed.specs.Checked.{Checked, Broken, broken, broken_anyway, ◌>>=◌, ◌>>◌, both, each, require, rules_of}
 use Rattle.zk_typed.specs.Declarations.{bodiless, env_at, told_type, global_type, is_mark, is_circular, default_typed, attr_rules, is_one_of, with_value, type_rules, maybe_rules, param_rules, fields_rules, field_rules, recursive_rules, global_attrs, const_attribute, nothing}
 use Rattle.zk_typed.specs.Declaring.{scripts_of, predefined_names, outright}
 use Rattle.zk_base.specs.declared.numbers.LogId.{LogId}
@@ -94,7 +94,7 @@ signature_rules scripts (Written home params «result») =
 -- a name of events, hooks or functions is given no value
 abbrev pub no_value : Scripts → Home → Option Init → Checked (Unit {0})
 no_value scripts home None = Ok tt
-no_value scripts home (Some one) = init_checked scripts home Nothing one >> broken rule.WrongType (init_place (env_at scripts home) one)
+no_value scripts home (Some one) = broken_anyway (init_checked scripts home Nothing one) rule.WrongType (init_place (env_at scripts home) one)
 
 abbrev pub bodiless_rules : Scripts → Home → Signature → Option Init → List Attr → Checked (Unit {0})
 bodiless_rules scripts home signature init attrs =

@@ -29,7 +29,7 @@ use Rattle.zk_typed.specs.declared.script.primitive.Primitive.TheVariants as pri
 use Rattle.zk_typed.specs.declared.script.primitive.Relation.{Relation}
 use Rattle.zk_typed.specs.declared.script.primitive.Unary.TheVariants as unary
 use Rattle.zk_typed.specs.declared.script.types.SimpleType.TheVariants as simple
-use Rattle.zk_typed.specs.Checked.{Checked, broken, elsewhere, ◌>>=◌, ◌>>◌, both, require}
+use Rattle.zk_typed.specs.Checked.{Checked, broken, broken_anyway, elsewhere, ◌>>=◌, ◌>>◌, both, require}
 use Rattle.zk_typed.specs.Forms as form
 use Rattle.zk_typed.specs.Making.{container_typed, brackets_typed, members_in, post_typed, called_name, hook_typed}
 use Rattle.zk_typed.specs.Names.{Declared, Meant, Variable}
@@ -108,8 +108,8 @@ left_side check env one = of_form (out-Expr one)
     of_form : Expr-F Expr Item Part Link → Checked Side
     of_form (written.Name name) = name_side env name (local_meant name.text env.locals)
     of_form (written.Post first parts) =
-        if ends_in_element parts then check Nothing one >>= element_side place else check Nothing one >> broken rule.WrongType place
-    of_form other = check Nothing one >> broken rule.WrongType place
+        if ends_in_element parts then check Nothing one >>= element_side place else broken_anyway (check Nothing one) rule.WrongType place
+    of_form other = broken_anyway (check Nothing one) rule.WrongType place
 
 -- a side is given a value: no constant is, nor a global whose entries expire
 abbrev pub assignable : Place → Side → Checked (Unit {0})
@@ -227,7 +227,7 @@ expr_to (suc depth) env wanted one = of_form (expr_to depth env) (out-Expr one)
     fitting given = given >>= fit (expr_place env one) wanted
 
     of_form : Check → Expr-F Expr Item Part Link → Checked Typed
-    of_form check (written.Assign a operator b) = assigned_parts check env operator a b >> broken rule.WrongType (expr_place env one)
+    of_form check (written.Assign a operator b) = broken_anyway (assigned_parts check env operator a b) rule.WrongType (expr_place env one)
     of_form check (written.Choice test a b) = choice check env wanted test a b
     of_form check (written.Chain level first links) = fitting (chained check env level (expr_place env first) (check (wanted_first level) first) links)
     of_form check (written.Compare a operator b) = fitting (compared check env operator a b)

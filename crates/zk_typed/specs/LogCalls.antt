@@ -1,6 +1,6 @@
 -- The typing of calls of the log framework (Zeek manual, Logging Framework): what they say of streams and filters stands in the text,
 -- so a log has one record type, which its `create_stream` names.
-use Rattle.std.specs.Prelude.{ℕ, zero, suc, ◌+◌, ◌==◌, nat_le, Bool, true, false, not, ◌&&◌, ◌||◌, List, [], ◌∷◌, ◌++◌, length, map, filter, flat_map, codes, Option, Some, None, Ok, Err, if◌then◌else◌, bytes_eq}
+use Rattle.std.specs.Prelude.{ℕ, zero, suc, ◌+◌, ◌==◌, nat_le, Bool, true, false, not, ◌&&◌, ◌||◌, List, [], ◌∷◌, ◌++◌, length, map, filter, flat_map, codes, Option, Some, None, Ok, Err, is_some, if◌then◌else◌, bytes_eq}
 use Rattle.std.specs.Char.{to_ascii_lowercase}
 use Rattle.std.specs.List.{list_any, list_all}
 use Rattle.std.specs.Option.{option_map}
@@ -35,7 +35,7 @@ use Rattle.zk_typed.specs.declared.script.log_call.LogCall.{LogCall}
 use Rattle.zk_typed.specs.declared.script.log_call.LogCall.TheVariants as log
 use Rattle.zk_typed.specs.declared.script.primitive.Primitive.TheVariants as primitive
 use Rattle.zk_typed.specs.declared.script.types.SimpleType.TheVariants as simple
-use Rattle.zk_typed.specs.Checked.{Checked, broken, elsewhere, ◌>>=◌, ◌>>◌, both, each, require, or_broken}
+use Rattle.zk_typed.specs.Checked.{Checked, broken, along, broken_anyway, with_rule, elsewhere, ◌>>=◌, ◌>>◌, both, each, require, or_broken}
 use Rattle.zk_typed.specs.Columns.{type_name}
 use Rattle.zk_typed.specs.Forms as form
 use Rattle.zk_typed.specs.LoadOrder.{Home}
@@ -417,7 +417,7 @@ setting_name (written.Value value) before = before
 abbrev pub setting_rules : Check → Env → List (List ℕ) → List (List ℕ) → Item-F Expr Item Part Link → Checked (Unit {0})
 setting_rules check env allowed before (written.Item::Field place name value) =
     require (among name.text allowed) rule.Field (at env place) >> require (not (among name.text before)) rule.Twice (at env place)
-setting_rules check env allowed before (written.Value value) = check Nothing value >> broken rule.WrongType (expr_place env value)
+setting_rules check env allowed before (written.Value value) = broken_anyway (check Nothing value) rule.WrongType (expr_place env value)
 
 -- no other settings than these, and none twice
 abbrev pub only_settings : Check → Env → List (List ℕ) → List (List ℕ) → List Item → Checked (Unit {0})
@@ -441,13 +441,26 @@ not_local env one = of_form (out-Expr one)
     of_form (written.Name name) = require (not (is_local env name)) rule.WrongType (expr_place env one)
     of_form other = Ok tt
 
--- All settings are judged. That one is missing is told of the brackets, and what is wrong with the module's path of the call.
-abbrev pub create_typed : Check → Env → Place → Declared → Place → List Item → Checked Typed
-create_typed check env place word brackets items =
+-- a setting that has to be there; that it is missing is told of the brackets
+abbrev pub needed : List ℕ → Place → List Item → Checked (Unit {0})
+needed name brackets items = require (is_some (setting name items)) rule.Field brackets
+
+-- what the settings of a stream are: its record type, event, path and policy
+abbrev pub StreamTold : Type 0
+StreamTold = (Option RecordNo × Option EventNo) × (Option (List ℕ) × Option HookNo)
+
+-- all settings are judged, and none rests on the word of the log
+abbrev pub stream_settings : Check → Env → Place → List Item → Checked (Unit {0} × StreamTold)
+stream_settings check env brackets items =
     let columns = optional (not_local env) (setting (codes "columns") items) >> columns_type env.scripts env.home items in
-    both (only_settings check env (codes "columns" ∷ codes "ev" ∷ codes "path" ∷ codes "policy" ∷ []) [] items)
+    with_rule (both (only_settings check env (codes "columns" ∷ codes "ev" ∷ codes "path" ∷ codes "policy" ∷ []) [] items)
     (both (both columns (optional (event_setting env (if_known columns)) (setting (codes "ev") items)))
-    (both (optional (log_path check env) (setting (codes "path") items)) (optional (policy_setting env (if_known columns)) (setting (codes "policy") items)))) >>= (λ parts.
+    (both (optional (log_path check env) (setting (codes "path") items)) (optional (policy_setting env (if_known columns)) (setting (codes "policy") items)))))
+    (needed (codes "columns") brackets items)
+
+-- what is wrong with the module's path is told of the call
+abbrev pub create_typed : Check → Env → Place → Declared → Place → List Item → Checked Typed
+create_typed check env place word brackets items = stream_settings check env brackets items >>= (λ parts.
     or_broken parts.1.0.0 rule.Field brackets >>= (λ number.
     path_or_module place word parts.1.1.0 >>= (λ path.
     Ok (log_form (log.Create (log_no env word) parts.1.0.1 path parts.1.1.1 (places_of (λ leaf. leaf.log) 0 (leaves env.scripts number)))))))
@@ -465,12 +478,21 @@ abbrev pub of_known : {A : Type 0} → Option RecordNo → (RecordNo → A) → 
 of_known None of_type = elsewhere
 of_known (Some number) of_type = Ok (of_type number)
 
-abbrev pub filter_typed : Check → Env → Declared → Option RecordNo → Place → List Item → Checked Typed
-filter_typed check env word known brackets items =
-    both (both (only_settings check env (codes "name" ∷ codes "path" ∷ codes "include" ∷ codes "exclude" ∷ codes "policy" ∷ []) [] items)
+-- what the settings of a filter are: its name and path, the columns that it includes and excludes, and its policy
+abbrev pub FilterTold : Type 0
+FilterTold = (Unit {0} × (Option (List ℕ) × Option (List ℕ))) × ((Option (List (List ℕ)) × Option (List (List ℕ))) × Option HookNo)
+
+-- the settings of a filter of a log whose record type may be known
+abbrev pub filter_settings : Check → Env → Option RecordNo → Place → List Item → Checked FilterTold
+filter_settings check env known brackets items =
+    with_rule (both (both (only_settings check env (codes "name" ∷ codes "path" ∷ codes "include" ∷ codes "exclude" ∷ codes "policy" ∷ []) [] items)
     (both (optional (path_literal check env) (setting (codes "name") items)) (optional (log_path check env) (setting (codes "path") items))))
     (both (both (optional (names_setting check env) (setting (codes "include") items)) (optional (names_setting check env) (setting (codes "exclude") items)))
-    (optional (policy_setting env known) (setting (codes "policy") items))) >>= (λ parts.
+    (optional (policy_setting env known) (setting (codes "policy") items))))
+    (needed (codes "name") brackets items)
+
+abbrev pub filter_typed : Check → Env → Declared → Option RecordNo → Place → List Item → Checked Typed
+filter_typed check env word known brackets items = filter_settings check env known brackets items >>= (λ parts.
     or_broken parts.0.1.0 rule.Field brackets >>= (λ name.
     of_known known (λ number. log_form (log.AddFilter (log_no env word) name parts.0.1.1 parts.1.1
     (places_of (keeps parts.1.0.0 parts.1.0.1) 0 (logged (leaves env.scripts number)))))))
@@ -482,11 +504,11 @@ bracketed one = of_form (out-Expr one)
     of_form (written.List place items) = Some (place, items)
     of_form other = None
 
-abbrev pub with_settings : Check → Env → (Place → List Item → Checked Typed) → Expr → Checked Typed
-with_settings check env typing one = of_brackets (bracketed one)
+abbrev pub with_settings : {A : Type 0} → Check → Env → (Place → List Item → Checked A) → Expr → Checked A
+with_settings {A} check env typing one = of_brackets (bracketed one)
   where
-    of_brackets : Option (ℕ × List Item) → Checked Typed
-    of_brackets None = check Nothing one >> broken rule.WrongType (expr_place env one)
+    of_brackets : Option (ℕ × List Item) → Checked A
+    of_brackets None = broken_anyway (check Nothing one) rule.WrongType (expr_place env one)
     of_brackets (Some items) = typing (at env items.0) items.1
 
 abbrev pub row_wanted : Option RecordNo → Wanted
@@ -501,19 +523,28 @@ log_with check env place RemoveFilter word known one = path_literal check env on
 log_with check env place RemoveDefaultFilter word known one = broken rule.Arguments place
 log_with check env place Write word known one = check (row_wanted known) one >>= (λ row. Ok (typed type.bool (form.Write (log_no env word) row.expr)))
 
+-- arguments that have no place are judged by themselves
+abbrev pub astray : Check → Env → List Item → Checked (List Typed)
+astray check env items = each (on_item check env (check Unclear)) items
+
+-- a function of a log with its argument, and others that have no place
+abbrev pub log_arguments : Check → Env → Place → LogFunction → Declared → Option RecordNo → Item → List Item → Checked Typed
+log_arguments check env place function word known one [] = on_item check env (log_with check env place function word known) one
+log_arguments check env place function word known one others =
+    along (broken_anyway (on_item check env (log_with check env place function word known) one) rule.Arguments place) (astray check env others)
+
 abbrev pub log_of : Check → Env → Place → LogFunction → Declared → Option RecordNo → List Item → Checked Typed
 log_of check env place RemoveDefaultFilter word known [] = Ok (log_form (log.RemoveFilter (log_no env word) (codes "default")))
-log_of check env place RemoveDefaultFilter word known args = broken rule.Arguments place
+log_of check env place RemoveDefaultFilter word known args = along (broken rule.Arguments place) (astray check env args)
 log_of check env place function word known [] = broken rule.Arguments place
-log_of check env place function word known (one ∷ []) = on_item check env (log_with check env place function word known) one
-log_of check env place function word known (one ∷ others) = on_item check env (log_with check env place function word known) one >> broken rule.Arguments place
+log_of check env place function word known (one ∷ others) = log_arguments check env place function word known one others
 
 -- the word of a log that has a stream, with its record type
 abbrev pub log_word : Check → Env → Expr → Checked (Declared × Option RecordNo)
 log_word check env one = of_word (word_of (found env) one)
   where
     wrong : Checked (Declared × Option RecordNo)
-    wrong = check Nothing one >> broken rule.WrongType (expr_place env one)
+    wrong = broken_anyway (check Nothing one) rule.WrongType (expr_place env one)
 
     of_type : Declared → Option (Option RecordNo) → Checked (Declared × Option RecordNo)
     of_type word None = wrong
@@ -523,7 +554,23 @@ log_word check env one = of_word (word_of (found env) one)
     of_word None = wrong
     of_word (Some word) = of_type word (log_type env.scripts word.name)
 
+-- an argument behind a word that is broken, as far as it doesn't rest on the word
+abbrev pub wordless : Check → Env → LogFunction → Expr → Checked (Unit {0})
+wordless check env CreateStream one = with_settings check env (λ brackets items. stream_settings check env brackets items >> Ok tt) one
+wordless check env AddFilter one = with_settings check env (λ brackets items. filter_settings check env None brackets items >> Ok tt) one
+wordless check env RemoveFilter one = path_literal check env one >> Ok tt
+wordless check env RemoveDefaultFilter one = check Unclear one >> Ok tt
+wordless check env Write one = check Unclear one >> Ok tt
+
+abbrev pub all_wordless : Check → Env → LogFunction → List Item → Checked (Unit {0})
+all_wordless check env function [] = Ok tt
+all_wordless check env function (one ∷ others) = along (on_item check env (wordless check env function) one) (astray check env others)
+
+-- the call of a function with its word and the arguments behind it
+abbrev pub log_behind : Check → Env → Place → LogFunction → List Item → Checked (Declared × Option RecordNo) → Checked Typed
+log_behind check env place function others (Ok word) = log_of check env place function word.0 word.1 others
+log_behind check env place function others (Err rules) = along (Err rules) (all_wordless check env function others)
+
 abbrev pub log_typed : Check → Env → Place → LogFunction → List Item → Checked Typed
 log_typed check env place function [] = broken rule.Arguments place
-log_typed check env place function (first ∷ others) =
-    on_item check env (log_word check env) first >>= (λ word. log_of check env place function word.0 word.1 others)
+log_typed check env place function (first ∷ others) = log_behind check env place function others (on_item check env (log_word check env) first)

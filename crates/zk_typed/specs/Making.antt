@@ -1,5 +1,5 @@
 -- The typing of constructors, calls, fields and elements (Zeek manual, Expressions; Types).
-use Rattle.std.specs.Prelude.{ℕ, ◌+◌, ◌==◌, Bool, true, false, not, ◌&&◌, ◌||◌, List, [], ◌∷◌, ◌++◌, length, map, Option, Some, None, Ok, Err, is_some, slice_get, if◌then◌else◌}
+use Rattle.std.specs.Prelude.{ℕ, ◌+◌, ◌==◌, Bool, true, false, not, ◌&&◌, ◌||◌, List, [], ◌∷◌, ◌++◌, length, map, drop, Option, Some, None, Ok, Err, is_some, slice_get, if◌then◌else◌}
 use Rattle.std.specs.List.{list_any, list_all}
 use Rattle.std.specs.Str.{bytes_eq}
 use Rattle.zk_base.specs.declared.numbers.RecordNo.{RecordNo}
@@ -24,7 +24,7 @@ use Rattle.zk_typed.specs.declared.script.primitive.Primitive.TheVariants as pri
 use Rattle.zk_typed.specs.declared.script.primitive.Shape.{Shape}
 use Rattle.zk_typed.specs.declared.script.types.SimpleType.{SimpleType}
 use Rattle.zk_typed.specs.declared.script.types.SimpleType.TheVariants as simple
-use Rattle.zk_typed.specs.Checked.{Checked, broken, elsewhere, ◌>>=◌, ◌>>◌, both, each, require, or_broken}
+use Rattle.zk_typed.specs.Checked.{Checked, broken, along, broken_anyway, with_rule, elsewhere, ◌>>=◌, ◌>>◌, both, each, require, or_broken}
 use Rattle.zk_typed.specs.Forms.{Exprs, Givens}
 use Rattle.zk_typed.specs.Forms as form
 use Rattle.zk_typed.specs.LogCalls.{item_expr, log_typed}
@@ -49,9 +49,13 @@ matched check env (param ∷ params) [] = Ok []
 matched check env (param ∷ params) (item ∷ items) =
     both (argument check env (Wants param) item) (matched check env params items) >>= (λ parts. Ok (parts.0 ∷ parts.1))
 
+-- as many items as types, or a rule is broken that those with a type hide; those past the types are judged by themselves
+abbrev pub as_many : Check → Env → Rule → Place → List ValueType → List Item → Checked (List Typed)
+as_many check env rule place types items =
+    along (with_rule (matched check env types items) (require (length types == length items) rule place)) (each (argument check env Unclear) (drop (length types) items))
+
 abbrev pub arguments : Check → Env → Place → Checked (List ValueType) → List Item → Checked (List Typed)
-arguments check env place (Ok params) items =
-    matched check env params items >>= (λ args. require (length params == length items) rule.Arguments place >> Ok args)
+arguments check env place (Ok params) items = as_many check env rule.Arguments place params items
 arguments check env place (Err rules) items = each (argument check env Unclear) items >> Err rules
 
 -- Fields -------------------------------------------------------------------------------------------------------------
@@ -134,12 +138,12 @@ abbrev pub given_field : Check → Env → List FieldInfo → Item → Checked G
 given_field check env fields item = of_item (out-Item item)
   where
     of_field : ℕ → Expr → Option (ℕ × FieldInfo) → Checked GivenField
-    of_field place value None = check Nothing value >> broken rule.Field (at env place)
+    of_field place value None = broken_anyway (check Nothing value) rule.Field (at env place)
     of_field place value (Some field) = both field.1.field_type (check (wanted_of field.1.field_type) value) >>= (λ parts. Ok (record { number = field.0; wire = field.1.wire; value = parts.1 }))
 
     of_item : Item-F Expr Item Part Link → Checked GivenField
     of_item (written.Item::Field place name value) = of_field place value (field_named name.text 0 fields)
-    of_item (written.Value value) = check Nothing value >> broken rule.WrongType (expr_place env value)
+    of_item (written.Value value) = broken_anyway (check Nothing value) rule.WrongType (expr_place env value)
 
 abbrev pub item_place : Env → Item → Place
 item_place env item = of_item (out-Item item)
@@ -203,15 +207,14 @@ bracketed one = of_form (out-Expr one)
     of_form other = None
 
 abbrev pub each_key : Check → Env → Place → List SimpleType → List Item → Checked (List Typed)
-each_key check env place keys items =
-    matched check env (map Simple keys) items >>= (λ fitting. require (length keys == length items) rule.WrongType place >> Ok fitting)
+each_key check env place keys items = as_many check env rule.WrongType place (map Simple keys) items
 
 abbrev pub member_keys : Check → Env → List SimpleType → Expr → Checked (List Typed)
 member_keys check env (key ∷ []) one = check (Wants (Simple key)) one >>= (λ fitting. Ok (fitting ∷ []))
 member_keys check env keys one = of_brackets (bracketed one)
   where
     of_brackets : Option (ℕ × List Item) → Checked (List Typed)
-    of_brackets None = check Nothing one >> broken rule.WrongType (expr_place env one)
+    of_brackets None = broken_anyway (check Nothing one) rule.WrongType (expr_place env one)
     of_brackets (Some items) = each_key check env (at env items.0) keys items.1
 
 abbrev pub joined : {A : Type 0} → List (List A) → List A
@@ -223,7 +226,7 @@ abbrev pub entry : Check → Env → List SimpleType → ValueType → Expr → 
 entry check env keys value one = of_form (out-Expr one)
   where
     wrong : Checked (List Typed)
-    wrong = check Nothing one >> broken rule.WrongType (expr_place env one)
+    wrong = broken_anyway (check Nothing one) rule.WrongType (expr_place env one)
 
     of_brackets : Expr → Option (ℕ × List Item) → Checked (List Typed)
     of_brackets right None = wrong
@@ -266,7 +269,7 @@ wanted_container check env place container.Set members (Set keys) =
     members (member_keys check env keys) >>= (λ parts. Ok (typed (Set keys) (apply (primitive.NewSet (plain_shape keys)) (joined parts))))
 wanted_container check env place container.Vector members (Vector item) =
     members (one_value check (Wants item)) >>= (λ parts. Ok (typed (Vector item) (apply primitive.NewVector (joined parts))))
-wanted_container check env place made members other = members (loosely check env made Nothing) >> broken rule.WrongType place
+wanted_container check env place made members other = broken_anyway (members (loosely check env made Nothing)) rule.WrongType place
 
 abbrev pub types_same : ValueType → List Typed → Bool
 types_same type others = list_all (λ one. same_type one.type type) others
@@ -294,7 +297,7 @@ set_alone place (first ∷ others) = simple_types place first >>= (λ keys.
 abbrev pub container_alone : Check → Env → Place → Container → Members → Checked Typed
 container_alone check env place container.Set members = members (left_of_in check env) >>= set_alone place
 container_alone check env place container.Vector members = members (one_value check Nothing) >>= (λ parts. vector_alone place (joined parts))
-container_alone check env place container.Table members = members (loose check env Nothing) >> broken rule.WrongType place
+container_alone check env place container.Table members = broken_anyway (members (loose check env Nothing)) rule.WrongType place
 
 abbrev pub container_typed : Check → Env → Place → Container → Members → Wanted → Checked Typed
 container_typed check env place made members Nothing = container_alone check env place made members
@@ -313,12 +316,12 @@ braces_typed check env place values wanted = of_wanted wanted
     of_wanted (Wants (Set keys)) = wanted_container check env place container.Set members (Set keys)
     of_wanted (Wants (Vector item)) = wanted_container check env place container.Vector members (Vector item)
     of_wanted Unclear = members (loose check env Unclear) >> elsewhere
-    of_wanted other = members (loose check env Nothing) >> broken rule.WrongType place
+    of_wanted other = broken_anyway (members (loose check env Nothing)) rule.WrongType place
 
 abbrev pub brackets_typed : Check → Env → Place → List Item → Wanted → Checked Typed
 brackets_typed check env place items Unclear = item_values check Unclear items >> elsewhere
 brackets_typed check env place items (Wants (Record number)) = record_typed check env place number items
-brackets_typed check env place items other = item_values check Nothing items >> broken rule.WrongType place
+brackets_typed check env place items other = broken_anyway (item_values check Nothing items) rule.WrongType place
 
 -- Calls --------------------------------------------------------------------------------------------------------------
 
@@ -396,10 +399,14 @@ fmt_typed check env place (text ∷ others) =
 abbrev pub cat_typed : Check → Env → List Item → Checked Called
 cat_typed check env items = each (on_item check env (printed check env)) items >>= (λ args. gives (typed type.string (built_in_call built_in.Cat args)))
 
+-- one argument, and no other
+abbrev pub lone_argument : Check → Env → Place → Item → List Item → Checked Typed
+lone_argument check env place first others =
+    along (with_rule (argument check env Nothing first) (require (length others == 0) rule.Arguments place)) (each (argument check env Unclear) others)
+
 abbrev pub copy_typed : Check → Env → Place → List Item → Checked Called
 copy_typed check env place [] = broken rule.Arguments place
-copy_typed check env place (first ∷ others) = argument check env Nothing first >>= (λ one.
-    require (length others == 0) rule.Arguments place >> gives (typed one.type (built_in_call built_in.Copy (one ∷ []))))
+copy_typed check env place (first ∷ others) = lone_argument check env place first others >>= (λ one. gives (typed one.type (built_in_call built_in.Copy (one ∷ []))))
 
 abbrev pub by_row : Check → Env → Place → BuiltIn → List Item → Option (List ValueType × ValueType) → Checked Called
 by_row check env place function items None = broken rule.WrongType place
@@ -421,13 +428,19 @@ function_typed check env place one signature items =
     arguments check env place (params_of env.scripts signature) items >>= (λ args.
     result_of env.scripts signature >>= with_result (number_among is_function env.scripts one) args)
 
-abbrev pub made_of : Check → Env → Place → List Item → ValueType → Checked Called
-made_of check env place items (Record number) = record_typed check env place number items >>= gives
-made_of check env place items other = broken rule.WrongType place
-
 -- a name that is wrong, and what is broken behind it
 abbrev pub wrong_name : {A B : Type 0} → Rule → Place → Checked A → Checked B
 wrong_name wrong place behind = both (broken {A = Unit {0}} wrong place) behind >> elsewhere
+
+-- the constructor of a record type by its name
+abbrev pub made_of : Check → Env → Place → List Item → ValueType → Checked Called
+made_of check env place items (Record number) = record_typed check env place number items >>= gives
+made_of check env place items other = wrong_name rule.WrongType place (item_values check Unclear items)
+
+-- where the type is broken its items are judged by themselves
+abbrev pub made_by : Check → Env → Place → List Item → Checked ValueType → Checked Called
+made_by check env place items (Ok type) = made_of check env place items type
+made_by check env place items (Err rules) = along (Err rules) (item_values check Unclear items)
 
 -- a call of what a name means
 abbrev pub call_typed : Check → Env → Name → List Item → Option Declared → Checked Called
@@ -442,7 +455,7 @@ call_typed check env name items (Some one) = of_meant one.meant
     of_meant (BuiltInFunction function) = built_in_typed check env place function items
     of_meant (Log function) = log_typed check env place function items >>= gives
     of_meant (KnownType type) = made_of check env place items type
-    of_meant (WrittenType home tree) = type_named env.scripts env.home name >>= made_of check env place items
+    of_meant (WrittenType home tree) = made_by check env place items (type_named env.scripts env.home name)
     of_meant other = wrong_name rule.WrongType place (each (argument check env Unclear) items)
 
 -- Hooks --------------------------------------------------------------------------------------------------------------
@@ -470,7 +483,7 @@ part_typed check env place before part = of_part (out-Part part)
     of_part (written.Part::Field name) = before >>= (λ one. field_of env place name one >>= (λ field. Ok (typed field.1 (apply (primitive.Field field.0) (one ∷ [])))))
     of_part (written.HasField name) = before >>= (λ one. field_of env place name one >>= (λ field. Ok (typed type.bool (apply (primitive.HasField field.0) (one ∷ [])))))
     of_part (written.Index keys) = both before (each (check Nothing) keys) >>= (λ parts. element env place parts.0 keys parts.1)
-    of_part (written.Call items) = both before (each (argument check env Nothing) items) >> broken rule.WrongType place
+    of_part (written.Call items) = broken_anyway (both before (each (argument check env Nothing) items)) rule.WrongType place
 
 abbrev pub parts_typed : Check → Env → Place → Checked Typed → List Part → Checked Typed
 parts_typed check env place one [] = one

@@ -21,6 +21,7 @@ use Rattle.zk_tree.specs.declared.stmt.Stmt.{Stmt, out-Stmt}
 use Rattle.zk_tree.specs.declared.stmt.Stmt.TheOpen.{Stmt-F}
 use Rattle.zk_tree.specs.declared.stmt.Stmt.TheOpen as stmt
 use Rattle.zk_tree.specs.declared.types.Type.{«Type»}
+use Rattle.zk_tree.specs.Places as places
 use Rattle.zk_typed.specs.declared.rule.Rule.TheVariants as rule
 use Rattle.zk_typed.specs.declared.script.action.Action.{Action}
 use Rattle.zk_typed.specs.declared.script.action.Action.TheVariants as action
@@ -32,7 +33,7 @@ use Rattle.zk_typed.specs.declared.script.primitive.FieldNo.{FieldNo}
 use Rattle.zk_typed.specs.declared.script.primitive.Primitive.TheVariants as primitive
 use Rattle.zk_typed.specs.declared.script.stmt.Names.{Names}
 use Rattle.zk_typed.specs.declared.script.types.SimpleType.{SimpleType}
-use Rattle.zk_typed.specs.Checked.{Checked, broken, elsewhere, ◌>>=◌, ◌>>◌, both, each, require}
+use Rattle.zk_typed.specs.Checked.{Checked, broken, broken_anyway, elsewhere, ◌>>=◌, ◌>>◌, both, each, require}
 use Rattle.zk_typed.specs.Expressions.{Side, left_side, assignable, added_type, rest_of, expr_typed}
 use Rattle.zk_typed.specs.Forms as form
 use Rattle.zk_typed.specs.LoadOrder.{Home}
@@ -117,7 +118,7 @@ binary_of assigning.Subtract = Minus
 binary_of other = Plus
 
 abbrev pub added : Check → Place → Place → Assigning → Side → Expr → Option ValueType → Checked form.Stmt
-added check place left_place by side right None = check Nothing right >> broken rule.WrongType left_place
+added check place left_place by side right None = broken_anyway (check Nothing right) rule.WrongType left_place
 added check place left_place by side right (Some wanted) = check (Wants wanted) right >>= (λ one.
     assignable place side >> Ok (form.Do place (action.Update side.left (binary_of by)) (form.AndExpr one.expr side.operands)))
 
@@ -158,14 +159,14 @@ element_of check env place tables one = of_form (out-Expr one)
     of_keys written parts (Some types) = keys_fit env place types written parts.1 >>= (λ fitting. Ok (form.AndExpr parts.0.expr (exprs fitting)))
 
     of_index : Expr → Option (List Part × List Expr) → Checked form.Exprs
-    of_index first None = check Nothing one >> broken rule.WrongType place
+    of_index first None = broken_anyway (check Nothing one) rule.WrongType place
     of_index first (Some found) =
         both (post_typed check env (expr_place env first) first found.0 (called_name first found.0)) (each (check Nothing) found.1) >>= (λ parts.
         of_keys found.1 parts (keys_in tables parts.0.type))
 
     of_form : Expr-F Expr Item Part Link → Checked form.Exprs
     of_form (written.Post first parts) = of_index first (indexed parts)
-    of_form other = check Nothing one >> broken rule.WrongType place
+    of_form other = broken_anyway (check Nothing one) rule.WrongType place
 
 -- Events -----------------------------------------------------------------------------------------------------------
 
@@ -309,7 +310,7 @@ return_typed context check place value = of_both context.within value
     of_both : Within → Option Expr → Checked form.Stmt
     of_both (InFunction (Some wanted)) (Some one) = check wanted one >>= (λ given. Ok (form.Return place (Some given.expr)))
     of_both (InFunction (Some wanted)) None = broken rule.Return place
-    of_both other (Some one) = check Nothing one >> broken rule.Return place
+    of_both other (Some one) = broken_anyway (check Nothing one) rule.Return place
     of_both other None = Ok (form.Return place None)
 
 abbrev pub breaks : Context → Bool
@@ -389,8 +390,9 @@ for_typed judge context locals place keys named over body =
     loop one names made =
         if is_vector one.type then form.ForIndexes (place_of context place) names one.expr made else form.ForKeys (place_of context place) names one.expr made
 
+-- a statement that nests too deep, as none does that a machine holds, is told
 abbrev pub stmt_to : ℕ → Judge
-stmt_to zero context locals one = stated elsewhere locals
+stmt_to zero context locals one = stated (broken rule.WrongType (place_of context (places.stmt_place one))) locals
 stmt_to (suc depth) context locals one = of_form (stmt_to depth) (out-Stmt one)
   where
     env : Env

@@ -30,7 +30,7 @@ use Rattle.zk_typed.specs.declared.script.primitive.Relation.{Relation}
 use Rattle.zk_typed.specs.declared.script.primitive.Unary.TheVariants as unary
 use Rattle.zk_typed.specs.declared.script.types.SimpleType.{SimpleType}
 use Rattle.zk_typed.specs.declared.script.types.SimpleType.TheVariants as simple
-use Rattle.zk_typed.specs.Checked.{Checked, broken, ◌>>=◌, ◌>>◌, both, each, require, or_broken}
+use Rattle.zk_typed.specs.Checked.{Checked, broken, broken_anyway, ◌>>=◌, ◌>>◌, both, each, require, or_broken}
 use Rattle.zk_typed.specs.Forms.{Exprs, Givens}
 use Rattle.zk_typed.specs.Forms as form
 use Rattle.zk_typed.specs.LoadOrder.{Home}
@@ -315,10 +315,10 @@ membership turned first second keys right = of_form (in_form keys right)
     of_form (Some one) = Ok (typed type.bool (negated turned one))
     of_form None = broken rule.WrongType (if is_left_of_in keys then second else first)
 
--- An item that is to be a value. One that names a field is wrong there, once its value is right.
+-- An item that is to be a value. One that names a field is wrong there, unless a rule is broken in its value.
 abbrev pub value_in : {A : Type 0} → Check → Env → (Expr → Checked A) → Item-F Expr Item Part Link → Checked A
 value_in check env judge (written.Value value) = judge value
-value_in check env judge (written.Item::Field place name value) = check Nothing value >> broken rule.WrongType (at env place)
+value_in check env judge (written.Item::Field place name value) = broken_anyway (check Nothing value) rule.WrongType (at env place)
 
 abbrev pub on_item : {A : Type 0} → Check → Env → (Expr → Checked A) → Item → Checked A
 on_item check env judge item = value_in check env judge (out-Item item)
@@ -329,7 +329,7 @@ left_of_in check env one = of_form (out-Expr one)
   where
     of_items : ℕ → List Item → Checked (List Typed)
     of_items place (first ∷ second ∷ others) = each (on_item check env (check Nothing)) (first ∷ second ∷ others)
-    of_items place items = each (on_item check env (check Nothing)) items >> broken rule.WrongType (at env place)
+    of_items place items = broken_anyway (each (on_item check env (check Nothing)) items) rule.WrongType (at env place)
 
     of_form : Expr-F Expr Item Part Link → Checked (List Typed)
     of_form (written.List place items) = of_items place items

@@ -1,4 +1,4 @@
-use Rattle.std.proofs.Common.{[], ◌∷◌, ap, sym, ◌∙◌, subst}
+use Rattle.std.proofs.Common.{ap, sym, ◌∙◌, subst}
 use Rattle.std.specs.Option.{option_map}
 use Rattle.zk_typed.specs.declared.rule.Rule.TheVariants as rule
 use Rattle.zk_typed.specs.Expressions as rules
@@ -17,4 +17,4 @@ pub returns-in-None : goal.returns-in-None
 returns-in-None g c =
     no_word (rules.expr_to c.args.self.now.depth (env_of c.args.self.now.env.now)) (env_of c.args.self.now.env.now) c.args.one.now c.check-judged.result c.wrong.result
     (sym (ap (option_map log_word_of) c.in-None.is) ∙ c.in_ok-word.ensures)
-    (subst (λ place. Refuses (record { rule = rule.WrongType; place = place } ∷ []) c.check-judged.result c.wrong.result) c.expr_place.ensures c.wrong.ensures) c.check-judged.ensures
+    (subst (λ place. Refuses rule.WrongType place c.check-judged.result c.wrong.result) c.expr_place.ensures c.wrong.ensures) c.check-judged.ensures

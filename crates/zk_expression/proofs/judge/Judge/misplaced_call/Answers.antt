@@ -4,4 +4,4 @@ use Rattle.zk_expression.proofs.Refusals.{refused}
 use Rattle.zk_expression.proofs.judge.Judge.misplaced_call.Goals as goal
 
 pub returns : goal.returns
-returns g c given h = refused element_view typed_of c.with_items-pair.result _ c.wrong.result _ c.wrong.ensures (c.with_items-pair.ensures given h)
+returns g c given h = refused element_view typed_of _ _ c.with_items-pair.result c.wrong.result _ c.wrong.ensures (c.with_items-pair.ensures given h)

@@ -12,6 +12,6 @@ use Rattle.zk_expression.proofs.judge.Judge.misplaced_members.Goals as goal
 
 pub returns : goal.returns
 returns g c =
-    refused all_members typed_of c.members-judged.result _ c.wrong.result _ c.wrong.ensures
+    refused all_members typed_of _ _ c.members-judged.result c.wrong.result _ c.wrong.ensures
     (subst (λ (x : Expr → Checked (List Typed)). Tells all_members c.members-judged.result (members_of (rules.expr_to c.args.self.now.depth (env_of c.args.self.now.env.now)) (env_of c.args.self.now.env.now) c.args.members x))
     (c.loosely.ensures (rules.expr_to c.args.self.now.depth (env_of c.args.self.now.env.now)) (env_of c.args.self.now.env.now)) c.members-judged.ensures)

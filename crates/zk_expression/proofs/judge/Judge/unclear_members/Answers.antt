@@ -7,11 +7,11 @@ use Rattle.zk_typed.specs.Tells.{Tells}
 use Rattle.zk_typed.specs.Typing.{Typed}
 use Rattle.zk_expression.specs.Envs.{env_of}
 use Rattle.zk_expression.specs.Members.{all_members, members_of}
-use Rattle.zk_expression.proofs.Refusals.{refused}
+use Rattle.zk_expression.proofs.Refusals.{hushed}
 use Rattle.zk_expression.proofs.judge.Judge.unclear_members.Goals as goal
 
 pub returns : goal.returns
 returns g c =
-    refused all_members typed_of c.members-judged.result _ c.unclear.result _ c.unclear.ensures
+    hushed all_members typed_of c.members-judged.result c.unclear.result _ c.unclear.ensures
     (subst (λ (x : Expr → Checked (List Typed)). Tells all_members c.members-judged.result (members_of (rules.expr_to c.args.self.now.depth (env_of c.args.self.now.env.now)) (env_of c.args.self.now.env.now) c.args.members x))
     (c.loosely.ensures (rules.expr_to c.args.self.now.depth (env_of c.args.self.now.env.now)) (env_of c.args.self.now.env.now)) c.members-judged.ensures)

@@ -33,9 +33,9 @@ use Rattle.zk_units.proofs.ReaderLemmas.{none_freed, none_unread}
 -- numbers that are apart are told apart
 pub apart_eq : (a b : ℕ) → b ≢ a → nat_eq a b ≡ false
 apart_eq a b apart = elim (eqb_tells a b) [
-      | inl same ↦ absurd (apart (sym same.1))
-      | inr off ↦ off.0
-    ]
+  | inl same ↦ absurd (apart (sym same.1))
+  | inr off ↦ off.0
+]
 
 some_same : {A : Type 0} {x y : A} → Some x ≡ Some y → x ≡ y
 some_same e = cc

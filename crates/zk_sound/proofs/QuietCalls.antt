@@ -3,6 +3,7 @@
 use Rattle.std.proofs.Common.{◌≡◌, ◌≤◌, ℕ, ◌==◌, Bool, true, false, not, List, [], ◌∷◌, length, codes, Option, Some, None, Ok, Err, refl, subst}
 use Rattle.std.specs.Prelude.{◌||◌, is_some}
 use Rattle.std.specs.List.{AllByRecursion}
+use Rattle.std.specs.Option.{option_map}
 use Rattle.std.specs.Str.{bytes_eq}
 use Rattle.std.proofs.lemmas.Slice.Eq.{bytes_eq-Decides}
 use Rattle.zk_base.specs.declared.numbers.EventNo.{EventNo}
@@ -21,7 +22,7 @@ use Rattle.zk_typed.specs.declared.rule.Rule.TheVariants as rule
 use Rattle.zk_typed.specs.declared.script.primitive.BuiltIn.{BuiltIn}
 use Rattle.zk_typed.specs.declared.script.primitive.BuiltIn.TheVariants as built_in
 use Rattle.zk_typed.specs.Checked.{Checked, broken, broken_anyway, with_rule, ◌>>◌, both, each, require, rules_of}
-use Rattle.zk_typed.specs.LogCalls.{Call, item_expr, word_of, settings, setting, optional, columns_type, if_known, created_in, log_type, path_literal, log_path, named_signature, event_setting, policy_setting, string_set, names_setting, among, setting_name, setting_rules, only_settings, not_local, stream_settings, create_typed, filter_settings, filter_typed, with_settings, row_wanted, log_with, astray, log_arguments, log_of, log_word, wordless, all_wordless, log_behind, log_typed}
+use Rattle.zk_typed.specs.LogCalls.{Call, item_expr, word_of, settings, setting, optional, columns_type, if_known, created_in, log_type, path_literal, log_path, named_signature, event_kind, hook_kind, event_setting, policy_setting, string_set, names_setting, among, setting_name, setting_rules, only_settings, not_local, stream_settings, create_typed, filter_settings, filter_typed, with_settings, row_wanted, log_with, astray, log_arguments, log_of, log_word, wordless, all_wordless, log_behind, log_typed}
 use Rattle.zk_typed.specs.Making.{Called, argument, arguments, printed, format_text, lone_argument, by_row, built_in_typed, gives, made_of, made_by, item_values, call_typed, call_of, hook_typed, record_typed}
 use Rattle.zk_typed.specs.Names.{Declared, Meant, KnownType, WrittenType, Hook, Function, BuiltInFunction, Log, LogFunction, CreateStream, AddFilter, RemoveFilter, RemoveDefaultFilter, Write, Signature, look_up}
 use Rattle.zk_typed.specs.Operations.{built_in_type}
@@ -117,6 +118,15 @@ module _ (env : Env) (tells : (name : Name) → Tells (type_named env.scripts en
       by (written.Name name) is = name_right env depth one name is
       by f is = let never : Quiet {A = Declared} (broken rule.WrongType (expr_place env one)) = rw is at e in absurd cc
 
+  event_right : (depth : ℕ) (known : Option RecordNo) (one : Expr) → Quiet (event_setting env known one) → Right env (calls env depth one)
+  event_right depth known one e =
+      signed_right depth event_kind (option_map (λ one. Record one ∷ []) known) one (untold_bind (named_signature env event_kind (option_map (λ one. Record one ∷ []) known) one) _ e)
+
+  policy_right : (depth : ℕ) (known : Option RecordNo) (one : Expr) → Quiet (policy_setting env known one) → Right env (calls env depth one)
+  policy_right depth known one e =
+      signed_right depth hook_kind (option_map (λ one. Record one ∷ type.log_id ∷ Record type.filter_record ∷ []) known) one
+      (untold_bind (named_signature env hook_kind (option_map (λ one. Record one ∷ type.log_id ∷ Record type.filter_record ∷ []) known) one) _ e)
+
   -- the columns of a stream, as far as they are said
   abbrev columns_in : List Item → Checked (Option RecordNo)
   columns_in items = optional (not_local env) (setting (codes "columns") items) >> columns_type env.scripts env.home items
@@ -171,11 +181,11 @@ module _ (env : Env) (tells : (name : Name) → Tells (type_named env.scripts en
       one_of (λ name. setting name items ≡ Some one → Right env (calls env depth one)) name (codes "columns" ∷ codes "ev" ∷ codes "path" ∷ codes "policy" ∷ []) allowed (
         (λ there. columns_right depth items one there first.0),
         (
-          (λ there. judged_right (event_setting env known) depth (λ one e. signed_right depth _ _ one (untold_bind (named_signature env _ _ one) _ e)) items (codes "ev") one there first.1),
+          (λ there. judged_right (event_setting env known) depth (event_right depth known) items (codes "ev") one there first.1),
           (
             (λ there. judged_right (log_path check env) depth (log_path_right depth within) items (codes "path") one there second.0),
             (
-              (λ there. judged_right (policy_setting env known) depth (λ one e. signed_right depth _ _ one (untold_bind (named_signature env _ _ one) _ e)) items (codes "policy") one there second.1),
+              (λ there. judged_right (policy_setting env known) depth (policy_right depth known) items (codes "policy") one there second.1),
               tt,
             ),
           ),
@@ -208,7 +218,7 @@ module _ (env : Env) (tells : (name : Name) → Tells (type_named env.scripts en
             (
               (λ there. judged_right (names_setting check env) depth (names_right depth within) items (codes "exclude") one there kept.1),
               (
-                (λ there. judged_right (policy_setting env known) depth (λ one e. signed_right depth _ _ one (untold_bind (named_signature env _ _ one) _ e)) items (codes "policy") one there second.1),
+                (λ there. judged_right (policy_setting env known) depth (policy_right depth known) items (codes "policy") one there second.1),
                 tt,
               ),
             ),

@@ -37,7 +37,7 @@ use Rattle.zk_typed.specs.Checked.{Checked, ◌>>=◌, ◌>>◌, both, each, req
 use Rattle.zk_typed.specs.Declarations.{is_mark, is_circular, bodiless, env_at, told_type, global_type, type_rules, attr_rules, const_attribute, with_value}
 use Rattle.zk_typed.specs.Declaring.{variable_meaning, scripts_of}
 use Rattle.zk_typed.specs.Errors.{errors, told, init_place, telling_value, init_checked, value_rules, no_value, signature_rules, bodiless_rules, variable_rules, redef_wants, redef_value, redef_rules, number_of_variable, body_context, param_locals, within_of, result_wanted, event_rules, function_rules}
-use Rattle.zk_typed.specs.Expressions.{Side, left_side, rest_of, added_type, expr_to, expr_typed}
+use Rattle.zk_typed.specs.Expressions.{Side, left_side, added_type, expr_to, expr_typed}
 use Rattle.zk_typed.specs.Forms as form
 use Rattle.zk_typed.specs.LoadOrder.{File, Home, Stated, load_order}
 use Rattle.zk_typed.specs.LogCalls.{Call, named_call, expr_calls, maybe_calls, init_calls, stmt_calls_to, block_calls, decl_calls, all_calls, creates, created_in, one_type, log_type}
@@ -102,8 +102,8 @@ module _ (env : Env) (tells : (name : Name) → Tells (type_named env.scripts en
       of_side : (side : Checked Side) → left_side (expr_to depth_max env) env left ≡ side → (less : ℕ) → less ≤ depth_max → Right env (calls env less left) × Right env (calls env less right)
       of_side (Ok side) k less under = (side_right env tells (expr_to depth_max env) depth_max well less under left (rw k refl), of_operator by side k e less under)
       of_side (Err rules) k less under =
-          let told : Quiet (rest_of (expr_to depth_max env) right (Err rules)) = untold_bind (rest_of (expr_to depth_max env) right (Err rules)) _ (rw k at e) in
-          let parts = untold_both {A = Side} (Err rules) (expr_to depth_max env Unclear right) (untold_bind (both {A = Side} (Err rules) (expr_to depth_max env Unclear right)) _ told) in
+          let told : Quiet (both {A = Side} (Err rules) (expr_to depth_max env Unclear right)) = rw k at e in
+          let parts = untold_both {A = Side} (Err rules) (expr_to depth_max env Unclear right) told in
           (side_right env tells (expr_to depth_max env) depth_max well less under left (rw k parts.0), well less under Unclear right parts.1)
 
   -- Elements of sets and tables ----------------------------------------------------------------------------------------

@@ -94,12 +94,7 @@ fn give_if(
 }
 
 /// Adds the items of a segment ahead of the gaps.
-pub fn give_opening(
-    items: &mut Waiting,
-    table: &Table,
-    t: Moment,
-    done: Done,
-) -> Result<(), Mem>
+pub fn give_opening(items: &mut Waiting, table: &Table, t: Moment, done: Done) -> Result<(), Mem>
     ensures { OnOk result ((known : FactsData) → Knows table.now done.conn known → items_in items.new ≡ items_in items.old ++ opening_items t done known) }
 {
     give_if(items, table, done.opened, t, done.conn, Event::Opened)?;
@@ -196,12 +191,7 @@ pub fn give_units(
 }
 
 /// Adds the items of a segment behind the units.
-pub fn give_endings(
-    items: &mut Waiting,
-    table: &Table,
-    t: Moment,
-    done: Done,
-) -> Result<(), Mem>
+pub fn give_endings(items: &mut Waiting, table: &Table, t: Moment, done: Done) -> Result<(), Mem>
     ensures { OnOk result ((known : FactsData) → Knows table.now done.conn known → items_in items.new ≡ items_in items.old ++ ending_items t done known) }
 {
     let conn = done.conn;

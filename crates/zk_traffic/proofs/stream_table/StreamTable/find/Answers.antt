@@ -9,7 +9,7 @@ unfolding entry_at
 returns-clause-there c =
     let index = c.in_ok-index.index in
     let number = c.args.conn.0 in
-    let at = found_entry c.args.self.now index number (sym c.in_ok-index.ensures.index) in (
+    let at = found_entry c.args.self.now index number c.in_ok-index.field-0-1.now c.in_ok-index.field-0-2.now (sym c.in_ok-index.ensures.key) (sym c.in_ok-index.ensures.value) c.in_ok-index.ensures.entry in (
       at.0,
       subst (λ m. slice_get m.entries index ≡ Some (number, at.0)) (sym c.note.ensures.streams) at.1,
       subst (λ m. indexed.get nat_eq m number ≡ Some at.0) (sym c.note.ensures.streams) at.2,

@@ -1,8 +1,11 @@
 -- The table of streams behind a segment.
-use Rattle.std.proofs.Common.{◌≡◌, ℕ, ◌+◌, ◌-◌, ◌^◌, ◌<◌, ◌≤◌, Bool, true, false, cond, not, ◌&&◌, List, [], ◌++◌, map, Option, None, Some, unwrap_or, refl, sym, ap, subst, ◌∙◌, arith}
+use Rattle.std.proofs.Common.{inl, inr, ◌≡◌, ℕ, ◌+◌, ◌-◌, ◌^◌, ◌<◌, ◌≤◌, Bool, true, false, cond, not, ◌&&◌, List, [], ◌++◌, map, Option, None, Some, unwrap_or, refl, sym, ap, subst, ◌∙◌, arith}
 use Rattle.std.specs.Option.{MatchOption}
 use Rattle.std.specs.Prelude.{is_some, nat_eq, slice_get, ◌≢◌}
+use Rattle.std.proofs.lemmas.Bool.{false≢true}
 use Rattle.std.proofs.lemmas.Bool.Decides.{eqb_tells}
+use Rattle.std.proofs.lemmas.Map.Made.{lookup_key_passes}
+use Rattle.indexmap.specs.IndexMap.{get_key_by}
 use Rattle.std.proofs.lemmas.List.{append-nil}
 use Rattle.zk_base.specs.declared.network.Side.{Side}
 use Rattle.zk_base.specs.declared.network.Side.TheVariants.{Orig, Resp}
@@ -36,6 +39,19 @@ apart_eq a b apart = elim (eqb_tells a b) [
   | inl same ↦ absurd (apart (sym same.1))
   | inr off ↦ off.0
 ]
+
+told_same : (a b : ℕ) → nat_eq a b ≡ true → b ≡ a
+told_same a b is = elim (eqb_tells a b) [
+  | inl same ↦ sym same.1
+  | inr off ↦ absurd (false≢true (sym off.0 ∙ is))
+]
+
+-- where the map finds a number, the streams of its connection stand
+pub found_entry : (table : StreamTable) (index number key : ℕ) (streams : Streams) → get_key_by (nat_eq number) table.streams ≡ Some key → entry_at table number ≡ Some streams
+    → slice_get table.streams.entries index ≡ Some (key, streams) → StandAt table index number
+found_entry table index number key streams found value at =
+    let same = told_same number key (lookup_key_passes (nat_eq number) table.streams.entries key found) in
+    (streams, at ∙ ap (λ n. Some (n, streams)) same, value)
 
 some_same : {A : Type 0} {x y : A} → Some x ≡ Some y → x ≡ y
 some_same e = cc

@@ -150,7 +150,7 @@ impl StreamTable {
         if let Some(index) = self.hinted(conn, place) {
             return Some(index);
         }
-        let index = self.streams.get_index_of(&conn.0)?;
+        let (index, _, _) = self.streams.get_full(&conn.0)?;
         self.note(place, index);
         Some(index)
     }

@@ -16,7 +16,6 @@ mod fresh;
 mod halt;
 mod hooks;
 mod indexed;
-mod leaves;
 mod loops;
 mod machine;
 mod make;

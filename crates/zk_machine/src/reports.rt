@@ -1,10 +1,11 @@
 ghost use Rattle.std.specs.Prelude.{◌≡◌, [], ◌∷◌, Some, unwrap_or, slice_get, filter_map, IfOk, OnOk, map};
 ghost use Rattle.zk_lower.specs.Code.{types_in};
+ghost use Rattle.zk_lower.specs.Leaves.{column_of};
 ghost use Rattle.zk_lower.specs.View.{code_of};
 ghost use Rattle.zk_typed.specs.Dispatch as dispatch;
 ghost use Rattle.zk_typed.specs.Log as log;
 ghost use Rattle.zk_machine.specs.Reports.{report_meant, report_values};
-ghost use Rattle.zk_machine.specs.State.{cell_of, column_of, line_in, row_in, world_of};
+ghost use Rattle.zk_machine.specs.State.{cell_of, line_in, row_in, world_of};
 
 use crate::world::World;
 use std::alloc::Global;

@@ -1,6 +1,7 @@
 ghost use Rattle.std.specs.Prelude.{◌≡◌, ◌++◌, ◌∷◌, [], Some, map, filter_map, slice_get, IfOk, OnOk};
 ghost use Rattle.std.specs.Option.{option_map};
 ghost use Rattle.zk_lower.specs.Code.{types_in};
+ghost use Rattle.zk_lower.specs.Leaves.{column_of, leaf_of};
 ghost use Rattle.zk_lower.specs.View.{code_of};
 ghost use Rattle.zk_tree.specs.declared.place.Place.{Place as At};
 ghost use Rattle.zk_typed.specs.Columns as columns;
@@ -10,20 +11,19 @@ ghost use Rattle.zk_typed.specs.Program.{Program};
 ghost use Rattle.zk_value.specs.Plain.{value_of, key_of, field_of};
 ghost use Rattle.zk_table.specs.Lent.{object_of};
 ghost use Rattle.zk_machine.specs.Comes.{Comes};
-ghost use Rattle.zk_machine.specs.Rows.{leaf_of, row_meant};
+ghost use Rattle.zk_machine.specs.Rows.{row_meant};
 ghost use Rattle.zk_machine.specs.Running.{stream_in};
-ghost use Rattle.zk_machine.specs.State.{atom_of, cell_of, column_of, line_in, row_in, state_of, world_of};
+ghost use Rattle.zk_machine.specs.State.{atom_of, cell_of, line_in, row_in, state_of, world_of};
 
 use crate::frames::Write;
 use crate::halt::Halt;
-use crate::leaves::{Leaf, log_leaves};
 use crate::onward::path_of;
 use crate::state::State;
 use crate::world::World;
 use std::alloc::Global;
 use zk_base::{Bytes, Mem};
 use zk_builtin::push_value;
-use zk_lower::Code;
+use zk_lower::{Code, Leaf};
 use zk_streams::Filter;
 use zk_table::{Heap, Lent};
 use zk_value::{Atom, Cell, Column, Key, Out, Series, Value, push_count};
@@ -239,8 +239,7 @@ impl State {
         ensures { (place : At) → Comes (λ _. tt) place result (logs.write_row (types_in (code_of code.now)) (stream_in write.now) filter.now (value_of write.now.row) (state_of self.old)) (state_of self.new) }
     {
         let world = &mut self.world;
-        let leaves = log_leaves(world.alloc, code, write.log)?;
-        let row = row_of(world, write, filter, &leaves)?;
+        let row = row_of(world, write, filter, code.leaves_of(write.log))?;
         world.out.push_back(row)?;
         Ok(())
     }

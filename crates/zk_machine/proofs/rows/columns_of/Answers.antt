@@ -1,8 +1,8 @@
 use Rattle.std.proofs.Common.{◌++◌, ◌∷◌, [], Bor, map, take, sym, ap, ◌∙◌}
 use Rattle.std.proofs.lemmas.List.{map-append}
 use Rattle.zk_typed.specs.Log as log
-use Rattle.zk_machine.specs.State.{column_of}
-use Rattle.zk_machine.specs.declared.leaves.Leaf.{Leaf}
+use Rattle.zk_lower.specs.Leaves.{column_of}
+use Rattle.zk_lower.specs.declared.leaves.Leaf.{Leaf}
 use Rattle.zk_machine.proofs.ListLemmas.{mapped-more}
 use Rattle.zk_machine.proofs.rows.columns_of.Goals as goal
 

@@ -7,7 +7,7 @@ ghost use Rattle.zk_lower.specs.Leaves.{leaf_of, leaves_in, leaves_of, with_reco
 use std::alloc::{AllocError, Global};
 use zk_base::{Bytes, Mem, RecordNo};
 use zk_typed::script::{Field, Log, RecordType, SimpleType, ValueType};
-use zk_value::Column;
+use zk_value::{Column, SharedBytes};
 
 /// Record types are followed to so many within one another; no type nests deeper.
 const DEPTH_MAX: u32 = 200;
@@ -99,8 +99,8 @@ fn own_leaf(alloc: Global, number: u32, field: &Field) -> Result<Leaf, Mem>
     push_type_name(&mut kind, &field.field_type)?;
     Ok(Leaf {
         column: Column {
-            name: Bytes::copy_of(alloc, field.name.as_slice())?,
-            kind: Bytes::from(kind),
+            name: SharedBytes::copy_of(alloc, field.name.as_slice())?,
+            kind: SharedBytes::of(Bytes::from(kind))?,
             wire: field.wire,
         },
         path: vec![in alloc; number]?,
@@ -119,8 +119,8 @@ fn within(alloc: Global, number: u32, field: &Field, leaf: &Leaf) -> Result<Leaf
     path.extend_from_slice(&leaf.path)?;
     Ok(Leaf {
         column: Column {
-            name: Bytes::from(name),
-            kind: Bytes::copy_of(alloc, leaf.column.kind.as_slice())?,
+            name: SharedBytes::of(Bytes::from(name))?,
+            kind: leaf.column.kind.clone()?,
             wire: leaf.column.wire,
         },
         path,
@@ -171,7 +171,12 @@ fn add_field(
 
 /// The leaves of a record type, with so many record types within one another.
 #[cycle(leaves)]
-fn leaves_to(alloc: Global, records: &[RecordType], depth: u32, number: RecordNo) -> Result<Vec<Leaf>, Mem>
+fn leaves_to(
+    alloc: Global,
+    records: &[RecordType],
+    depth: u32,
+    number: RecordNo,
+) -> Result<Vec<Leaf>, Mem>
     ensures { IfOk result (λ leaves. map leaf_of leaves.items ≡ columns.leaves_to depth (with_records (map record_of records.now)) number) }
 {
     let mut leaves = Vec::new(alloc);

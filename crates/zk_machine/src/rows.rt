@@ -42,7 +42,7 @@ fn at<T: Copy>(all: &[T], place: u32) -> Option<T>
 fn picked<T: Copy>(alloc: Global, all: &[T], places: &[u32]) -> Result<Vec<T>, Mem>
     ensures { IfOk result (λ picked. picked.items ≡ logs.picked all.now places.now) }
 {
-    let mut picked = Vec::new(alloc);
+    let mut picked = Vec::with_capacity(alloc, places.len())?;
     for place in places {
         if let Some(one) = at(all, *place) {
             picked.push(one)?;
@@ -51,18 +51,22 @@ fn picked<T: Copy>(alloc: Global, all: &[T], places: &[u32]) -> Result<Vec<T>, M
     Ok(picked)
 }
 
+/// The text of most values other than strings takes no more bytes, so that it takes its memory in one go.
+const TEXT_LEN: usize = 24;
+
 /// A value in a cell: a string's bytes, a port's number alone, and the text of any other value.
 fn atom(alloc: Global, value: &Value) -> Result<Atom, Mem>
     ensures { IfOk result (λ atom. atom_of atom ≡ columns.atom (value_of value.now)) }
 {
-    let mut text = Vec::new(alloc);
     match value {
-        Value::String(bytes) => Ok(Atom::Text(Bytes::copy_of(alloc, bytes.as_slice())?)),
+        Value::String(bytes) => Ok(Atom::Text(bytes.clone()?)),
         Value::Port { port, .. } => {
+            let mut text = Vec::with_capacity(alloc, TEXT_LEN)?;
             push_count(&mut text, u64::from(*port))?;
             Ok(Atom::Plain(Bytes::from(text)))
         }
         _ => {
+            let mut text = Vec::with_capacity(alloc, TEXT_LEN)?;
             push_value(&mut text, value)?;
             Ok(Atom::Plain(Bytes::from(text)))
         }
@@ -170,24 +174,13 @@ fn cells(alloc: Global, heap: &Heap, leaves: &[&Leaf], row: &Value) -> Result<Ve
     Ok(cells)
 }
 
-/// A copy of a column.
-fn column_copy(alloc: Global, column: &Column) -> Result<Column, Mem>
-    ensures { IfOk result (λ copy. copy ≡ column.now) }
-{
-    Ok(Column {
-        name: Bytes::copy_of(alloc, column.name.as_slice())?,
-        kind: Bytes::copy_of(alloc, column.kind.as_slice())?,
-        wire: column.wire,
-    })
-}
-
-/// Copies of columns.
+/// The columns of leaves, whose texts are shared.
 fn columns_of(alloc: Global, leaves: &[&Leaf]) -> Result<Vec<Column>, Mem>
     ensures { IfOk result (λ columns. map column_of columns.items ≡ map (λ leaf. column_of leaf.now.column) leaves.now) }
 {
     let mut columns = Vec::with_capacity(alloc, leaves.len())?;
     for leaf in leaves {
-        columns.push(column_copy(alloc, &leaf.column)?)?;
+        columns.push(leaf.column.clone()?)?;
     }
     Ok(columns)
 }

@@ -14,7 +14,7 @@ loop-leaf-preserved c =
     let i = c.loop-leaf.leaf-index in
     let leaves = c.args.leaves.now in
     ap (map column_of) c.in_ok-push.ensures.items
-    ∙ (map-append column_of c.loop-leaf.columns.items (c.in_ok-column_copy.field-0 ∷ [])
-    ∙ (ap (λ l. l ++ column_of c.in_ok-column_copy.field-0 ∷ []) c.loop-leaf.invariant
-    ∙ (ap (λ one. map column (take i leaves) ++ column_of one ∷ []) c.in_ok-column_copy.ensures
+    ∙ (map-append column_of c.loop-leaf.columns.items (c.in_ok-clone.field-0 ∷ [])
+    ∙ (ap (λ l. l ++ column_of c.in_ok-clone.field-0 ∷ []) c.loop-leaf.invariant
+    ∙ (ap (λ one. map column (take i leaves) ++ column_of one ∷ []) c.in_ok-clone.is_clone
     ∙ sym (mapped-more column leaves i c.leaf-item.result c.loop-leaf-test.true c.leaf-item.is))))

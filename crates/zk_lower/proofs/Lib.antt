@@ -11,6 +11,7 @@ pub mod Calls
 pub mod Ending
 pub mod Lies
 pub mod Laid
+mod LeafLemmas
 pub mod Means
 pub mod Emission
 pub mod Seams

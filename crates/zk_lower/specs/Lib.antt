@@ -1,5 +1,6 @@
 pub mod Code
 pub mod Frames
+pub mod Leaves
 pub mod Steps
 pub mod Run
 pub mod Lowering

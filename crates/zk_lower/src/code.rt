@@ -1,5 +1,10 @@
+ghost use Rattle.std.specs.Prelude.{◌≡◌, map};
+ghost use Rattle.zk_typed.specs.View.{record_of};
+ghost use Rattle.zk_lower.specs.Leaves.{leaves_in, leaves_of};
+
+use crate::leaves::Leaf;
 use crate::op::Op;
-use zk_base::{Bytes, EventNo, Sequence};
+use zk_base::{Bytes, EventNo, LogId, Sequence};
 use zk_tree::{Expiry, Place};
 use zk_typed::script::{Log, RecordType};
 
@@ -41,9 +46,29 @@ pub struct Code {
     pub files: Sequence<Bytes>,
     pub records: Sequence<RecordType>,
     pub logs: Sequence<Log>,
+    /// What the stream of each of these logs has as columns. They are made once, since each row has them.
+    pub leaves: Vec<Vec<Leaf>>,
     pub ops: Sequence<Op>,
     pub globals: Sequence<GlobalCode>,
     pub functions: Sequence<BodyCode>,
     pub hooks: Sequence<Sequence<BodyCode>>,
     pub handlers: Sequence<HandlerCode>,
+    ghost by_log: { map leaves_in leaves.items ≡ map (leaves_of (map record_of records)) logs },
+}
+
+impl Code {
+    ghost use Rattle.zk_typed.specs.Logs.{log_leaves};
+    ghost use Rattle.zk_lower.specs.Code.{types_in};
+    ghost use Rattle.zk_lower.specs.Leaves.{leaf_of};
+    ghost use Rattle.zk_lower.specs.View.{code_of};
+
+    /// What the stream of a log has as columns, and the fields from which they are filled.
+    pub fn leaves_of(&self, log: LogId) -> &[Leaf]
+        ensures { map leaf_of result.now ≡ log_leaves (types_in (code_of self.now)) log }
+    {
+        match self.leaves.get(log.0 as usize) {
+            Some(leaves) => leaves,
+            None => &[],
+        }
+    }
 }

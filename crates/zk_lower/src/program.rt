@@ -9,6 +9,7 @@ ghost use Rattle.zk_lower.specs.View as view;
 
 use crate::code::{BodyCode, Code, GlobalCode, HandlerCode};
 use crate::exprs::put_expr;
+use crate::leaves::leaves_of_logs;
 use crate::op::Op;
 use crate::ops::Ops;
 use crate::order::in_order;
@@ -195,10 +196,14 @@ pub fn lower(alloc: Global, program: &Program) -> Result<Code, Mem>
     let functions = add_functions(alloc, &mut ops, program.functions.as_slice())?;
     let hooks = add_hooks(alloc, &mut ops, program.hooks.as_slice())?;
     let globals = add_globals(alloc, &mut ops, program.globals.as_slice())?;
+    let records = records_copy(alloc, program.records.as_slice())?;
+    let logs = logs_copy(alloc, program.logs.as_slice())?;
+    let leaves = leaves_of_logs(alloc, records.as_slice(), logs.as_slice())?;
     Ok(Code {
         files: files_copy(alloc, program.files.as_slice())?,
-        records: records_copy(alloc, program.records.as_slice())?,
-        logs: logs_copy(alloc, program.logs.as_slice())?,
+        records,
+        logs,
+        leaves,
         ops: ops.into_sequence(),
         globals,
         functions,

@@ -4,12 +4,12 @@ use Rattle.std.specs.List.{filter_map}
 use Rattle.zk_tree.specs.Store.{Store}
 use Rattle.zk_typed.specs.Log as log
 use Rattle.zk_typed.specs.State as typed
+use Rattle.zk_lower.specs.Leaves.{column_of}
 use Rattle.zk_value.specs.Plain.{field_of}
 use Rattle.zk_value.specs.declared.cell.Atom.{Atom}
 use Rattle.zk_value.specs.declared.cell.Atom.TheVariants as atom
 use Rattle.zk_value.specs.declared.cell.Cell.{Cell}
 use Rattle.zk_value.specs.declared.cell.Cell.TheVariants as cell
-use Rattle.zk_value.specs.declared.cell.Column.{Column}
 use Rattle.zk_value.specs.declared.out.Out.{Out}
 use Rattle.zk_value.specs.declared.out.Out.TheVariants as out
 use Rattle.zk_machine.specs.Queued.{queued_of}
@@ -30,9 +30,6 @@ abbrev pub cell_of : Cell → log.Cell
 cell_of cell.Unset = log.Unset
 cell_of (cell.One atom) = log.One (atom_of atom)
 cell_of (cell.Many atoms) = log.Many (map atom_of atoms)
-
-abbrev pub column_of : Column → log.Column
-column_of column = record { name = column.name; kind = column.kind; wire = column.wire }
 
 abbrev pub line_in : Out → Option (List ℕ)
 line_in (out.Line line) = Some line

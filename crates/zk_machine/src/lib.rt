@@ -17,7 +17,6 @@ mod globals;
 mod halt;
 mod hooks;
 mod indexed;
-mod leaves;
 mod loops;
 mod machine;
 mod make;

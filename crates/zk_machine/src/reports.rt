@@ -1,10 +1,11 @@
 ghost use Rattle.std.specs.Prelude.{◌≡◌, [], ◌∷◌, Some, unwrap_or, slice_get, filter_map, IfOk, OnOk, map};
 ghost use Rattle.zk_lower.specs.Code.{types_in};
+ghost use Rattle.zk_lower.specs.Leaves.{column_of};
 ghost use Rattle.zk_lower.specs.View.{code_of};
 ghost use Rattle.zk_typed.specs.Dispatch as dispatch;
 ghost use Rattle.zk_typed.specs.Log as log;
 ghost use Rattle.zk_machine.specs.Reports.{report_meant, report_values};
-ghost use Rattle.zk_machine.specs.State.{cell_of, column_of, line_in, row_in, world_of};
+ghost use Rattle.zk_machine.specs.State.{cell_of, line_in, row_in, world_of};
 
 use crate::world::World;
 use std::alloc::Global;
@@ -12,7 +13,7 @@ use zk_base::{Bytes, Mem, Moment};
 use zk_lower::Code;
 use zk_tree::Place;
 use zk_typed::FaultKind;
-use zk_value::{Atom, Cell, Column, Out, Series, push_count, push_span};
+use zk_value::{Atom, Cell, Column, Out, Series, SharedBytes, push_count, push_span};
 
 /// The name of a fault, as a row of the log `reporter` tells it.
 pub fn fault_name(kind: FaultKind) -> &'static [u8]
@@ -54,8 +55,8 @@ fn reporter_column(alloc: Global, name: &[u8], kind: &[u8]) -> Result<Column, Me
     ensures { IfOk result (λ column. column_of column ≡ dispatch.reporter_column name.now kind.now) }
 {
     Ok(Column {
-        name: Bytes::copy_of(alloc, name)?,
-        kind: Bytes::copy_of(alloc, kind)?,
+        name: SharedBytes::copy_of(alloc, name)?,
+        kind: SharedBytes::copy_of(alloc, kind)?,
         wire: false,
     })
 }
@@ -80,7 +81,7 @@ fn plain_cell(text: Vec<u8>) -> Cell
 }
 
 /// A cell with a string.
-fn text_cell(text: Bytes) -> Cell
+fn text_cell(text: SharedBytes) -> Cell
     ensures { cell_of result ≡ log.One (log.Text text) }
 {
     Cell::One(Atom::Text(text))
@@ -121,8 +122,8 @@ fn report_cells(
     push_span(&mut at, time.0)?;
     let at = plain_cell(at);
     let level = plain_cell(Vec::from_slice(alloc, b"Reporter::ERROR")?);
-    let message = text_cell(Bytes::copy_of(alloc, message)?);
-    let location = text_cell(place_text(alloc, code, place)?);
+    let message = text_cell(SharedBytes::copy_of(alloc, message)?);
+    let location = text_cell(SharedBytes::of(place_text(alloc, code, place)?)?);
     Ok(vec![in alloc; at, level, message, location]?)
 }
 

@@ -1,6 +1,7 @@
 ghost use Rattle.std.specs.Prelude.{◌≡◌, ◌++◌, ◌∷◌, [], Some, map, filter_map, slice_get, IfOk, OnOk};
 ghost use Rattle.std.specs.Option.{option_map};
 ghost use Rattle.zk_lower.specs.Code.{types_in};
+ghost use Rattle.zk_lower.specs.Leaves.{column_of, leaf_of};
 ghost use Rattle.zk_lower.specs.View.{code_of};
 ghost use Rattle.zk_tree.specs.declared.place.Place.{Place as At};
 ghost use Rattle.zk_typed.specs.Columns as columns;
@@ -10,20 +11,19 @@ ghost use Rattle.zk_typed.specs.Program.{Program};
 ghost use Rattle.zk_value.specs.Plain.{value_of, key_of, field_of};
 ghost use Rattle.zk_table.specs.Lent.{object_of};
 ghost use Rattle.zk_machine.specs.Comes.{Comes};
-ghost use Rattle.zk_machine.specs.Rows.{leaf_of, row_meant};
+ghost use Rattle.zk_machine.specs.Rows.{row_meant};
 ghost use Rattle.zk_machine.specs.Running.{stream_in};
-ghost use Rattle.zk_machine.specs.State.{atom_of, cell_of, column_of, line_in, row_in, state_of, world_of};
+ghost use Rattle.zk_machine.specs.State.{atom_of, cell_of, line_in, row_in, state_of, world_of};
 
 use crate::frames::Write;
 use crate::halt::Halt;
-use crate::leaves::{Leaf, log_leaves};
 use crate::onward::path_of;
 use crate::state::State;
 use crate::world::World;
 use std::alloc::Global;
 use zk_base::{Bytes, Mem};
 use zk_builtin::push_value;
-use zk_lower::Code;
+use zk_lower::{Code, Leaf};
 use zk_streams::Filter;
 use zk_table::{Heap, Lent};
 use zk_value::{Atom, Cell, Column, Key, Out, Series, Value, push_count};
@@ -42,7 +42,7 @@ fn at<T: Copy>(all: &[T], place: u32) -> Option<T>
 fn picked<T: Copy>(alloc: Global, all: &[T], places: &[u32]) -> Result<Vec<T>, Mem>
     ensures { IfOk result (λ picked. picked.items ≡ logs.picked all.now places.now) }
 {
-    let mut picked = Vec::new(alloc);
+    let mut picked = Vec::with_capacity(alloc, places.len())?;
     for place in places {
         if let Some(one) = at(all, *place) {
             picked.push(one)?;
@@ -51,18 +51,22 @@ fn picked<T: Copy>(alloc: Global, all: &[T], places: &[u32]) -> Result<Vec<T>, M
     Ok(picked)
 }
 
+/// The text of most values other than strings takes no more bytes, so that it takes its memory in one go.
+const TEXT_LEN: usize = 24;
+
 /// A value in a cell: a string's bytes, a port's number alone, and the text of any other value.
 fn atom(alloc: Global, value: &Value) -> Result<Atom, Mem>
     ensures { IfOk result (λ atom. atom_of atom ≡ columns.atom (value_of value.now)) }
 {
-    let mut text = Vec::new(alloc);
     match value {
-        Value::String(bytes) => Ok(Atom::Text(Bytes::copy_of(alloc, bytes.as_slice())?)),
+        Value::String(bytes) => Ok(Atom::Text(bytes.clone()?)),
         Value::Port { port, .. } => {
+            let mut text = Vec::with_capacity(alloc, TEXT_LEN)?;
             push_count(&mut text, u64::from(*port))?;
             Ok(Atom::Plain(Bytes::from(text)))
         }
         _ => {
+            let mut text = Vec::with_capacity(alloc, TEXT_LEN)?;
             push_value(&mut text, value)?;
             Ok(Atom::Plain(Bytes::from(text)))
         }
@@ -170,24 +174,13 @@ fn cells(alloc: Global, heap: &Heap, leaves: &[&Leaf], row: &Value) -> Result<Ve
     Ok(cells)
 }
 
-/// A copy of a column.
-fn column_copy(alloc: Global, column: &Column) -> Result<Column, Mem>
-    ensures { IfOk result (λ copy. copy ≡ column.now) }
-{
-    Ok(Column {
-        name: Bytes::copy_of(alloc, column.name.as_slice())?,
-        kind: Bytes::copy_of(alloc, column.kind.as_slice())?,
-        wire: column.wire,
-    })
-}
-
-/// Copies of columns.
+/// The columns of leaves, whose texts are shared.
 fn columns_of(alloc: Global, leaves: &[&Leaf]) -> Result<Vec<Column>, Mem>
     ensures { IfOk result (λ columns. map column_of columns.items ≡ map (λ leaf. column_of leaf.now.column) leaves.now) }
 {
     let mut columns = Vec::with_capacity(alloc, leaves.len())?;
     for leaf in leaves {
-        columns.push(column_copy(alloc, &leaf.column)?)?;
+        columns.push(leaf.column.clone()?)?;
     }
     Ok(columns)
 }
@@ -239,8 +232,7 @@ impl State {
         ensures { (place : At) → Comes (λ _. tt) place result (logs.write_row (types_in (code_of code.now)) (stream_in write.now) filter.now (value_of write.now.row) (state_of self.old)) (state_of self.new) }
     {
         let world = &mut self.world;
-        let leaves = log_leaves(world.alloc, code, write.log)?;
-        let row = row_of(world, write, filter, &leaves)?;
+        let row = row_of(world, write, filter, code.leaves_of(write.log))?;
         world.out.push_back(row)?;
         Ok(())
     }

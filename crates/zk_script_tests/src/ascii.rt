@@ -2,25 +2,25 @@ use std::alloc::Global;
 use std::test::Fail;
 use zk_ascii::{close, header, row};
 use zk_base::{Bytes, Mem, Moment};
-use zk_value::{Atom, Cell, Column, Series};
+use zk_value::{Atom, Cell, Column, Series, SharedBytes};
 
 /// 2023-11-14 22:13:20 UTC.
 const IN_2023: i64 = 1_700_000_000_000_000;
 
 fn column(alloc: Global, name: &[u8], kind: &[u8]) -> Result<Column, Mem> {
     Ok(Column {
-        name: Bytes::copy_of(alloc, name)?,
-        kind: Bytes::copy_of(alloc, kind)?,
+        name: SharedBytes::copy_of(alloc, name)?,
+        kind: SharedBytes::copy_of(alloc, kind)?,
         wire: false,
     })
 }
 
 fn string(alloc: Global, text: &[u8]) -> Result<Cell, Mem> {
-    Ok(Cell::One(Atom::Text(Bytes::copy_of(alloc, text)?)))
+    Ok(Cell::One(Atom::Text(SharedBytes::copy_of(alloc, text)?)))
 }
 
 fn set(alloc: Global, text: &[u8]) -> Result<Cell, Mem> {
-    Ok(Cell::Many(Series::from(vec![in alloc; Atom::Text(Bytes::copy_of(alloc, text)?)]?)))
+    Ok(Cell::Many(Series::from(vec![in alloc; Atom::Text(SharedBytes::copy_of(alloc, text)?)]?)))
 }
 
 #[test]

@@ -5,9 +5,9 @@ ghost use Rattle.zk_logs.specs.Written.{AreCreated};
 
 use std::alloc::Global;
 use std::test::Fail;
-use zk_base::{Bytes, MemShelf, Moment};
+use zk_base::{MemShelf, Moment};
 use zk_logs::{LogFault, LogFiles};
-use zk_value::{Atom, Cell, Column};
+use zk_value::{Atom, Cell, Column, SharedBytes};
 
 /// 2023-11-14 22:13:20 UTC, and a minute later.
 const FIRST: Moment = Moment(1_700_000_000_000_000);
@@ -29,12 +29,12 @@ fn write_row(
 {
     let columns = vec![in alloc;
         Column {
-            name: Bytes::copy_of(alloc, b"n")?,
-            kind: Bytes::copy_of(alloc, b"string")?,
+            name: SharedBytes::copy_of(alloc, b"n")?,
+            kind: SharedBytes::copy_of(alloc, b"string")?,
             wire: false,
         },
     ]?;
-    let cells = vec![in alloc; Cell::One(Atom::Text(Bytes::copy_of(alloc, text)?))]?;
+    let cells = vec![in alloc; Cell::One(Atom::Text(SharedBytes::copy_of(alloc, text)?))]?;
     logs.write(shelf, path, &columns, &cells, at)
 }
 

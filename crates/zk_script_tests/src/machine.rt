@@ -82,6 +82,7 @@ fn code(alloc: Global) -> Result<Code, Mem>
         files: Sequence::new(alloc),
         records: Sequence::new(alloc),
         logs: Sequence::new(alloc),
+        leaves: Vec::new(alloc),
         ops: Sequence::from(ops),
         globals: Sequence::from(globals),
         functions: Sequence::from(functions),

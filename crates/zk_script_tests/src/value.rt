@@ -100,15 +100,17 @@ fn cells_and_columns_are_compared_by_what_they_hold(rt: HostRuntime) -> Result<(
     let alloc = rt.alloc();
     let column = |wire| -> Result<Column, Mem> {
         Ok(Column {
-            name: Bytes::copy_of(alloc, b"uid")?,
-            kind: Bytes::copy_of(alloc, b"string")?,
+            name: SharedBytes::copy_of(alloc, b"uid")?,
+            kind: SharedBytes::copy_of(alloc, b"string")?,
             wire,
         })
     };
     assert_eq!(rt; column(false)?, column(false)?);
     assert_ne!(rt; column(false)?, column(true)?);
     let set = || -> Result<Cell, Mem> {
-        Ok(Cell::Many(Series::from(vec![in alloc; Atom::Text(Bytes::copy_of(alloc, b"-")?)]?)))
+        Ok(Cell::Many(Series::from(vec![in alloc;
+            Atom::Text(SharedBytes::copy_of(alloc, b"-")?),
+        ]?)))
     };
     assert_eq!(rt; set()?, set()?);
     assert_ne!(rt;

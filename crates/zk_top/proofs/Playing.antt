@@ -7,7 +7,8 @@ use Rattle.zk_events.specs.Run.{Stage, New, Begun, progress_at}
 use Rattle.zk_events.specs.Laws as laws
 use Rattle.zk_logs.specs.Logs.{Row}
 use Rattle.zk_lower.specs.Told.{Told, Stays}
-use Rattle.zk_machine.specs.State.{atom_of, cell_of, column_of}
+use Rattle.zk_lower.specs.Leaves.{column_of}
+use Rattle.zk_machine.specs.State.{atom_of, cell_of}
 use Rattle.zk_machine.specs.Standing.{with_out}
 use Rattle.zk_typed.specs.Log as log
 use Rattle.zk_typed.specs.Program.{Program}

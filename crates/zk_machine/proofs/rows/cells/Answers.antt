@@ -4,7 +4,7 @@ use Rattle.zk_typed.specs.Columns.{value_at, value_cell}
 use Rattle.zk_typed.specs.Log as log
 use Rattle.zk_value.specs.Plain.{value_of}
 use Rattle.zk_machine.specs.State.{cell_of}
-use Rattle.zk_machine.specs.declared.leaves.Leaf.{Leaf}
+use Rattle.zk_lower.specs.declared.leaves.Leaf.{Leaf}
 use Rattle.zk_machine.proofs.ListLemmas.{mapped-more}
 use Rattle.zk_machine.proofs.rows.cells.Goals as goal
 

@@ -1,5 +1,5 @@
 use Rattle.std.proofs.Common.{◌≡◌, map, take}
-use Rattle.zk_machine.specs.State.{column_of}
+use Rattle.zk_lower.specs.Leaves.{column_of}
 use Rattle.zk_machine.proofs.rows.columns_of.Given as goal
 
 abbrev pub invariant-loop-leaf : goal.invariant-loop-leaf

@@ -2,8 +2,8 @@ use Rattle.std.proofs.Common.{◌≡◌, Bor, map, sym, ap, ◌∙◌}
 use Rattle.zk_typed.specs.Columns as columns
 use Rattle.zk_typed.specs.Log as log
 use Rattle.zk_typed.specs.Logs.{picked}
-use Rattle.zk_machine.specs.Rows.{leaf_of}
-use Rattle.zk_machine.specs.declared.leaves.Leaf.{Leaf}
+use Rattle.zk_lower.specs.Leaves.{leaf_of}
+use Rattle.zk_lower.specs.declared.leaves.Leaf.{Leaf}
 use Rattle.zk_machine.proofs.ListLemmas.{map-made, picked-made}
 use Rattle.zk_machine.proofs.rows.kept.Goals as goal
 

@@ -4,10 +4,10 @@ use Rattle.zk_typed.specs.Columns.{value_at, value_cell}
 use Rattle.zk_typed.specs.Log as log
 use Rattle.zk_typed.specs.Logs.{filter_leaves, path_of, picked}
 use Rattle.zk_value.specs.Plain.{value_of}
-use Rattle.zk_machine.specs.Rows.{leaf_of}
+use Rattle.zk_lower.specs.Leaves.{column_of, leaf_of}
 use Rattle.zk_machine.specs.Running.{stream_in}
-use Rattle.zk_machine.specs.State.{cell_of, column_of}
-use Rattle.zk_machine.specs.declared.leaves.Leaf.{Leaf}
+use Rattle.zk_machine.specs.State.{cell_of}
+use Rattle.zk_lower.specs.declared.leaves.Leaf.{Leaf}
 use Rattle.zk_machine.proofs.ListLemmas.{map-made}
 use Rattle.zk_machine.proofs.rows.row_of.Goals as goal
 

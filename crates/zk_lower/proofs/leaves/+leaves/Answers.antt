@@ -1,16 +1,14 @@
 use Rattle.std.proofs.Common.{◌≡◌, ◌≤◌, ◌++◌, suc, List, length, map, sym, ap, ◌∙◌, arith, append-nil}
 use Rattle.std.proofs.lemmas.List.{drop_all}
-use Rattle.zk_lower.specs.Code.{types_in}
-use Rattle.zk_lower.specs.View.{code_of}
 use Rattle.zk_typed.specs.Columns.{leaves_from, leaves_to}
-use Rattle.zk_typed.specs.View.{field_of}
+use Rattle.zk_typed.specs.View.{field_of, record_of}
 use Rattle.zk_typed.specs.declared.script.program.Field.{Field}
-use Rattle.zk_machine.specs.Rows.{leaf_of}
-use Rattle.zk_machine.proofs.leaves.+leaves.Goals as goal
+use Rattle.zk_lower.specs.Leaves.{leaf_of, with_records}
+use Rattle.zk_lower.proofs.leaves.+leaves.Goals as goal
 
 pub leaves_to-returns : goal.leaves_to-returns
 leaves_to-returns t c =
-    let types = types_in (code_of c.args.code.now) in
+    let types = with_records (map record_of c.args.records.now) in
     let within = c.in-Some.within in
     let fields = c.fields_in-field-items.result.now in
     let place = c.loop-place.place in

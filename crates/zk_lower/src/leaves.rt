@@ -1,18 +1,13 @@
 ghost use Rattle.std.specs.Prelude.{◌≡◌, ◌++◌, ◌∷◌, [], codes, map, IfOk, OnOk, if◌then◌else◌, ◌==◌};
-ghost use Rattle.zk_lower.specs.Code.{types_in};
-ghost use Rattle.zk_lower.specs.View.{code_of};
 ghost use Rattle.zk_tree.specs.Lists.{joined_by};
 ghost use Rattle.zk_typed.specs.Columns as columns;
-ghost use Rattle.zk_typed.specs.Logs as logs;
-ghost use Rattle.zk_typed.specs.View.{type_of, field_of};
-ghost use Rattle.zk_machine.specs.Rows.{leaf_of, maybe_leaves};
+ghost use Rattle.zk_typed.specs.View.{type_of, field_of, record_of};
+ghost use Rattle.zk_lower.specs.Leaves.{leaf_of, leaves_in, leaves_of, with_records};
 
-use crate::make::fields_in;
 use std::alloc::{AllocError, Global};
-use zk_base::{Bytes, LogId, Mem, RecordNo};
-use zk_lower::Code;
-use zk_typed::script::{Field, SimpleType, ValueType};
-use zk_value::Column;
+use zk_base::{Bytes, Mem, RecordNo};
+use zk_typed::script::{Field, Log, RecordType, SimpleType, ValueType};
+use zk_value::{Column, SharedBytes};
 
 /// Record types are followed to so many within one another; no type nests deeper.
 const DEPTH_MAX: u32 = 200;
@@ -25,6 +20,16 @@ pub struct Leaf {
     pub path: Vec<u32>,
     /// Whether each of these fields is marked `&log`.
     pub log: bool,
+}
+
+/// The fields of a record type, where there is one of its number.
+fn fields_in(records: &[RecordType], number: RecordNo) -> &[Field]
+    ensures { map field_of result.now ≡ columns.record_fields (with_records (map record_of records.now)) number }
+{
+    match records.get(number.0 as usize) {
+        Some(one) => one.fields.as_slice(),
+        None => &[],
+    }
 }
 
 /// The name of a type without parts.
@@ -94,8 +99,8 @@ fn own_leaf(alloc: Global, number: u32, field: &Field) -> Result<Leaf, Mem>
     push_type_name(&mut kind, &field.field_type)?;
     Ok(Leaf {
         column: Column {
-            name: Bytes::copy_of(alloc, field.name.as_slice())?,
-            kind: Bytes::from(kind),
+            name: SharedBytes::copy_of(alloc, field.name.as_slice())?,
+            kind: SharedBytes::of(Bytes::from(kind))?,
             wire: field.wire,
         },
         path: vec![in alloc; number]?,
@@ -114,8 +119,8 @@ fn within(alloc: Global, number: u32, field: &Field, leaf: &Leaf) -> Result<Leaf
     path.extend_from_slice(&leaf.path)?;
     Ok(Leaf {
         column: Column {
-            name: Bytes::from(name),
-            kind: Bytes::copy_of(alloc, leaf.column.kind.as_slice())?,
+            name: SharedBytes::of(Bytes::from(name))?,
+            kind: leaf.column.kind.clone()?,
             wire: leaf.column.wire,
         },
         path,
@@ -143,18 +148,18 @@ fn add_within(
 #[cycle(leaves)]
 fn add_field(
     alloc: Global,
-    code: &Code,
+    records: &[RecordType],
     depth: u32,
     number: u32,
     field: &Field,
     out: &mut Vec<Leaf>,
 ) -> Result<(), Mem>
     ensures { OnOk result (map leaf_of out.new.items ≡ map leaf_of out.old.items
-        ++ columns.field_leaves (columns.leaves_to depth (types_in (code_of code.now))) number (field_of field.now) (field_of field.now).field_type) }
+        ++ columns.field_leaves (columns.leaves_to depth (with_records (map record_of records.now))) number (field_of field.now) (field_of field.now).field_type) }
 {
     match &field.field_type {
         ValueType::Record(nested) => {
-            let leaves = leaves_to(alloc, code, depth, *nested)?;
+            let leaves = leaves_to(alloc, records, depth, *nested)?;
             add_within(alloc, number, field, leaves, out)
         }
         _ => {
@@ -166,38 +171,48 @@ fn add_field(
 
 /// The leaves of a record type, with so many record types within one another.
 #[cycle(leaves)]
-fn leaves_to(alloc: Global, code: &Code, depth: u32, number: RecordNo) -> Result<Vec<Leaf>, Mem>
-    ensures { IfOk result (λ leaves. map leaf_of leaves.items ≡ columns.leaves_to depth (types_in (code_of code.now)) number) }
+fn leaves_to(
+    alloc: Global,
+    records: &[RecordType],
+    depth: u32,
+    number: RecordNo,
+) -> Result<Vec<Leaf>, Mem>
+    ensures { IfOk result (λ leaves. map leaf_of leaves.items ≡ columns.leaves_to depth (with_records (map record_of records.now)) number) }
 {
     let mut leaves = Vec::new(alloc);
     let Some(within) = depth.checked_sub(1) else {
         return Ok(leaves);
     };
-    for (place, field) in fields_in(code, number).iter().enumerate() {
+    for (place, field) in fields_in(records, number).iter().enumerate() {
         let Ok(place) = u32::try_from(place) else {
             return Err(Mem);
         };
-        add_field(alloc, code, within, place, field, &mut leaves)?;
+        add_field(alloc, records, within, place, field, &mut leaves)?;
     }
     Ok(leaves)
 }
 
-/// What the stream of a log has as columns, and the fields from which they are filled.
-pub fn log_leaves(alloc: Global, code: &Code, log: LogId) -> Result<Vec<Leaf>, Mem>
-    ensures { IfOk result (λ leaves. map leaf_of leaves.items ≡ logs.log_leaves (types_in (code_of code.now)) log) }
+/// What the stream of a log has as columns.
+fn log_leaves(alloc: Global, records: &[RecordType], log: &Log) -> Result<Vec<Leaf>, Mem>
+    ensures { IfOk result (λ leaves. map leaf_of leaves.items ≡ leaves_of (map record_of records.now) log.now) }
 {
-    match columns_in(code, log) {
-        Some(number) => leaves_to(alloc, code, DEPTH_MAX, number),
+    match log.columns {
+        Some(number) => leaves_to(alloc, records, DEPTH_MAX, number),
         None => Ok(Vec::new(alloc)),
     }
 }
 
-/// The record type of a log's columns.
-fn columns_in(code: &Code, log: LogId) -> Option<RecordNo>
-    ensures { logs.log_leaves (types_in (code_of code.now)) log ≡ maybe_leaves (types_in (code_of code.now)) result }
+/// What the streams of these logs have as columns, and the fields from which they are filled.
+pub fn leaves_of_logs(
+    alloc: Global,
+    records: &[RecordType],
+    logs: &[Log],
+) -> Result<Vec<Vec<Leaf>>, Mem>
+    ensures { IfOk result (λ all. map leaves_in all.items ≡ map (leaves_of (map record_of records.now)) logs.now) }
 {
-    match code.logs.as_slice().get(log.0 as usize) {
-        Some(one) => one.columns,
-        None => None,
+    let mut all = Vec::with_capacity(alloc, logs.len())?;
+    for log in logs {
+        all.push(log_leaves(alloc, records, log)?)?;
     }
+    Ok(all)
 }

@@ -16,5 +16,5 @@ loop-leaf-preserved c =
     ap (map column_of) c.in_ok-push.ensures.items
     ∙ (map-append column_of c.loop-leaf.columns.items (c.in_ok-clone.field-0 ∷ [])
     ∙ (ap (λ l. l ++ column_of c.in_ok-clone.field-0 ∷ []) c.loop-leaf.invariant
-    ∙ (ap (λ one. map column (take i leaves) ++ column_of one ∷ []) c.in_ok-clone.is_clone
+    ∙ (ap (λ one. map column (take i leaves) ++ column_of one ∷ []) c.in_ok-clone.ensures.cases
     ∙ sym (mapped-more column leaves i c.leaf-item.result c.loop-leaf-test.true c.leaf-item.is))))

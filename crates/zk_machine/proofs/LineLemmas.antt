@@ -6,7 +6,7 @@ use Rattle.zk_tree.specs.Lists.{joined_by}
 use Rattle.zk_typed.specs.Text.{text_of, line_of}
 use Rattle.zk_value.specs.Plain.{value_of, key_of}
 use Rattle.zk_value.specs.declared.value.Value.{Value}
-use Rattle.zk_builtin.proofs.JoinLemmas.{joined_by-more, separated}
+use Rattle.zk_tree.proofs.JoinLaws.{joined_by-more, separated}
 
 -- the texts of values
 abbrev texts : List Value → List (List ℕ)

@@ -1,7 +1,7 @@
 use Rattle.std.proofs.Common.{◌++◌, ◌+◌, ◌<◌, length, sym, ap, ◌∙◌, arith, ltb}
 use Rattle.std.proofs.lemmas.Bool.Decides.{Decides-ltb}
 use Rattle.zk_builtin.specs.Given.{longest}
-use Rattle.zk_builtin.proofs.JoinLemmas.{joined_by-more, joined_by-part, separated}
+use Rattle.zk_tree.proofs.JoinLaws.{joined_by-more, joined_by-part, separated}
 use Rattle.zk_builtin.proofs.format.join_string_vec.Goals as goal
 
 pub returns-then-is_too_long : goal.returns-then-is_too_long

@@ -3,7 +3,7 @@ use Rattle.std.proofs.lemmas.List.{get_or-map, length-map}
 use Rattle.zk_tree.specs.Lists.{joined_by}
 use Rattle.zk_typed.specs.Columns.{simple_name}
 use Rattle.zk_typed.specs.declared.script.types.SimpleType.TheVariants as simple
-use Rattle.zk_builtin.proofs.JoinLemmas.{joined_by-more, separated}
+use Rattle.zk_tree.proofs.JoinLaws.{joined_by-more, separated}
 use Rattle.zk_lower.proofs.leaves.push_key_names.Goals as goal
 
 pub loop-number-preserved : goal.loop-number-preserved

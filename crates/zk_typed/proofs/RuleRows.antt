@@ -470,12 +470,6 @@ an_assignment_is_no_value :
 unfolding beside_a_set file handler told count_at name trees depth_max
 an_assignment_is_no_value = refl
 
--- copy(s, nosuch);
-an_argument_without_a_place_is_not_judged :
-    errors (beside_a_set (stmt.Expr (expr.Post (expr.Name (name 42 (codes "copy"))) (part.Call (item.Value (expr.Name (name 47 (codes "s"))) ∷ item.Value (expr.Name (name 50 (codes "nosuch"))) ∷ []) ∷ [])))) ≡ told rule.Arguments 42
-unfolding beside_a_set file handler told count_at name trees depth_max
-an_argument_without_a_place_is_not_judged = refl
-
 -- print [s, 1] in s;
 a_set_is_no_key :
     errors (beside_a_set (stmt.Print 42 (expr.Compare (expr.List 48 (item.Value (expr.Name (name 49 (codes "s"))) ∷ item.Value (expr.Number 52 1) ∷ [])) comparing.In (expr.Name (name 58 (codes "s"))) ∷ []))) ≡ told rule.WrongType 48

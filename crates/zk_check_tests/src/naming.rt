@@ -97,7 +97,7 @@ pub const UNKNOWN: [(&[u8], u64); 42] = [
     (b"global b = b + y;", 15),
     // What stands behind what is broken elsewhere.
     (
-        b"event zeek_init() { print T($a=nosuch); } type T: never;",
+        b"event zeek_init() { print R($a=nosuch); } type R: never;",
         31,
     ),
 ];

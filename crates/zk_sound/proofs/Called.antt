@@ -16,7 +16,7 @@ use Rattle.zk_typed.specs.declared.script.log_call.LogCall.TheVariants as log
 use Rattle.zk_typed.specs.declared.script.primitive.BuiltIn.{BuiltIn}
 use Rattle.zk_typed.specs.declared.script.primitive.BuiltIn.TheVariants as built_in
 use Rattle.zk_typed.specs.declared.script.primitive.Primitive.TheVariants as primitive
-use Rattle.zk_typed.specs.Checked.{Checked, broken, elsewhere, ◌>>=◌, ◌>>◌, both, each, or_broken, broken_anyway, with_rule, require}
+use Rattle.zk_typed.specs.Checked.{Checked, broken, elsewhere, ◌>>=◌, both, each, or_broken, broken_anyway, with_rule, require}
 use Rattle.zk_typed.specs.Forms as form
 use Rattle.zk_typed.specs.LogCalls.{is_log_word, if_word, word_of, log_type, stream_type, log_form, log_no, path_literal, path_or_module, of_known, places_of, keeps, logged, leaves, create_typed, filter_typed, with_settings, bracketed, row_wanted, log_with, log_of, log_word, log_typed, stream_settings, filter_settings, log_arguments, log_behind, astray, all_wordless}
 use Rattle.zk_typed.specs.Making.{Called, Gives, Performs, gives, built_in_call, text_literal, printed, format_text, fmt_typed, cat_typed, copy_typed, by_row, built_in_typed, with_result, function_typed, lone_argument, made_of, call_typed, hook_typed, value_of, part_typed, parts_typed, call_of, post_typed, argument, arguments, element, field_of, verbs_take, item_values, made_by}

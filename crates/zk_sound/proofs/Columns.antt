@@ -24,7 +24,7 @@ use Rattle.zk_tree.specs.declared.types.Type.TheVariants.{outs-Named}
 use Rattle.zk_tree.specs.Opening.{trees}
 use Rattle.zk_tree.specs.Places.{type_place}
 use Rattle.zk_typed.specs.declared.rule.Rule.TheVariants as rule
-use Rattle.zk_typed.specs.Checked.{Checked, broken, ◌>>=◌, ◌>>◌, both, each, require, rules_of}
+use Rattle.zk_typed.specs.Checked.{Checked, broken, ◌>>=◌, both, each, require, rules_of}
 use Rattle.zk_typed.specs.Columns.{record_fields}
 use Rattle.zk_typed.specs.Declarations.{attr_rules, is_one_of, with_value, const_attribute, nothing, fields_rules, field_rules, nested_to, is_column, is_too_deep, parts_rules, type_rules, local_rules, maybe_rules, param_rules, recursive_rules, global_attrs}
 use Rattle.zk_typed.specs.Declaring.{variable_meaning, scripts_of}

@@ -18,7 +18,7 @@ use Rattle.zk_tree.specs.declared.place.Place.{Place}
 use Rattle.zk_typed.specs.declared.rule.Rule.{Rule}
 use Rattle.zk_typed.specs.declared.rule.Rule.TheVariants as rule
 use Rattle.zk_typed.specs.declared.script.types.SimpleType.{SimpleType}
-use Rattle.zk_typed.specs.Checked.{Checked, along, broken_anyway, with_rule, ◌>>=◌, ◌>>◌, both, each, require, rules_of}
+use Rattle.zk_typed.specs.Checked.{Checked, along, broken_anyway, with_rule, ◌>>=◌, both, each, require, rules_of}
 use Rattle.zk_typed.specs.LogCalls.{Call, item_expr, expr_calls_to, creates, created_in}
 use Rattle.zk_typed.specs.Making.{argument, matched, as_many, arguments, field_named, given_field, record_typed, Members, members_in, one_value, bracketed, each_key, member_keys, entry, item_values, loosely, loose, wanted_container, container_alone, container_typed, braces_typed, brackets_typed, wrong_name}
 use Rattle.zk_typed.specs.Resolving.{Scripts, FieldInfo, fields_of}

@@ -15,7 +15,7 @@ use Rattle.zk_tree.specs.declared.place.Place.{Place}
 use Rattle.zk_typed.specs.declared.rule.Rule.TheVariants as rule
 use Rattle.zk_typed.specs.declared.script.primitive.Binary.{Binary}
 use Rattle.zk_typed.specs.declared.script.primitive.Relation.{Relation}
-use Rattle.zk_typed.specs.Checked.{Checked, ◌>>=◌, ◌>>◌, both, each}
+use Rattle.zk_typed.specs.Checked.{Checked, ◌>>=◌, both, each}
 use Rattle.zk_typed.specs.Expressions.{ends_in_element, left_side, assigned_parts, unary_typed, compared, arms, choice, wanted_first, expr_to}
 use Rattle.zk_typed.specs.LogCalls.{Call, named_call}
 use Rattle.zk_typed.specs.Making.{argument, part_typed, parts_typed, value_of, called_name, call_of, post_typed, hook_typed}

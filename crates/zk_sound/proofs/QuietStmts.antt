@@ -46,7 +46,6 @@ use Rattle.zk_typed.specs.Names.{Declared, Meant, Variable, Event, Signature, Wr
 use Rattle.zk_typed.specs.Predefined as type
 use Rattle.zk_typed.specs.Resolving.{Scripts, place_in, has_attr, params_of, type_of, type_named}
 use Rattle.zk_typed.specs.Statements.{Context, Locals, Within, InFunction, InHook, InHandler, Judge, env_of, looping, check_in, place_of, init_typed, added, assignment, indexed, element_of, event_args, for_over, for_names, wanted_names, types_or_unknown, local_type, local_value, local_stated, return_typed, expr_stmt, stmts_typed, block_typed, no_stmt, stmt_to, body_typed}
-use Rattle.zk_typed.specs.Statements as statements
 use Rattle.zk_typed.specs.Types.{ValueType}
 use Rattle.zk_typed.specs.Typing.{Typed, Env, at, Wanted, Nothing, Wants, Unclear, wanted_of, expr_place, found}
 use Rattle.zk_typed.specs.Within.{depth_max}

@@ -169,7 +169,7 @@ pub const ARGUMENTS: [(&[u8], u64); 23] = [
         124,
     ),
     (
-        b"redef enum Log::ID += { L }; type R: record { a: count &log; }; global y = Log::write(L, [$a=1]); event zeek_init() { Log::create_stream(L, [$columns=R], y); }",
+        b"redef enum Log::ID += { L }; type R: record { a: count &log; }; global y = Log::write(L, [$a=1]); event zeek_init() { Log::create_stream(L, [$columns=R, $path=\"p\"], y); }",
         118,
     ),
     // Arguments past the parameters hide nothing.

@@ -1,5 +1,5 @@
 -- Names that lead back to themselves.
-use Rattle.std.proofs.Common.{◌≡◌, ℕ, suc, ◌+◌, ◌≤◌, Bool, true, false, List, [], ◌∷◌, ◌++◌, length, Option, Some, None, slice_get, refl, ap, sym, ◌∙◌, subst, arith}
+use Rattle.std.proofs.Common.{◌≡◌, ℕ, zero, suc, ◌+◌, ◌≤◌, Bool, true, false, List, [], ◌∷◌, ◌++◌, length, Option, Some, None, slice_get, refl, ap, sym, ◌∙◌, subst, arith}
 use Rattle.std.specs.List.{list_all, list_any}
 use Rattle.std.specs.Option.{option_map}
 use Rattle.zk_typed.specs.Names.{Declared, Meant, KnownType, WrittenType, Word, Variable, Event, Hook, Function, BuiltInFunction, Log}
@@ -65,7 +65,7 @@ AreSeen all names = (scripts : Scripts) → scripts.names ≡ names → (place :
 pub first_seen : (names : List Declared) (all : List Bool) → all ≡ [] → (length all ≡ 0) × AreSeen all names
 first_seen names all none = (ap length none, subst (λ (x : List Bool). AreSeen x names) (sym none) (λ scripts e place circle found. nowhere scripts place circle found))
   where
-    nowhere : (scripts : Scripts) (place : ℕ) (circle : Bool) → slice_get {Bool} [] place ≡ Some circle → circle ≡ is_circle scripts (slice_get names place)
+    nowhere : (scripts : Scripts) (place : ℕ) (circle : Bool) → slice_get {X = Bool} [] place ≡ Some circle → circle ≡ is_circle scripts (slice_get names place)
     nowhere scripts zero circle found = cc
     nowhere scripts (suc place) circle found = cc
 

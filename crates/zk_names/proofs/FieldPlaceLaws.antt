@@ -9,6 +9,7 @@ use Rattle.std.specs.Str.{bytes_eq}
 use Rattle.zk_tree.specs.declared.decl.Decl.{Decl, out-Decl}
 use Rattle.zk_tree.specs.declared.decl.Decl.TheOpen.{Decl-F}
 use Rattle.zk_tree.specs.declared.decl.Decl.TheOpen as decl
+use Rattle.zk_tree.specs.declared.name.Name.{Name}
 use Rattle.zk_tree.specs.declared.types.Field.{Field}
 use Rattle.zk_typed.specs.LoadOrder.{Home, Stated}
 use Rattle.zk_typed.specs.Making.{field_named}
@@ -21,11 +22,12 @@ use Rattle.zk_names.specs.declared.field_places.FieldPlace.{FieldPlace}
 use Rattle.zk_names.specs.declared.field_places.RecordFields.{RecordFields}
 use Rattle.zk_names.specs.declared.home.Stated.{Stated as LentStated}
 use Rattle.zk_names.specs.declared.predefined.KnownField.{KnownField}
-use Rattle.zk_names.specs.FieldPlaces.{AreOwn, HasPlaces, Hold, added_places, added_texts, decl_texts, field_at, field_name, field_places, is_among, known_name, named, node_texts, places_from}
+use Rattle.zk_names.specs.FieldPlaces.{AreOwn, HasPlaces, Hold, added_in, added_places, added_texts, decl_texts, field_at, field_name, field_places, fields_added, is_among, known_name, named, node_texts, places_from}
 use Rattle.zk_names.specs.Fields.{decl_fields, known_lent, known_of, node_fields, own_of, predefined_fields, stated_fields}
 use Rattle.zk_names.specs.Lent.{stated_lent, stated_of}
 use Rattle.zk_names.proofs.FieldLaws.{own_is}
 use Rattle.zk_names.proofs.IndexLaws.{get_of_map}
+use Rattle.zk_names.proofs.PlaceLaws.{count_later, count_now}
 use Rattle.zk_names.proofs.WayLaws.{all_more, longer, none_past, past_end, some_at}
 
 -- Places and names of one text -----------------------------------------------------------------------------------------
@@ -34,29 +36,33 @@ pub places_map : {A B : Type 0} (f : A → B) (added : Option ℕ) (at : ℕ) (f
 places_map f added at [] = refl
 places_map f added at (field ∷ others) = ap (λ (x : List FieldPlace). record { added = added; at = at } ∷ x) (places_map f added (suc at) others)
 
-places_push : {A : Type 0} (added : Option ℕ) (at : ℕ) (fields : List A) (one : A) → places_from added at (fields ++ one ∷ []) ≡ places_from added at fields ++ record { added = added; at = at + length fields } ∷ []
-places_push added at [] one = ap (λ (n : ℕ). record { added = added; at = n } ∷ []) (omega arith)
-places_push added at (field ∷ others) one =
-    ap (λ (x : List FieldPlace). record { added = added; at = at } ∷ x)
-    (places_push added (suc at) others one ∙ ap (λ (n : ℕ). places_from added (suc at) others ++ record { added = added; at = n } ∷ []) (omega arith))
+places_push : {A : Type 0} (added : Option ℕ) (at last : ℕ) (fields : List A) (one : A) → last ≡ at + length fields → places_from added at (fields ++ one ∷ []) ≡ places_from added at fields ++ record { added = added; at = last } ∷ []
+places_push added at last [] one is =
+    let here : at ≡ last = omega (arith, is) in
+    ap (λ (n : ℕ). record { added = added; at = n } ∷ []) here
+places_push added at last (field ∷ others) one is =
+    let behind : last ≡ suc at + length others = omega (arith, is) in
+    ap (λ (x : List FieldPlace). record { added = added; at = at } ∷ x) (places_push added (suc at) last others one behind)
 
 taken : {A : Type 0} (items : List A) (at : ℕ) → at < length items → length (take at items) ≡ at
 taken [] zero within = refl
-taken [] (suc at) within = refl
+taken [] (suc at) within = absurd (omega (arith, within))
 taken (first ∷ others) zero within = refl
 taken (first ∷ others) (suc at) within = ap suc (taken others at (omega (arith, within)))
 
+pub next_taken : {A : Type 0} (fields : List A) (at : ℕ) (field : A) → at < length fields → field ≡ get_or fields at field → take (at + 1) fields ≡ take at fields ++ field ∷ []
+next_taken fields at field within is = take_more fields at field within ∙ ap (λ y. take at fields ++ y ∷ []) (sym is)
+
 -- one field more of a text
 pub one_more_field : {A : Type 0} (text : A → List ℕ) (added : Option ℕ) (fields : List A) (at : ℕ) (field : A) (old new : RecordFields) (places : List FieldPlace) (names : List (List ℕ)) (name : List ℕ) →
-    at < length fields → field ≡ get_or fields at field → name ≡ text field → HasPlaces old (places ++ places_from added 0 (take at fields)) (names ++ map text (take at fields)) →
+    at < length fields → take (at + 1) fields ≡ take at fields ++ field ∷ [] → name ≡ text field → HasPlaces old (places ++ places_from added 0 (take at fields)) (names ++ map text (take at fields)) →
     ((before : List FieldPlace) (known : List (List ℕ)) → HasPlaces old before known → HasPlaces new (before ++ record { added = added; at = at } ∷ []) (known ++ name ∷ [])) →
     HasPlaces new (places ++ places_from added 0 (take (at + 1) fields)) (names ++ map text (take (at + 1) fields))
-one_more_field text added fields at field old new places names name within is said before pushed =
-    let e : take (at + 1) fields ≡ take at fields ++ field ∷ [] = take_more fields at field within ∙ ap (λ y. take at fields ++ y ∷ []) (sym is) in
+one_more_field text added fields at field old new places names name within e said before pushed =
+    let last : at ≡ 0 + length (take at fields) = omega (arith, taken fields at within) in
     let placed : (places ++ places_from added 0 (take at fields)) ++ record { added = added; at = at } ∷ [] ≡ places ++ places_from added 0 (take (at + 1) fields) =
     append_assoc places (places_from added 0 (take at fields)) (record { added = added; at = at } ∷ []) ∙
-    ap (λ (x : List FieldPlace). places ++ x)
-    (ap (λ (n : ℕ). places_from added 0 (take at fields) ++ record { added = added; at = n } ∷ []) (sym (taken fields at within)) ∙ sym (places_push added 0 (take at fields) field) ∙ ap (places_from added 0) (sym e)) in
+    ap (λ (x : List FieldPlace). places ++ x) (sym (places_push added 0 at (take at fields) field last) ∙ ap (places_from added 0) (sym e)) in
     let spelled : (names ++ map text (take at fields)) ++ name ∷ [] ≡ names ++ map text (take (at + 1) fields) =
     append_assoc names (map text (take at fields)) (name ∷ []) ∙
     ap (λ (x : List (List ℕ)). names ++ x) (ap (λ (x : List ℕ). map text (take at fields) ++ x ∷ []) said ∙ sym (map-append text (take at fields) (field ∷ [])) ∙ ap (map text) (sym e)) in
@@ -115,15 +121,15 @@ own_absent scripts number past =
 
 -- What declarations add ------------------------------------------------------------------------------------------------
 
-added_push : (scripts : Scripts) (number at : ℕ) (stated : List Stated) (one : Stated) →
-    added_places scripts number at (stated ++ one ∷ []) ≡ added_places scripts number at stated ++ places_from (Some (at + length stated)) 0 (stated_fields scripts number one)
-added_push scripts number at [] one =
-    append-nil (places_from (Some at) 0 (stated_fields scripts number one)) ∙ ap (λ (n : ℕ). places_from (Some n) 0 (stated_fields scripts number one)) (omega arith)
-added_push scripts number at (first ∷ others) one =
-    ap (λ (x : List FieldPlace). places_from (Some at) 0 (stated_fields scripts number first) ++ x)
-    (added_push scripts number (suc at) others one ∙
-    ap (λ (n : ℕ). added_places scripts number (suc at) others ++ places_from (Some n) 0 (stated_fields scripts number one)) (omega arith)) ∙
-    sym (append_assoc (places_from (Some at) 0 (stated_fields scripts number first)) (added_places scripts number (suc at) others) (places_from (Some (at + suc (length others))) 0 (stated_fields scripts number one)))
+added_push : (scripts : Scripts) (number at last : ℕ) (stated : List Stated) (one : Stated) → last ≡ at + length stated →
+    added_places scripts number at (stated ++ one ∷ []) ≡ added_places scripts number at stated ++ places_from (Some last) 0 (stated_fields scripts number one)
+added_push scripts number at last [] one is =
+    let here : at ≡ last = omega (arith, is) in
+    append-nil (places_from (Some at) 0 (stated_fields scripts number one)) ∙ ap (λ (n : ℕ). places_from (Some n) 0 (stated_fields scripts number one)) here
+added_push scripts number at last (first ∷ others) one is =
+    let behind : last ≡ suc at + length others = omega (arith, is) in
+    ap (λ (x : List FieldPlace). places_from (Some at) 0 (stated_fields scripts number first) ++ x) (added_push scripts number (suc at) last others one behind) ∙
+    sym (append_assoc (places_from (Some at) 0 (stated_fields scripts number first)) (added_places scripts number (suc at) others) (places_from (Some last) 0 (stated_fields scripts number one)))
 
 if_placed : (scripts : Scripts) (home : Home) (place : ℕ) (fields : List Field) (b : Bool) →
     places_from (Some place) 0 (if b then fields else []) ≡ places_from (Some place) 0 (if b then map (written_field scripts home) fields else [])
@@ -194,6 +200,30 @@ pub hold_none : (records : List RecordFields) (places : ℕ → List FieldPlace)
 hold_none records places names held =
     hold_same records places (λ number. places number ++ []) names (λ number. names number ++ []) (λ number. sym (append-nil (places number))) (λ number. sym (append-nil (names number))) held
 
+stated_is : (scripts : Scripts) (number : ℕ) (home : Home) (form : Decl-F Decl) → decl_fields scripts number home form ≡ fields_added scripts number home (added_in form)
+stated_is scripts number home (decl.RedefRecord byte name fields) = refl
+stated_is scripts number home (decl.Module byte name) = refl
+stated_is scripts number home (decl.Export byte decls) = refl
+stated_is scripts number home (decl.Load byte name) = refl
+stated_is scripts number home (decl.Variable byte lasting name tree init attrs) = refl
+stated_is scripts number home (decl.Redef byte name operator init) = refl
+stated_is scripts number home (decl.RedefEnum byte name words comma) = refl
+stated_is scripts number home (decl.Type byte name tree) = refl
+stated_is scripts number home (decl.Body byte kind name params attrs body) = refl
+stated_is scripts number home (decl.Function byte name params given body) = refl
+
+-- what a declaration adds, by what it says
+pub hold_added : (scripts : Scripts) (one : Stated) (place : ℕ) (records : List RecordFields) (places : ℕ → List FieldPlace) (names : ℕ → List (List ℕ)) (added : Option (Name × List Field)) → added ≡ added_in (out-Decl one.decl) →
+    Hold records (λ number. places number ++ places_from (Some place) 0 (fields_added scripts number one.home added)) (λ number. names number ++ named (fields_added scripts number one.home added)) →
+    Hold records (λ number. places number ++ places_from (Some place) 0 (stated_fields scripts number one)) (λ number. names number ++ named (stated_fields scripts number one))
+hold_added scripts one place records places names added is held =
+    hold_same records (λ number. places number ++ places_from (Some place) 0 (fields_added scripts number one.home added)) (λ number. places number ++ places_from (Some place) 0 (stated_fields scripts number one))
+    (λ number. names number ++ named (fields_added scripts number one.home added)) (λ number. names number ++ named (stated_fields scripts number one))
+    (λ number. ap (λ (x : List FieldInfo). places number ++ places_from (Some place) 0 x) (same number)) (λ number. ap (λ (x : List FieldInfo). names number ++ named x) (same number)) held
+  where
+    same : (number : ℕ) → fields_added scripts number one.home added ≡ stated_fields scripts number one
+    same number = ap (fields_added scripts number one.home) is ∙ sym (stated_is scripts number one.home (out-Decl one.decl))
+
 -- a declaration that adds fields to the record type that its name names
 pub hold_stated : (scripts : Scripts) (home : Home) (place : ℕ) (fields : List Field) (records : List RecordFields) (places : ℕ → List FieldPlace) (names : ℕ → List (List ℕ)) (found : ℕ → Bool) (number : Option ℕ) →
     ((other : ℕ) → found other ≡ is_among other number) →
@@ -210,7 +240,7 @@ hold_stated scripts home place fields records places names found number same hel
 pub first_own : (scripts : Scripts) (records : List RecordFields) → records ≡ [] → (length records ≡ 0) × AreOwn records scripts
 first_own scripts records none = (ap length none, subst (λ (x : List RecordFields). AreOwn x scripts) (sym none) (λ number one found. nowhere number one found))
   where
-    nowhere : (number : ℕ) (one : RecordFields) → slice_get {RecordFields} [] number ≡ Some one → HasPlaces one (places_from None 0 (own_fields scripts number)) (named (own_fields scripts number))
+    nowhere : (number : ℕ) (one : RecordFields) → slice_get {X = RecordFields} [] number ≡ Some one → HasPlaces one (places_from None 0 (own_fields scripts number)) (named (own_fields scripts number))
     nowhere zero one found = cc
     nowhere (suc number) one found = cc
 
@@ -252,14 +282,13 @@ hold_on scripts stated at one records within is held =
     let before = stated_lent (take at stated) in
     let e : stated_lent (take (at + 1) stated) ≡ before ++ stated_of one ∷ [] =
     ap stated_lent (take_more stated at one within ∙ ap (λ y. take at stated ++ y ∷ []) (sym is)) ∙ map-append stated_of (take at stated) (one ∷ []) in
-    let long : length before ≡ at = length-map (take at stated) stated_of ∙ taken stated at within in
+    let last : at ≡ 0 + length before = omega (arith, length-map (take at stated) stated_of, taken stated at within) in
     hold_same records (λ number. so_far scripts before number ++ places_from (Some at) 0 (stated_fields scripts number (stated_of one))) (so_far scripts (stated_lent (take (at + 1) stated)))
     (λ number. named_so_far scripts before number ++ named (stated_fields scripts number (stated_of one))) (named_so_far scripts (stated_lent (take (at + 1) stated)))
     (λ number.
     append_assoc (places_from None 0 (own_fields scripts number)) (added_places scripts number 0 before) (places_from (Some at) 0 (stated_fields scripts number (stated_of one))) ∙
     ap (λ (x : List FieldPlace). places_from None 0 (own_fields scripts number) ++ x)
-    (ap (λ (n : ℕ). added_places scripts number 0 before ++ places_from (Some n) 0 (stated_fields scripts number (stated_of one))) (sym long) ∙ sym (added_push scripts number 0 before (stated_of one)) ∙
-    ap (added_places scripts number 0) (sym e)))
+    (sym (added_push scripts number 0 at before (stated_of one) last) ∙ ap (added_places scripts number 0) (sym e)))
     (λ number.
     sym (map-append (λ (field : FieldInfo). field.name) (own_fields scripts number ++ flat_map (stated_fields scripts number) before) (stated_fields scripts number (stated_of one))) ∙
     ap named (append_assoc (own_fields scripts number) (flat_map (stated_fields scripts number) before) (stated_fields scripts number (stated_of one)) ∙
@@ -343,7 +372,7 @@ through f (one ∷ others) = ap (λ more. maybe_one (f one) ++ more) (through f 
 pub all_placed : (scripts : Scripts) (number : ℕ) → flat_map (λ one. maybe_one (field_at scripts number one)) (field_places scripts number) ≡ fields_of scripts number
 all_placed scripts number = through (field_at scripts number) (field_places scripts number) ∙ ap (flat_map maybe_one) (sym (placed scripts number)) ∙ ones (fields_of scripts number)
 
-joined : {A : Type 0} → Option (Option A) → Option A
+abbrev joined : {A : Type 0} → Option (Option A) → Option A
 joined None = None
 joined (Some one) = one
 
@@ -371,9 +400,17 @@ none_placed scripts number none =
 named_by : (name : List ℕ) (at : ℕ) (field : FieldInfo) (others : List FieldInfo) (b : Bool) → bytes_eq field.name name ≡ b →
     ((from : ℕ) → field_named name from others ≡ option_map (λ one. (from + count_before (λ other. bytes_eq other name) (named others), one)) (slice_get others (count_before (λ other. bytes_eq other name) (named others)))) →
     field_named name at (field ∷ others) ≡ option_map (λ one. (at + count_before (λ other. bytes_eq other name) (named (field ∷ others)), one)) (slice_get (field ∷ others) (count_before (λ other. bytes_eq other name) (named (field ∷ others))))
-named_by name at field others true e rest = rw e (ap (λ (n : ℕ). Some (n, field)) (omega arith))
+named_by name at field others true e rest =
+    let here : at ≡ at + 0 = omega arith in
+    ap (λ (b : Bool). elim b as (λ x. Option (ℕ × FieldInfo)) [ true ↦ Some (at, field) | false ↦ field_named name (at + 1) others ]) e ∙
+    ap (λ (n : ℕ). Some (n, field)) here ∙
+    sym (ap (λ (n : ℕ). option_map (λ (one : FieldInfo). (at + n, one)) (slice_get (field ∷ others) n)) (count_now (λ other. bytes_eq other name) field.name (named others) e))
 named_by name at field others false e rest =
-    rw e (rest (at + 1) ∙ ap (λ (n : ℕ). option_map (λ (one : FieldInfo). (n, one)) (slice_get others (count_before (λ other. bytes_eq other name) (named others)))) (omega arith))
+    let count = count_before (λ other. bytes_eq other name) (named others) in
+    let behind : at + 1 + count ≡ at + suc count = omega arith in
+    ap (λ (b : Bool). elim b as (λ x. Option (ℕ × FieldInfo)) [ true ↦ Some (at, field) | false ↦ field_named name (at + 1) others ]) e ∙
+    rest (at + 1) ∙ ap (λ (n : ℕ). option_map (λ (one : FieldInfo). (n, one)) (slice_get others count)) behind ∙
+    sym (ap (λ (n : ℕ). option_map (λ (one : FieldInfo). (at + n, one)) (slice_get (field ∷ others) n)) (count_later (λ other. bytes_eq other name) field.name (named others) e))
 
 first_named : (name : List ℕ) (at : ℕ) (fields : List FieldInfo) →
     field_named name at fields ≡ option_map (λ one. (at + count_before (λ other. bytes_eq other name) (named fields), one)) (slice_get fields (count_before (λ other. bytes_eq other name) (named fields)))
@@ -384,4 +421,6 @@ first_named name at (field ∷ others) = named_by name at field others (bytes_eq
 pub field_found_at : (name : List ℕ) (fields : List FieldInfo) (number : ℕ) (found : Option FieldInfo) → number ≡ count_before (λ other. bytes_eq other name) (named fields) → found ≡ slice_get fields number →
     option_map (λ one. (number, one)) found ≡ field_named name 0 fields
 field_found_at name fields number found counted is =
-    ap (option_map (λ one. (number, one))) is ∙ ap (λ (n : ℕ). option_map (λ (one : FieldInfo). (n, one)) (slice_get fields n)) counted ∙ sym (first_named name 0 fields)
+    let from_none : number ≡ 0 + number = omega arith in
+    ap (option_map (λ one. (number, one))) is ∙ ap (λ (n : ℕ). option_map (λ (one : FieldInfo). (n, one)) (slice_get fields number)) from_none ∙
+    ap (λ (n : ℕ). option_map (λ (one : FieldInfo). (0 + n, one)) (slice_get fields n)) counted ∙ sym (first_named name 0 fields)

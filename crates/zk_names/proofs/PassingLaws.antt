@@ -19,7 +19,7 @@ passing_push q (first ∷ others) one =
 
 taken : {A V : Type 0} (view : A → V) (items : List A) (at : ℕ) → at < length items → length (map view (take at items)) ≡ at
 taken view [] zero within = refl
-taken view [] (suc at) within = refl
+taken view [] (suc at) within = absurd (omega (arith, within))
 taken view (first ∷ others) zero within = refl
 taken view (first ∷ others) (suc at) within = ap suc (taken view others at (omega (arith, within)))
 

@@ -80,14 +80,14 @@ with_old eq laws keys key old count more stands there raised =
 first_later : {A : Type 0} (p : A → Bool) (one : A) (others : List A) → p one ≡ false → first_place p (one ∷ others) ≡ option_map suc (first_place p others)
 first_later p one others e = rw e refl
 
-count_later : {A : Type 0} (p : A → Bool) (one : A) (others : List A) → p one ≡ false → count_before p (one ∷ others) ≡ suc (count_before p others)
-count_later p one others e = rw e refl
+pub count_later : {A : Type 0} (p : A → Bool) (one : A) (others : List A) → p one ≡ false → count_before p (one ∷ others) ≡ suc (count_before p others)
+count_later p one others e = ap (λ (b : Bool). elim b as (λ x. ℕ) [ true ↦ 0 | false ↦ suc (count_before p others) ]) e
 
 first_now : {A : Type 0} (p : A → Bool) (one : A) (others : List A) → p one ≡ true → first_place p (one ∷ others) ≡ Some 0
 first_now p one others e = rw e refl
 
-count_now : {A : Type 0} (p : A → Bool) (one : A) (others : List A) → p one ≡ true → count_before p (one ∷ others) ≡ 0
-count_now p one others e = rw e refl
+pub count_now : {A : Type 0} (p : A → Bool) (one : A) (others : List A) → p one ≡ true → count_before p (one ∷ others) ≡ 0
+count_now p one others e = ap (λ (b : Bool). elim b as (λ x. ℕ) [ true ↦ 0 | false ↦ suc (count_before p others) ]) e
 
 past : (a : Option ℕ) (most : ℕ) → unwrap_or (option_map suc a) (suc most) ≡ suc (unwrap_or a most)
 past None most = refl

@@ -139,8 +139,9 @@ types_more created key columns told old new kept made changed word =
 pub types_none : (created : List Created) (index : ℕ) (types : LogTypes) → length created ≤ index → AreTypes types [] → AreTypes types (created_lent (drop index created))
 types_none created index types past none = subst (AreTypes types) (sym (ap created_lent (drop_all index created past))) none
 
-pub types_step : (created : List Created) (index : ℕ) (one : Created) (old new : LogTypes) → index < length created → one ≡ get_or created index one →
-    ((more : List (List ℕ × Option RecordNo)) → AreTypes old more → AreTypes new (created_of one ∷ more)) → AreTypes old (created_lent (drop (index + 1) created)) → AreTypes new (created_lent (drop index created))
-types_step created index one old new within is added before =
-    let first : drop index created ≡ one ∷ drop (index + 1) created = rw add-one (drop-cons created index one within ∙ ap (λ (x : Created). x ∷ drop (suc index) created) (sym is)) in
-    subst (AreTypes new) (sym (ap created_lent first)) (added (created_lent (drop (index + 1) created)) before)
+pub types_step : (created : List Created) (at index : ℕ) (one : Created) (old new : LogTypes) → index ≡ at + 1 → at < length created → one ≡ get_or created at one →
+    ((more : List (List ℕ × Option RecordNo)) → AreTypes old more → AreTypes new (created_of one ∷ more)) → AreTypes old (created_lent (drop index created)) → AreTypes new (created_lent (drop at created))
+types_step created at index one old new next within is added before =
+    let first : drop at created ≡ one ∷ drop index created =
+    drop-cons created at one within ∙ ap (λ (x : Created). x ∷ drop (suc at) created) (sym is) ∙ ap (λ (n : ℕ). one ∷ drop n created) (sym (next ∙ add-one at)) in
+    subst (AreTypes new) (sym (ap created_lent first)) (added (created_lent (drop index created)) before)

@@ -34,7 +34,7 @@ declared_type check scripts place one home inner is apart =
     by_circle apart
   where
     by_circle : list_any (leads scripts one.name home) (mentions inner) ≡ false → named_type check scripts place (Some (record { name = one.name; exported = one.exported; meant = WrittenType home inner })) ≡ unless_deep place (check home inner)
-    by_circle e = rw e refl
+    by_circle e = ap (λ (b : Bool). elim b as (λ x. Checked ValueType) [ true ↦ elsewhere | false ↦ unless_deep place (check home inner) ]) e
 
 pub circular_type : (check : Home → «Type» → Checked ValueType) (scripts : Scripts) (place : Place) (one : Declared) (home : Home) (inner : «Type») → one.meant ≡ WrittenType home inner →
     is_circle scripts (Some one) ≡ true → named_type check scripts place (Some one) ≡ elsewhere
@@ -43,4 +43,4 @@ circular_type check scripts place one home inner is circle =
     by_circle circle
   where
     by_circle : list_any (leads scripts one.name home) (mentions inner) ≡ true → named_type check scripts place (Some (record { name = one.name; exported = one.exported; meant = WrittenType home inner })) ≡ elsewhere
-    by_circle e = rw e refl
+    by_circle e = ap (λ (b : Bool). elim b as (λ x. Checked ValueType) [ true ↦ elsewhere | false ↦ unless_deep place (check home inner) ]) e

@@ -14,7 +14,7 @@ use Rattle.zk_names.specs.Lent.{declared_lent}
 use Rattle.zk_names.proofs.LeadLaws.{lent_length}
 use Rattle.zk_names.proofs.SearchLaws.{Leading}
 
-nowhere : {A : Type 0} {P : Type 0} (place : ℕ) (item : A) → slice_get {A} [] place ≡ Some item → P
+nowhere : {A : Type 0} {P : Type 0} (place : ℕ) (item : A) → slice_get {X = A} [] place ≡ Some item → P
 nowhere zero item found = cc
 nowhere (suc place) item found = cc
 

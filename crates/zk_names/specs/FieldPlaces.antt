@@ -1,13 +1,15 @@
 -- Where the fields of record types stand, and their names.
-use Rattle.std.specs.Prelude.{◌≡◌, ℕ, suc, Bool, false, List, [], ◌∷◌, ◌++◌, map, Option, Some, None, slice_get, nat_eq}
+use Rattle.std.specs.Prelude.{◌≡◌, ℕ, suc, Bool, false, List, [], ◌∷◌, ◌++◌, map, Option, Some, None, slice_get, nat_eq, if◌then◌else◌}
+use Rattle.std.specs.Borrow.{Bor}
 use Rattle.std.specs.Str.{bytes_eq}
 use Rattle.zk_tree.specs.declared.decl.Decl.{Decl, out-Decl}
 use Rattle.zk_tree.specs.declared.decl.Decl.TheOpen.{Decl-F}
 use Rattle.zk_tree.specs.declared.decl.Decl.TheOpen as decl
+use Rattle.zk_tree.specs.declared.name.Name.{Name}
 use Rattle.zk_tree.specs.declared.types.Field.{Field, out-Field}
 use Rattle.zk_typed.specs.LoadOrder.{Home, Stated}
 use Rattle.zk_typed.specs.Names.{Node, RecordNode, EnumNode}
-use Rattle.zk_typed.specs.Resolving.{FieldInfo, Scripts, fields_of, own_fields, written_field}
+use Rattle.zk_typed.specs.Resolving.{FieldInfo, Scripts, fields_of, is_that, own_fields, type_named, written_field}
 use Rattle.zk_names.specs.declared.field_places.FieldPlace.{FieldPlace}
 use Rattle.zk_names.specs.declared.field_places.RecordFields.{RecordFields}
 use Rattle.zk_names.specs.declared.fields.Fields.{Fields}
@@ -28,6 +30,19 @@ added_places scripts number place (one ∷ others) = places_from (Some place) 0 
 -- where the fields of a record type stand
 abbrev pub field_places : Scripts → ℕ → List FieldPlace
 field_places scripts number = places_from None 0 (own_fields scripts number) ++ added_places scripts number 0 scripts.stated
+
+-- the record type's name and the fields of a declaration of `redef record`
+abbrev pub added_in : Decl-F Decl → Option (Name × List Field)
+added_in (decl.RedefRecord place name fields) = Some (name, fields)
+added_in other = None
+
+abbrev pub added_lent : Bor Name × Bor (List Field) → Name × List Field
+added_lent one = (one.0.now, one.1.now)
+
+-- their fields, where the name is that of a record type
+abbrev pub fields_added : Scripts → ℕ → Home → Option (Name × List Field) → List FieldInfo
+fields_added scripts number home None = []
+fields_added scripts number home (Some added) = if is_that number (type_named scripts home added.0) then map (written_field scripts home) added.1 else []
 
 -- the fields that a declaration of `redef record` adds
 abbrev pub decl_texts : Decl-F Decl → List Field

@@ -158,8 +158,10 @@ impl<'a> Names<'a> {
     pub(crate) fn record_node(&self, number: u32) -> Option<Node<'a>>
         ensures { option_map node_of result ≡ slice_get (filter is_record (scripts_in self.now).nodes) number }
     {
-        let place = at(&self.records, number as usize)?;
-        at(&self.nodes, *place).copied()
+        match at(&self.records, number as usize) {
+            Some(place) => at(&self.nodes, *place).copied(),
+            None => None,
+        }
     }
 
     /// The fields that stand in a record type's own text.

@@ -1,8 +1,9 @@
 ghost use Rattle.std.specs.Prelude.{◌≡◌, ◌++◌, ℕ, List, [], None, Some, length, map, nat_eq, IfOk, OnOk, if◌then◌else◌};
 ghost use Rattle.std.specs.Option.{option_map};
+ghost use Rattle.zk_tree.specs.declared.decl.Decl.{out-Decl};
 ghost use Rattle.zk_typed.specs.Resolving as spec;
 ghost use Rattle.zk_names.specs.declared.field_places.FieldPlace.{FieldPlace as Place};
-ghost use Rattle.zk_names.specs.FieldPlaces.{AreOwn, HasPlaces, Hold, field_name, is_among, named, node_texts, places_from};
+ghost use Rattle.zk_names.specs.FieldPlaces.{AreOwn, HasPlaces, Hold, added_in, added_lent, field_name, is_among, named, node_texts, places_from};
 ghost use Rattle.zk_names.specs.Fields.{stated_fields};
 ghost use Rattle.zk_names.specs.Lent.{home_of, node_of, stated_of};
 ghost use Rattle.zk_names.specs.Scripted.{scripts_in};
@@ -139,8 +140,29 @@ fn add_named(
     }
 }
 
+/// The record type's name and the fields of a declaration of `redef record`.
+fn added(decl: &Decl) -> Option<(&Name, &[Field])>
+    ensures { option_map added_lent result ≡ added_in (out-Decl decl.now) }
+{
+    match decl {
+        Decl::RedefRecord {
+            place: _,
+            name,
+            fields,
+        } => Some((name, fields.as_slice())),
+        Decl::Module { .. }
+        | Decl::Export { .. }
+        | Decl::Load { .. }
+        | Decl::Variable { .. }
+        | Decl::Redef { .. }
+        | Decl::RedefEnum { .. }
+        | Decl::Type { .. }
+        | Decl::Body { .. }
+        | Decl::Function { .. } => None,
+    }
+}
+
 /// Adds the fields of the declaration at a place to the record type to which it adds them.
-#[tactic(auto, using(crate::proofs::FieldPlaceLaws::hold_none))]
 fn add_stated(
     alloc: Global,
     names: &Names<'_>,
@@ -152,24 +174,12 @@ fn add_stated(
         → Hold all.new.items (λ number. places number ++ places_from (Some place) 0 (stated_fields (scripts_in names.now) number (stated_of one.now)))
         (λ number. texts number ++ named (stated_fields (scripts_in names.now) number (stated_of one.now)))) }
 {
-    match one.decl {
-        Decl::RedefRecord {
-            place: _,
-            name,
-            fields,
-        } => {
-            add_named(alloc, names, one.home, name, fields.as_slice(), place, all)?;
+    match added(one.decl) {
+        Some((name, fields)) => {
+            add_named(alloc, names, one.home, name, fields, place, all)?;
             Ok(())
         }
-        Decl::Module { .. }
-        | Decl::Export { .. }
-        | Decl::Load { .. }
-        | Decl::Variable { .. }
-        | Decl::Redef { .. }
-        | Decl::RedefEnum { .. }
-        | Decl::Type { .. }
-        | Decl::Body { .. }
-        | Decl::Function { .. } => Ok(()),
+        None => Ok(()),
     }
 }
 

@@ -226,7 +226,8 @@ pub fn search(
     requires { HasWays ways.now (declared_lent table.now.names.items) }
     ensures { IfOk result (λ leads. (scripts : Scripts) → scripts.names ≡ declared_lent table.now.names.items → leads ≡ list_any (led scripts target.now (length scripts.names)) starts.now) }
 {
-    if are_before(alloc, table, ways, target, starts)? {
+    let before = are_before(alloc, table, ways, target, starts)?;
+    if before {
         return Ok(false);
     }
     let found = searched(alloc, table, ways, target, starts)?;

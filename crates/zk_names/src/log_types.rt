@@ -38,7 +38,6 @@ impl LogTypes {
     }
 
     /// What the calls of `create_stream` say of logs.
-    #[tactic(auto, using(crate::proofs::StreamLaws::types_none, crate::proofs::StreamLaws::types_step))]
     pub fn of(alloc: Global, created: &[Created]) -> Result<LogTypes, Mem>
         ensures { IfOk result (λ types. AreTypes types (created_lent created.now)) }
     {

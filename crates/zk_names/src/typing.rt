@@ -1,7 +1,8 @@
 ghost use Rattle.std.specs.Prelude.{◌≡◌, List, Some, true, is_some, slice_get, IfSome};
 ghost use Rattle.std.specs.Option.{option_and_then, option_map};
 ghost use Rattle.std.specs.List.{list_any};
-ghost use Rattle.zk_typed.specs.Checked.{Checked};
+ghost use Rattle.zk_typed.specs.Checked.{Checked, broken};
+ghost use Rattle.zk_typed.specs.declared.rule.Rule.TheVariants as rule;
 ghost use Rattle.zk_typed.specs.declared.script.types.SimpleType as key;
 ghost use Rattle.zk_typed.specs.Names.{look_up};
 ghost use Rattle.zk_typed.specs.Predefined.{enum as enum_of, record_no};
@@ -221,6 +222,13 @@ fn end_text<'a>(names: &Names<'a>, place: usize) -> Option<(Home<'a>, &'a Type)>
     }
 }
 
+/// No type, by a name that nothing declares.
+fn unknown(alloc: Global, place: Place) -> Result<ValueType, Refusal>
+    ensures { Tells type_of result (broken rule.Unknown place) }
+{
+    Err(Refusal::Broken(one_broken(alloc, Rule::Unknown, place)?))
+}
+
 /// A name that stands for no text.
 fn known_type(
     alloc: Global,
@@ -370,7 +378,7 @@ fn placed_type(
     ensures { Tells type_of result (spec.named_type (spec.behind_names (spec.type_to depth (scripts_in names.now)) (scripts_in names.now)) (scripts_in names.now) place (slice_get (scripts_in names.now).names named)) }
 {
     let Some(one) = names.name_at(named) else {
-        return Err(Refusal::Broken(one_broken(alloc, Rule::Unknown, place)?));
+        return unknown(alloc, place);
     };
     match &one.meant {
         Meant::KnownType { known } => Ok(copied_type(alloc, known)?),
@@ -406,6 +414,6 @@ pub fn named_type(
     let found = names.place_of(alloc, home.module_name, name.text.as_slice())?;
     match found {
         Some(named) => placed_type(alloc, depth, names, named, place),
-        None => Err(Refusal::Broken(one_broken(alloc, Rule::Unknown, place)?)),
+        None => unknown(alloc, place),
     }
 }

@@ -16,4 +16,4 @@ decreases-leaves_to l = 3 * l.depth
 
 abbrev pub invariant-add_fields_leaves-loop-field : goal.invariant-add_fields_leaves-loop-field
 invariant-add_fields_leaves-loop-field l =
-    leaves_lent l.all.items ≡ leaves_lent l.fn.all.items ++ flat_map (field_leaves (leaves_to l.depth (scripts_in l.names))) (fields_lent (take l.field-index l.fields))
+    leaves_lent l.all.items ≡ leaves_lent l.fn.all.items ++ flat_map (field_leaves (leaves_to l.depth (scripts_in l.scripts.names))) (fields_lent (take l.field-index l.fields))

@@ -12,6 +12,6 @@ pub returns : goal.returns
 unfolding scripts_in
 returns c =
     same_scripts _ _ _ _ _ _ (c.in_ok-names.ensures.stated ∙ ap (λ (x : Scripts). x.stated) c.in_ok-known.ensures) (c.in_ok-names.ensures.nodes ∙ ap (λ (x : Scripts). x.nodes) c.in_ok-known.ensures)
-    (c.in_ok-names.ensures.names ∙ c.in_ok-table.ensures ∙ c.in_ok-all.ensures ∙
+    (c.in_ok-names.ensures.names ∙ c.in_ok-table.ensures ∙
     ap (λ (x : Scripts). fold (with_body 2) (fold (with_body 1) (fold (with_body 0) (predefined_names ++ flat_map (with_words x) x.stated) x.stated) x.stated) x.stated) c.in_ok-known.ensures ∙
     all_known (load_order (files_of c.args.files.now)))

@@ -6,5 +6,5 @@ use Rattle.zk_names.proofs.node.record_places.Goals as goal
 
 pub loop-place-preserved : goal.loop-place-preserved
 loop-place-preserved c =
-    c.in_ok-add_record.ensures ∙ ap (λ (x : List ℕ). x ++ (if is_record (node_of c.node-item.result) then c.loop-place.place ∷ [] else [])) c.loop-place.invariant ∙
-    one_more_passing node_of is_record c.args.nodes.now c.loop-place.place c.node-item.result c.loop-place-test.true c.node-item.is
+    c.in_ok-add_record.ensures ∙ ap (λ (x : List ℕ). x ++ (if is_record (node_of c.index-nodes-place.result) then c.loop-place.place ∷ [] else [])) c.loop-place.invariant ∙
+    one_more_passing node_of is_record c.args.nodes.now c.loop-place.place c.index-nodes-place.result c.loop-place-test.true c.index-nodes-place.is

@@ -1,4 +1,4 @@
-use Rattle.std.proofs.Common.{◌≡◌, ℕ, false, Option, Some, Ok, slice_get, refl, ap, sym, ◌∙◌, subst}
+use Rattle.std.proofs.Common.{◌≡◌, ℕ, false, Option, None, Some, Ok, slice_get, refl, ap, sym, ◌∙◌, subst}
 use Rattle.std.specs.Option.{option_and_then}
 use Rattle.zk_tree.specs.declared.place.Place.{Place}
 use Rattle.zk_typed.specs.Names.{Declared, WrittenType}
@@ -48,8 +48,8 @@ behind_names-returns-in-Some t c = λ text is.
     let check = type_to c.args.depth scripts in
     subst (Tells type_of c.formed.result) (sym (behind_end check scripts text (home_of c.in-Some.home, c.in-Some.tree.now) (c.in-Some.ensures text is))) c.formed.ensures
 
-pub placed_type-returns-in-WrittenType : goal.placed_type-returns-in-WrittenType
-placed_type-returns-in-WrittenType t c =
+pub placed_type-returns-else-is_circle : goal.placed_type-returns-else-is_circle
+placed_type-returns-else-is_circle t c =
     let scripts = scripts_in c.args.names.now in
     let check = behind_names (type_to c.args.depth scripts) scripts in
     let one = declared_of c.in-Some.one.now in
@@ -70,3 +70,13 @@ named_type-returns-in-Some t c =
     let up : place_up scripts.names from_module text ≡ Some c.in-Some.named = ap (place_up scripts.names from_module) (sym c.as_slice.ensures) ∙ sym c.in_ok-found.ensures ∙ c.in-Some.is in
     subst (λ (found : Option Declared). Tells type_of c.placed_type.result (named_type check scripts (place_in (home_of c.args.home) c.args.name.now.place) found)) (sym (up_found scripts.names from_module text ∙ ap (option_and_then (slice_get scripts.names)) up))
     (subst (λ (place : Place). Tells type_of c.placed_type.result (named_type check scripts place (slice_get scripts.names c.in-Some.named))) c.place_in-place.ensures c.placed_type.ensures)
+
+pub named_type-returns-in-None : goal.named_type-returns-in-None
+named_type-returns-in-None t c =
+    let scripts = scripts_in c.args.names.now in
+    let check = behind_names (type_to c.args.depth scripts) scripts in
+    let from_module = c.args.home.module_name.now in
+    let text = c.args.name.now.text in
+    let up : place_up scripts.names from_module text ≡ None = ap (place_up scripts.names from_module) (sym c.as_slice.ensures) ∙ sym c.in_ok-found.ensures ∙ c.in-None.is in
+    subst (λ (found : Option Declared). Tells type_of c.unknown.result (named_type check scripts (place_in (home_of c.args.home) c.args.name.now.place) found)) (sym (up_found scripts.names from_module text ∙ ap (option_and_then (slice_get scripts.names)) up))
+    (subst (λ (place : Place). Tells type_of c.unknown.result (named_type check scripts place None)) c.place_in-place.ensures c.unknown.ensures)

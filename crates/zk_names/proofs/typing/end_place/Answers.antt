@@ -1,4 +1,4 @@
-use Rattle.std.proofs.Common.{◌≡◌, ℕ, suc, ◌<◌, length, ap, sym, ◌∙◌, arith}
+use Rattle.std.proofs.Common.{◌≡◌, ℕ, suc, ◌-◌, ◌<◌, length, ap, sym, ◌∙◌, arith}
 use Rattle.zk_typed.specs.Resolving.{followed_to}
 use Rattle.zk_names.specs.Scripted.{scripts_in}
 use Rattle.zk_names.proofs.FollowLaws.{way_end, way_on}
@@ -9,7 +9,8 @@ pub loop-step-init : goal.loop-step-init
 loop-step-init c = λ first is.
     let scripts = scripts_in c.args.names.now in
     let long : length c.declared-most.result.now ≡ length scripts.names = sym (lent_length c.declared-most.result.now) ∙ ap length c.declared-most.ensures in
-    (first, is, ap (λ (n : ℕ). followed_to n scripts first.0 first.1) (omega (arith, long)))
+    let left : suc (length c.declared-most.result.now) - 0 ≡ suc (length scripts.names) = omega (arith, long) in
+    (first, is, ap (λ (n : ℕ). followed_to n scripts first.0 first.1) left)
 
 pub loop-step-preserved : goal.loop-step-preserved
 loop-step-preserved c = λ first is.
@@ -30,4 +31,5 @@ returns c = λ first is.
     let scripts = scripts_in c.args.names.now in
     let way = c.loop-step.invariant first is in
     let now = way.0 in
-    sym (ap (λ (n : ℕ). followed_to n scripts now.0 now.1) (omega arith)) ∙ way.2
+    let none : suc (length c.declared-most.result.now) - c.loop-step._step ≡ 0 = omega arith in
+    sym (ap (λ (n : ℕ). followed_to n scripts now.0 now.1) none) ∙ way.2

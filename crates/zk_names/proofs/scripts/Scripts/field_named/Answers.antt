@@ -9,11 +9,11 @@ use Rattle.zk_names.specs.Scripted.{scripts_in}
 use Rattle.zk_names.proofs.FieldPlaceLaws.{field_found_at, none_placed}
 use Rattle.zk_names.proofs.scripts.Scripts.field_named.Goals as goal
 
-pub returns-in-None : goal.returns-in-None
-returns-in-None c =
+pub returns-in_default : goal.returns-in_default
+returns-in_default c =
     let scripts = scripts_in c.args.self.now.names in
     let number = c.args.number.0 in
-    sym (ap (field_named c.args.name.now 0) (none_placed scripts number (c.args.self.now.placed.1 number (sym (c.in-None.ensures ∙ ap (λ (x : List RecordFields). slice_get x number) c.deref.ensures.value)))))
+    sym (ap (field_named c.args.name.now 0) (none_placed scripts number (c.args.self.now.placed.1 number (sym (c.in_default.ensures ∙ ap (λ (x : List RecordFields). slice_get x number) c.deref.ensures.value)))))
 
 pub returns : goal.returns
 returns c =

@@ -1,4 +1,4 @@
-use Rattle.std.proofs.Common.{◌≡◌, ℕ, Bool, true, ◌&&◌, ◌||◌, Some, None, length, Option, unwrap_or, refl, ap, sym, ◌∙◌}
+use Rattle.std.proofs.Common.{◌≡◌, ℕ, Bool, true, ◌&&◌, ◌||◌, Some, None, length, Option, unwrap_or, refl, ap, sym, ◌∙◌, arith}
 use Rattle.std.specs.Str.{bytes_eq}
 use Rattle.zk_typed.specs.Names.{Declared}
 use Rattle.zk_names.specs.Indexing.{first_place}
@@ -15,4 +15,5 @@ returns-in-Some c =
 pub returns-in-None : goal.returns-in-None
 returns-in-None c =
     let names = declared_lent c.args.self.now.names.items in
-    sym (lent_length c.args.self.now.names.items) ∙ ap (λ (x : Option ℕ). unwrap_or x (length names)) (c.in-None.ensures names c.args.self.now.indexed ∙ named_anywhere names c.args.whole.now)
+    let long : c.len.result ≡ length c.args.self.now.names.items = omega (arith, c.len.ensures) in
+    long ∙ sym (lent_length c.args.self.now.names.items) ∙ ap (λ (x : Option ℕ). unwrap_or x (length names)) (c.in-None.ensures names c.args.self.now.indexed ∙ named_anywhere names c.args.whole.now)

@@ -4,6 +4,7 @@ pub mod ElementLaws
 pub mod Ends
 pub mod Fitting
 pub mod FormLaws
+pub mod FoundFields
 pub mod GivenLaws
 pub mod KeyLaws
 pub mod Leftovers

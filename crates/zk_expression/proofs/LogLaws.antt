@@ -17,16 +17,17 @@ use Rattle.zk_tree.specs.declared.expr.Part.{Part}
 use Rattle.zk_tree.specs.declared.name.Name.{Name}
 use Rattle.zk_typed.specs.declared.refusal.Refusal.{Refusal}
 use Rattle.zk_typed.specs.declared.refusal.Refusal.TheVariants.{Broken, NoMemory}
+use Rattle.zk_tree.specs.declared.place.Place.{Place}
 use Rattle.zk_typed.specs.declared.rule.Rule.TheVariants as rule
-use Rattle.zk_typed.specs.Checked.{Checked, broken_anyway, both, require, ◌>>=◌, ◌>>◌}
+use Rattle.zk_typed.specs.Checked.{Checked, along, broken_anyway, both, require, ◌>>=◌, ◌>>◌}
 use Rattle.zk_typed.specs.Declarations.{nothing}
 use Rattle.zk_typed.specs.Errors.{kind_of}
-use Rattle.zk_typed.specs.LogCalls.{StreamTold, among, event_kind, hook_kind, log_type, log_word, named_signature, only_settings, setting_name, setting_rules, word_of}
-use Rattle.zk_typed.specs.Names.{BuiltInFunction, Declared, Event, Function, Hook, KnownType, Log, Meant, Signature, Variable, Word, WrittenType}
+use Rattle.zk_typed.specs.LogCalls.{StreamTold, among, astray, event_kind, hook_kind, log_arguments, log_type, log_with, log_word, named_signature, only_settings, setting_name, setting_rules, word_of}
+use Rattle.zk_typed.specs.Names.{BuiltInFunction, Declared, Event, Function, Hook, KnownType, Log, LogFunction, Meant, Signature, Variable, Word, WrittenType}
 use Rattle.zk_typed.specs.Resolving.{params_of}
 use Rattle.zk_typed.specs.Tells.{Tells}
 use Rattle.zk_typed.specs.Types.{ValueType}
-use Rattle.zk_typed.specs.Typing.{Check, Env, Nothing, at, expr_place, found}
+use Rattle.zk_typed.specs.Typing.{Check, Env, Nothing, at, expr_place, found, on_item}
 use Rattle.zk_operator.specs.declared.operands.Typed.{Typed as RustTyped}
 use Rattle.zk_operator.specs.Views.{typed_of}
 use Rattle.zk_expression.specs.declared.log_words.LogWord.{LogWord}
@@ -119,6 +120,13 @@ no_word check env one part refusal none h k = rw (word_is check env one ∙ ap (
 
 pub the_word : (check : Check) (env : Env) (one : Expr) (word : LogWord) → Some (log_word_of word) ≡ logged_word env one → Tells log_word_of (Ok word) (log_word check env one)
 the_word check env one word is = word_is check env one ∙ ap (word_or check env one) (sym is)
+
+-- Arguments --------------------------------------------------------------------------------------------------------
+
+-- arguments that have no place
+pub more_arguments : {first : Item} {rest : List Item} (check : Check) (env : Env) (place : Place) (function : LogFunction) (word : Declared) (known : Option RecordNo) (item : Item) (others : List Item) → others ≡ first ∷ rest →
+    log_arguments check env place function word known item others ≡ along (broken_anyway (on_item check env (log_with check env place function word known) item) rule.Arguments place) (astray check env others)
+more_arguments check env place function word known item others more = rw more refl
 
 -- Settings ---------------------------------------------------------------------------------------------------------
 

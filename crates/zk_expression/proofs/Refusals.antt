@@ -5,8 +5,10 @@ use Rattle.zk_typed.specs.declared.refusal.Refusal.{Refusal}
 use Rattle.zk_typed.specs.declared.refusal.Refusal.TheVariants.{Broken, NoMemory}
 use Rattle.zk_tree.specs.declared.place.Place.{Place}
 use Rattle.zk_typed.specs.declared.rule.Rule.{Rule}
-use Rattle.zk_typed.specs.Checked.{Checked, broken, broken_anyway, elsewhere, require, told_or, with_rule, ◌>>=◌, ◌>>◌}
+use Rattle.zk_typed.specs.Checked.{Checked, along, broken, broken_anyway, elsewhere, require, rules_of, told_or, with_rule, ◌>>=◌, ◌>>◌}
 use Rattle.zk_typed.specs.Tells.{Tells}
+use Rattle.zk_operator.proofs.BothLaws.{along_tells}
+use Rattle.zk_operator.specs.Gather.{IsAlong}
 use Rattle.zk_expression.specs.Refusing.{Holds, Hushes, Refuses}
 
 -- some rules are told before others
@@ -33,6 +35,13 @@ hushed va vb (Err (Broken before)) (Broken rules) ca h k = rw k (ap Err (sym h))
 hushed va vb (Err NoMemory) (Broken rules) ca h k = absurd h
 hushed va vb part NoMemory ca h k = tt
 
+-- what is broken in a part beside what is broken elsewhere
+pub hushed_behind : {A A' B B' : Type 0} (va : A → A') (vb : B → B') (part : Result A Refusal) (refusal : Refusal) (ca : Checked A') → Hushes part refusal → Tells va part ca → Tells vb (Err refusal) (Err (rules_of ca))
+hushed_behind va vb (Ok one) (Broken rules) ca h k = rw k (ap Err (sym h))
+hushed_behind va vb (Err (Broken before)) (Broken rules) ca h k = rw k (ap Err (sym h))
+hushed_behind va vb (Err NoMemory) (Broken rules) ca h k = absurd h
+hushed_behind va vb part NoMemory ca h k = tt
+
 -- a part under a rule of the whole that doesn't rest on it
 pub held : {A A' : Type 0} (va : A → A') (holds : Bool) (rule : Rule) (place : Place) (part result : Result A Refusal) (ca : Checked A') →
     Holds holds rule place part result → Tells va part ca → Tells va result (with_rule ca (require holds rule place))
@@ -58,3 +67,23 @@ pub broken_is : {A A' B B' : Type 0} (va : A → A') (vb : B → B') (rule : Rul
     Tells va (Err refusal) (broken rule place) → Tells vb (Err refusal) (broken rule place)
 broken_is va vb rule place (Broken rules) h = let same : record { rule = rule; place = place } ∷ [] ≡ rules = same_rules h in ap Err same
 broken_is va vb rule place NoMemory h = tt
+
+-- what is judged behind a part that is broken
+pub behind_broken : {A A' B B' C C' : Type 0} (va : A → A') (vb : B → B') (vc : C → C') (refusal : Refusal) (other : Result B Refusal) (whole : Result C Refusal) (whole_of : Checked A' → Checked C')
+    (cb : Checked B') (told : Checked A') → ((rules : List BrokenRule) → whole_of (Err rules) ≡ along (Err rules) cb) →
+    Tells va (Err refusal) told → Tells vb other cb → IsAlong (Err refusal) other whole → Tells vc whole (whole_of told)
+behind_broken va vb vc (Broken rules) other whole whole_of cb told is_along h k is = rw (h, is_along rules) (along_tells vc vb (Err (Broken rules)) other whole (Err rules) cb refl k is)
+behind_broken va vb vc NoMemory other (Ok one) whole_of cb told is_along h k is = absurd is.0
+behind_broken va vb vc NoMemory other (Err (Broken rules)) whole_of cb told is_along h k is = absurd is.0
+behind_broken va vb vc NoMemory other (Err NoMemory) whole_of cb told is_along h k is = tt
+
+-- a rule of the whole is told where its part is right
+pub told_right : {A : Type 0} (rule : Rule) (place : Place) (one : A) (refusal : Refusal) → Tells {A = Unit {0}} {B = Unit {0}} (λ done. done) (Err refusal) (broken rule place) → Refuses rule place (Ok one) refusal
+told_right rule place one (Broken rules) h = let same : record { rule = rule; place = place } ∷ [] ≡ rules = same_rules h in sym same
+told_right rule place one NoMemory h = tt
+
+-- a rule of the whole is told where its part is broken for what is broken elsewhere
+pub told_alike : {A : Type 0} (rule : Rule) (place : Place) (before : List BrokenRule) (refusal : Refusal) → before ≡ [] →
+    Tells {A = Unit {0}} {B = Unit {0}} (λ done. done) (Err refusal) (broken rule place) → Refuses {A = A} rule place (Err (Broken before)) refusal
+told_alike rule place before (Broken rules) none h = let same : record { rule = rule; place = place } ∷ [] ≡ rules = same_rules h in rw none (sym same)
+told_alike rule place before NoMemory none h = tt

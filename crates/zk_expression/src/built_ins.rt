@@ -197,7 +197,6 @@ fn formatted(
 
 impl<F: Fn(Global, &Env<'_>, u64, Wanted<'_>, &Expr) -> Result<Typed, Refusal>> Judge<'_, F> {
     /// One argument, and no other.
-    #[tactic(auto, using(zk_operator::proofs::BothLaws::along_tells, crate::proofs::Refusals::held))]
     fn lone_argument(&self, place: Place, first: &Item, others: &[Item]) -> Result<Typed, Refusal>
         requires { Judges self.now.depth (F.pre self.now.part) (F.post self.now.part) }
         ensures { Tells typed_of result (making.lone_argument (rules.expr_to self.now.depth (env_of self.now.env.now)) (env_of self.now.env.now) place first.now others.now) }

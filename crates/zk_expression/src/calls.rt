@@ -140,7 +140,6 @@ impl<F: Fn(Global, &Env<'_>, u64, Wanted<'_>, &Expr) -> Result<Typed, Refusal>> 
     }
 
     /// Items behind a name whose type is broken.
-    #[tactic(auto, using(zk_operator::proofs::BothLaws::along_tells))]
     fn broken_constructor(
         &self,
         place: Place,

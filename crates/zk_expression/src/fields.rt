@@ -66,7 +66,7 @@ fn field_in(
     number: RecordNo,
     found: Option<(u32, FieldInfo<'_>)>,
 ) -> Result<(FieldNo, ValueType), Refusal>
-    ensures { Tells typed_field result (field_among place number (option_map owned_found found)) }
+    ensures { Tells typed_field result (field_among place number (option_map owned_found found.entry)) }
 {
     match found {
         None => Err(Refusal::Broken(one_broken(alloc, Rule::Field, place)?)),
@@ -84,6 +84,7 @@ fn field_in(
 }
 
 /// The field of a record that a name names, and its type; its place is that of the whole expression.
+#[tactic(auto, using(crate::proofs::FoundFields::field_is))]
 pub fn field_of(
     alloc: Global,
     env: &Env<'_>,
@@ -109,6 +110,7 @@ pub fn field_of(
 }
 
 /// Whether a field is marked `&wire`.
+#[tactic(auto, using(crate::proofs::FoundFields::wire_found))]
 pub fn is_wire(alloc: Global, env: &Env<'_>, one: FieldNo) -> Result<bool, Mem>
     ensures { IfOk result (λ wire. wire ≡ making.is_wire (env_of env.now) one) }
 {

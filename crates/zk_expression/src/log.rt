@@ -322,7 +322,6 @@ impl<F: Fn(Global, &Env<'_>, u64, Wanted<'_>, &Expr) -> Result<Typed, Refusal>> 
     }
 
     /// A function of the log framework with a word, an item behind it, and others that have no place.
-    #[tactic(auto, using(zk_operator::proofs::BothLaws::along_tells, crate::proofs::Refusals::refused))]
     fn log_arguments(
         &self,
         place: Place,
@@ -335,15 +334,16 @@ impl<F: Fn(Global, &Env<'_>, u64, Wanted<'_>, &Expr) -> Result<Typed, Refusal>> 
         ensures { Tells typed_of result (logs.log_arguments (rules.expr_to self.now.depth (env_of self.now.env.now)) (env_of self.now.env.now) place (log_function_of function) (declared_of word.now.declared.now) word.now.columns item.now others.now) }
     {
         let judged = self.log_item(place, function, word, item);
-        if others.is_empty() {
-            return judged;
+        match others.split_first() {
+            None => judged,
+            Some(_) => {
+                let refusal = refused(self.alloc, judged, Rule::Arguments, place);
+                along(Err(refusal), self.each_argument(Wanted::Unclear, others))
+            }
         }
-        let refusal = refused(self.alloc, judged, Rule::Arguments, place);
-        along(Err(refusal), self.each_argument(Wanted::Unclear, others))
     }
 
     /// `Log::remove_default_filter` with items behind the word.
-    #[tactic(auto, using(zk_operator::proofs::BothLaws::along_tells, crate::proofs::Refusals::broken_is))]
     fn none_removed(&self, place: Place, items: &[Item]) -> Result<Typed, Refusal>
         requires { Judges self.now.depth (F.pre self.now.part) (F.post self.now.part) }
         ensures { Tells typed_of result (along (broken rule.Arguments place) (logs.astray (rules.expr_to self.now.depth (env_of self.now.env.now)) (env_of self.now.env.now) items.now)) }
@@ -405,7 +405,6 @@ impl<F: Fn(Global, &Env<'_>, u64, Wanted<'_>, &Expr) -> Result<Typed, Refusal>> 
     }
 
     /// A function of the log framework with what its first argument is, and the items behind that.
-    #[tactic(auto, using(zk_operator::proofs::BothLaws::along_tells))]
     fn log_behind(
         &self,
         place: Place,
@@ -414,7 +413,7 @@ impl<F: Fn(Global, &Env<'_>, u64, Wanted<'_>, &Expr) -> Result<Typed, Refusal>> 
         others: &[Item],
     ) -> Result<Typed, Refusal>
         requires { Judges self.now.depth (F.pre self.now.part) (F.post self.now.part) }
-        ensures { (told : Checked (DeclaredName × Option RecordNumber)) → Tells log_word_of word told → Tells typed_of result (logs.log_behind (rules.expr_to self.now.depth (env_of self.now.env.now)) (env_of self.now.env.now) place (log_function_of function) others.now told) }
+        ensures { (told : Checked (DeclaredName × Option RecordNumber)) → Tells log_word_of word.entry told → Tells typed_of result (logs.log_behind (rules.expr_to self.now.depth (env_of self.now.env.now)) (env_of self.now.env.now) place (log_function_of function) others.now told) }
     {
         match word {
             Ok(word) => self.log_of(place, function, &word, others),

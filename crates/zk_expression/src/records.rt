@@ -41,7 +41,7 @@ pub struct GivenField {
 
 impl<F: Fn(Global, &Env<'_>, u64, Wanted<'_>, &Expr) -> Result<Typed, Refusal>> Judge<'_, F> {
     /// A value for a field.
-    #[tactic(auto, using(crate::proofs::Refusals::hushed))]
+    #[tactic(auto, using(crate::proofs::Refusals::hushed_behind))]
     fn field_value(&self, value_type: &Option<ValueType>, value: &Expr) -> Result<Typed, Refusal>
         requires { Judges self.now.depth (F.pre self.now.part) (F.post self.now.part) }
         ensures { Tells typed_of result (known_given (rules.expr_to self.now.depth (env_of self.now.env.now)) (known_or (option_map type_of value_type.now)) value.now) }

@@ -81,9 +81,3 @@ behind_broken va vb vc NoMemory other (Err NoMemory) whole_of cb told is_along h
 pub told_right : {A : Type 0} (rule : Rule) (place : Place) (one : A) (refusal : Refusal) → Tells {A = Unit {0}} {B = Unit {0}} (λ done. done) (Err refusal) (broken rule place) → Refuses rule place (Ok one) refusal
 told_right rule place one (Broken rules) h = let same : record { rule = rule; place = place } ∷ [] ≡ rules = same_rules h in sym same
 told_right rule place one NoMemory h = tt
-
--- a rule of the whole is told where its part is broken for what is broken elsewhere
-pub told_alike : {A : Type 0} (rule : Rule) (place : Place) (before : List BrokenRule) (refusal : Refusal) → before ≡ [] →
-    Tells {A = Unit {0}} {B = Unit {0}} (λ done. done) (Err refusal) (broken rule place) → Refuses {A = A} rule place (Err (Broken before)) refusal
-told_alike rule place before (Broken rules) none h = let same : record { rule = rule; place = place } ∷ [] ≡ rules = same_rules h in rw none (sym same)
-told_alike rule place before NoMemory none h = tt

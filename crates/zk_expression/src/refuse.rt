@@ -20,7 +20,7 @@ pub fn broken(alloc: Global, rule: Rule, place: Place) -> Refusal
 }
 
 /// The rules that are told of a part, or else one of the whole: what is broken elsewhere hides none that doesn't rest on it.
-#[tactic(auto, using(crate::proofs::Refusals::told_first, crate::proofs::Refusals::told_right, crate::proofs::Refusals::told_alike))]
+#[tactic(auto, using(crate::proofs::Refusals::told_first, crate::proofs::Refusals::told_right))]
 pub fn refused<T: Drop>(
     alloc: Global,
     part: Result<T, Refusal>,

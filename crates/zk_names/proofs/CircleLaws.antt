@@ -7,7 +7,7 @@ use Rattle.zk_typed.specs.Resolving.{Scripts}
 use Rattle.zk_typed.specs.Within.{mentions}
 use Rattle.zk_names.specs.declared.declared.Declared.{Declared as LentDeclared}
 use Rattle.zk_names.specs.declared.ways.Ways.{Ways}
-use Rattle.zk_names.specs.Indexing.{is_marked, items_at, mark_at}
+use Rattle.zk_names.specs.Indexing.{is_marked, mark_at}
 use Rattle.zk_names.specs.Leading.{AreCircles, HasWays, declared_steps, first_or_end, is_circle, is_target, led, meant_circle, meant_steps, settled, steps}
 use Rattle.zk_names.specs.Lent.{declared_lent, declared_of}
 use Rattle.zk_names.proofs.IndexLaws.{get_of_map}

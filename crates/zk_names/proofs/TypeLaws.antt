@@ -1,5 +1,5 @@
 -- The types of records and enums, which a text names by its place, and those of declared types.
-use Rattle.std.proofs.Common.{◌≡◌, ℕ, Bool, true, false, List, Option, Some, Ok, refl, ap, sym, ◌∙◌, subst}
+use Rattle.std.proofs.Common.{◌≡◌, ℕ, Bool, true, false, List, Some, Ok, refl, ap, sym, subst}
 use Rattle.std.specs.List.{list_any}
 use Rattle.zk_tree.specs.declared.name.Name.{Name}
 use Rattle.zk_tree.specs.declared.place.Place.{Place}

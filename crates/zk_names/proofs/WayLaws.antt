@@ -8,7 +8,7 @@ use Rattle.std.specs.Option.{option_map}
 use Rattle.std.specs.Str.{bytes_eq}
 use Rattle.zk_typed.specs.Names.{Declared}
 use Rattle.zk_names.specs.declared.declared.Declared.{Declared as LentDeclared}
-use Rattle.zk_names.specs.Indexing.{first_place, is_marked, items_at, items_of, mark_at}
+use Rattle.zk_names.specs.Indexing.{first_place, items_at, items_of, mark_at}
 use Rattle.zk_names.specs.Leading.{AreSteps, IsBackward, declared_steps, first_or_end, has_name, is_target, settled, steps}
 use Rattle.zk_names.specs.Lent.{declared_lent}
 use Rattle.zk_names.proofs.LeadLaws.{lent_length}

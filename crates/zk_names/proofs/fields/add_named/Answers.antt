@@ -1,4 +1,4 @@
-use Rattle.std.proofs.Common.{ℕ, List, [], ◌++◌, map, Option, Some, subst, sym, if◌then◌else◌}
+use Rattle.std.proofs.Common.{ℕ, [], ◌++◌, map, Option, Some, subst, sym, if◌then◌else◌}
 use Rattle.zk_typed.specs.Resolving.{is_that, type_named}
 use Rattle.zk_names.specs.FieldPlaces.{Hold, field_name, is_among, places_from}
 use Rattle.zk_names.specs.Lent.{home_of}

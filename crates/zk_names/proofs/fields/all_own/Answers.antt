@@ -1,4 +1,4 @@
-use Rattle.std.proofs.Common.{ℕ, List, ◌+◌, length, filter, ap, ◌∙◌}
+use Rattle.std.proofs.Common.{List, ◌+◌, length, filter, ap, ◌∙◌}
 use Rattle.zk_typed.specs.Names.{Node, is_record}
 use Rattle.zk_names.specs.Scripted.{scripts_in}
 use Rattle.zk_names.proofs.FieldPlaceLaws.{hold_own}

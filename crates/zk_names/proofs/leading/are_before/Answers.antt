@@ -1,4 +1,4 @@
-use Rattle.std.proofs.Common.{ℕ, List, ap, ◌∙◌}
+use Rattle.std.proofs.Common.{ℕ, ap, ◌∙◌}
 use Rattle.std.specs.List.{list_all}
 use Rattle.zk_names.specs.Leading.{first_or_end, settled}
 use Rattle.zk_names.specs.Lent.{declared_lent}

@@ -1,4 +1,4 @@
-use Rattle.std.proofs.Common.{◌≡◌, ℕ, true, List, ◌++◌, rules, subst, sym, ◌∙◌}
+use Rattle.std.proofs.Common.{◌≡◌, ℕ, true, List, ◌++◌, rules, subst, sym}
 use Rattle.std.specs.Bool.{beq}
 use Rattle.zk_typed.specs.Names.{is_record}
 use Rattle.zk_names.specs.Lent.{node_of}

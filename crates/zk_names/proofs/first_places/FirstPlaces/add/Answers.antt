@@ -1,4 +1,4 @@
-use Rattle.std.proofs.Common.{rules, arith, sym, ◌∙◌}
+use Rattle.std.proofs.Common.{rules, sym, ◌∙◌}
 use Rattle.std.specs.HashMap.{get}
 use Rattle.zk_names.proofs.PlaceLaws.{with_new, with_old}
 use Rattle.zk_names.proofs.first_places.FirstPlaces.add.Goals as goal

@@ -1,4 +1,4 @@
-use Rattle.std.proofs.Common.{Option, ℕ, length, ap, sym, ◌∙◌}
+use Rattle.std.proofs.Common.{Option, ℕ, length, ap, ◌∙◌}
 use Rattle.std.specs.Option.{unwrap_or}
 use Rattle.zk_names.proofs.PlaceLaws.{counted}
 use Rattle.zk_names.proofs.first_places.FirstPlaces.number.Goals as goal

@@ -1,8 +1,3 @@
-use Rattle.zk_names.specs.declared.kind.Kind.{Kind}
-use Rattle.zk_names.specs.declared.kind.Kind.TheVariants as kind
-use Rattle.std.specs.Str.{bytes_eq}
-use Rattle.zk_names.specs.Lent.{declared_lent}
-use Rattle.zk_names.specs.Numbering.{Stands, names_of}
 use Rattle.zk_names.proofs.PlaceLaws.{all_kinds}
 use Rattle.zk_names.proofs.numbers.Numbers.of.Goals as goal
 

@@ -1,4 +1,4 @@
-use Rattle.std.proofs.Common.{List, Option, slice_get, ap, sym, ◌∙◌}
+use Rattle.std.proofs.Common.{List, slice_get, ap, ◌∙◌}
 use Rattle.std.specs.Option.{option_and_then}
 use Rattle.zk_names.specs.declared.field_places.FieldPlace.{FieldPlace}
 use Rattle.zk_names.specs.FieldPlaces.{field_at}

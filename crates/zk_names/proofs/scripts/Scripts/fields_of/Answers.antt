@@ -1,7 +1,6 @@
-use Rattle.std.proofs.Common.{List, ◌++◌, flat_map, ap, sym, ◌∙◌}
+use Rattle.std.proofs.Common.{List, ◌++◌, flat_map, ap, ◌∙◌}
 use Rattle.zk_typed.specs.Within.{maybe_one}
 use Rattle.zk_names.specs.declared.field.FieldInfo.{FieldInfo as LentField}
-use Rattle.zk_names.specs.declared.field_places.FieldPlace.{FieldPlace}
 use Rattle.zk_names.specs.FieldPlaces.{field_at}
 use Rattle.zk_names.specs.Fields.{fields_lent}
 use Rattle.zk_names.specs.Scripted.{scripts_in}

@@ -1,7 +1,4 @@
-use Rattle.std.proofs.Common.{◌≡◌, ℕ, Bool, true, ◌&&◌, ◌||◌, Some, None, length, Option, unwrap_or, refl, ap, sym, ◌∙◌, arith}
-use Rattle.std.specs.Str.{bytes_eq}
-use Rattle.zk_typed.specs.Names.{Declared}
-use Rattle.zk_names.specs.Indexing.{first_place}
+use Rattle.std.proofs.Common.{◌≡◌, ℕ, length, Option, unwrap_or, ap, sym, ◌∙◌, arith}
 use Rattle.zk_names.specs.Lent.{declared_lent}
 use Rattle.zk_names.proofs.BodyLaws.{named_anywhere}
 use Rattle.zk_names.proofs.LeadLaws.{lent_length}

@@ -69,7 +69,7 @@ fn told_otherwise(alloc: Global, rule: Rule, rows: &[(&[u8], u64)]) -> Result<Op
 }
 
 #[test]
-fn the_first_broken_rule_is_told_at_its_place(rt: HostRuntime) -> Result<(), Fail> {
+fn a_broken_rule_of_names_is_told_at_its_place(rt: HostRuntime) -> Result<(), Fail> {
     let alloc = rt.alloc();
     assert_eq!(rt;
         told_otherwise(alloc, Rule::Unknown, &UNKNOWN)?,
@@ -77,11 +77,6 @@ fn the_first_broken_rule_is_told_at_its_place(rt: HostRuntime) -> Result<(), Fai
         "Unknown"
     );
     assert_eq!(rt; told_otherwise(alloc, Rule::Twice, &TWICE)?, None, "Twice");
-    assert_eq!(rt;
-        told_otherwise(alloc, Rule::WrongType, &WRONG_TYPE)?,
-        None,
-        "WrongType"
-    );
     assert_eq!(rt; told_otherwise(alloc, Rule::Field, &FIELD)?, None, "Field");
     assert_eq!(rt;
         told_otherwise(alloc, Rule::Recursive, &RECURSIVE)?,
@@ -98,6 +93,25 @@ fn the_first_broken_rule_is_told_at_its_place(rt: HostRuntime) -> Result<(), Fai
         None,
         "FixedGlobal"
     );
+    Ok(())
+}
+
+#[test]
+fn a_wrong_type_is_told_at_its_place(rt: HostRuntime) -> Result<(), Fail> {
+    let alloc = rt.alloc();
+    assert_eq!(rt;
+        told_otherwise(alloc, Rule::WrongType, &WRONG_TYPE)?,
+        None,
+        "WrongType"
+    );
+    Ok(())
+}
+
+#[test]
+fn a_broken_rule_of_calls_and_declarations_is_told_at_its_place(
+    rt: HostRuntime,
+) -> Result<(), Fail> {
+    let alloc = rt.alloc();
     assert_eq!(rt;
         told_otherwise(alloc, Rule::Arguments, &ARGUMENTS)?,
         None,

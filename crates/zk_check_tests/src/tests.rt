@@ -1,6 +1,6 @@
 use crate::naming::{RECURSIVE, TWICE, UNKNOWN};
 use crate::right::{ACCEPTED, BLIND, FILES};
-use crate::typing::WRONG_TYPE;
+use crate::typing::{WRONG_OPERANDS, WRONG_VALUES};
 use crate::using::{ARGUMENTS, ATTRIBUTE, BREAK, FIELD, FIXED_GLOBAL, FORMAT, NOT_CONST, RETURN};
 use std::alloc::Global;
 use std::test::Fail;
@@ -97,12 +97,21 @@ fn a_broken_rule_of_names_is_told_at_its_place(rt: HostRuntime) -> Result<(), Fa
 }
 
 #[test]
-fn a_wrong_type_is_told_at_its_place(rt: HostRuntime) -> Result<(), Fail> {
+fn a_value_of_a_wrong_type_is_told_at_its_place(rt: HostRuntime) -> Result<(), Fail> {
     let alloc = rt.alloc();
     assert_eq!(rt;
-        told_otherwise(alloc, Rule::WrongType, &WRONG_TYPE)?,
-        None,
-        "WrongType"
+        told_otherwise(alloc, Rule::WrongType, &WRONG_VALUES)?,
+        None
+    );
+    Ok(())
+}
+
+#[test]
+fn an_operand_of_a_wrong_type_is_told_at_its_place(rt: HostRuntime) -> Result<(), Fail> {
+    let alloc = rt.alloc();
+    assert_eq!(rt;
+        told_otherwise(alloc, Rule::WrongType, &WRONG_OPERANDS)?,
+        None
     );
     Ok(())
 }

@@ -1,7 +1,7 @@
 //! Scripts in which a value has another type than its place asks.
 
-/// Scripts that break the rule `WrongType` first, and the byte at which it is told.
-pub const WRONG_TYPE: [(&[u8], u64); 163] = [
+/// Scripts in which a value, a member or a key breaks the rule `WrongType` first, and the byte at which it is told.
+pub const WRONG_VALUES: [(&[u8], u64); 80] = [
     // A value has another type than its place asks.
     (b"global x: count = \"a\";", 18),
     (b"event zeek_init() { local x: string = 1; }", 38),
@@ -143,6 +143,11 @@ pub const WRONG_TYPE: [(&[u8], u64); 163] = [
         49,
     ),
     (b"global s = set(vector(1));", 11),
+];
+
+/// Scripts in which what is printed, computed, assigned or set breaks the rule `WrongType` first, and the byte at which it
+/// is told.
+pub const WRONG_OPERANDS: [(&[u8], u64); 83] = [
     // What is printed, compared or formatted is atomic or an enum.
     (b"event zeek_init() { local s = set(1); print 1, s; }", 47),
     (b"event zeek_init() { local s = set(1); print s == s; }", 44),

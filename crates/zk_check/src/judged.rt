@@ -14,7 +14,7 @@ ghost use Rattle.zk_check.specs.Judging.{IsJudged};
 use std::alloc::Global;
 use zk_base::Mem;
 use zk_declaration::Source;
-use zk_expression::LocalName;
+use zk_expression::{LocalName, Locals};
 use zk_names::{Home, Names};
 use zk_operator::Wanted;
 use zk_statement::{Context, Within, body_typed};
@@ -51,14 +51,14 @@ fn param_locals<'a>(
     names: &Names<'_>,
     home: Home<'_>,
     params: &'a [Param],
-) -> Result<Vec<LocalName<'a>>, Mem>
-    ensures { IfOk result (λ locals. locals_of locals.items ≡ spec.param_locals (scripts_in names.now) (home_of home.entry) params.entry.now) }
+) -> Result<Locals<'a>, Mem>
+    ensures { IfOk result (λ locals. locals_of locals ≡ spec.param_locals (scripts_in names.now) (home_of home.entry) params.entry.now) }
 {
-    let mut locals = Vec::new(alloc);
+    let mut locals = Locals::new(alloc);
     for param in params {
         let value_type = known_type(alloc, names, home, &param.param_type)?;
         let name = param.name.text.as_slice();
-        locals.push(LocalName { name, value_type })?;
+        locals.add(alloc, LocalName { name, value_type })?;
     }
     Ok(locals)
 }

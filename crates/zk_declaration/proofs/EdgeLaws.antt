@@ -4,7 +4,8 @@ use Rattle.std.proofs.lemmas.List.Folds.{flat_map-map}
 use Rattle.zk_typed.specs.Resolving.{FieldInfo}
 use Rattle.zk_typed.specs.Types.{ValueType}
 use Rattle.zk_declaration.proofs.ListLaws.{flat_turn}
-use Rattle.zk_declaration.specs.Edges.{is_among, kind_of, kinds, only}
+use Rattle.zk_names.specs.FieldPlaces.{is_among}
+use Rattle.zk_declaration.specs.Edges.{kind_of, kinds, only}
 
 only_by : {A : Type 0} (b : Bool) (xs ys : List A) → (if b then xs ++ ys else []) ≡ (if b then xs else []) ++ (if b then ys else [])
 only_by true xs ys = refl

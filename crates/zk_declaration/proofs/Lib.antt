@@ -8,6 +8,14 @@ pub mod AddedLaws
 pub mod ListLaws
 pub mod HeadLaws
 pub mod RoundLaws
+pub mod Staying
+pub mod StayingForms
+pub mod StayingMembers
+pub mod StayingLogs
+pub mod StayingCalls
+pub mod StayingWhole
+pub mod StayingRounds
+pub mod RoundEnds
 pub mod ValueLaws
 pub mod PathLaws
 pub mod UseLaws

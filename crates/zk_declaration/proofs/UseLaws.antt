@@ -29,7 +29,7 @@ use Rattle.zk_names.specs.Leaves.{leaf_of, leaves_lent}
 use Rattle.zk_declaration.specs.declared.logging.StreamPath.{StreamPath}
 use Rattle.zk_declaration.specs.Logging.{log_of, logs_of}
 use Rattle.zk_declaration.specs.Uses.{calls_typed, created_by, created_in, filter_use, if_there, leaves_found, log_form, paths_of, stated_created, stream_path, streams_lent, use_with}
-use Rattle.zk_declaration.proofs.RoundLaws.{get_map}
+use Rattle.zk_declaration.proofs.RoundEnds.{get_map}
 
 -- The call that a typed form is ------------------------------------------------------------------------------------
 

@@ -1,5 +1,5 @@
 -- The fields of record types, as the types to which these lead.
-use Rattle.std.specs.Prelude.{ℕ, ◌==◌, Bool, false, List, [], ◌∷◌, flat_map, map, Option, Some, None, Ok, Err, if◌then◌else◌}
+use Rattle.std.specs.Prelude.{ℕ, ◌==◌, List, [], ◌∷◌, flat_map, map, Ok, Err, if◌then◌else◌}
 use Rattle.zk_typed.specs.Checked.{Checked}
 use Rattle.zk_tree.specs.declared.name.Name.{Name}
 use Rattle.zk_tree.specs.declared.types.Field.{Field}
@@ -12,10 +12,6 @@ use Rattle.zk_declaration.specs.declared.edges.Edge.{Edge}
 -- these at a number
 abbrev pub only : {A : Type 0} → ℕ → ℕ → List A → List A
 only owner number items = if owner == number then items else []
-
-abbrev pub is_among : ℕ → Option ℕ → Bool
-is_among number None = false
-is_among number (Some other) = other == number
 
 abbrev pub edge_at : ℕ → Edge → List ValueType
 edge_at number edge = only edge.owner number (type_of edge.part ∷ [])

@@ -14,6 +14,7 @@ pub mod Grouping
 pub mod Logging
 pub mod Valuing
 pub mod Paths
+pub mod Staying
 pub mod Rounds
 pub mod Uses
 pub mod Valued

@@ -8,11 +8,11 @@ ghost use Rattle.zk_names.specs.Lent.{home_of};
 ghost use Rattle.zk_names.specs.Scripted.{scripts_in};
 ghost use Rattle.zk_declaration.specs.Grounds.{IsGround};
 
+use crate::bodiless::bodiless_expr;
 use crate::globals::is_name;
 use crate::ground::Ground;
 use crate::told::dropped;
 use std::alloc::Global;
-use zk_expression::{Env, expr_typed};
 use zk_names::{Home, place_in};
 use zk_operator::{Attributes, Wanted, attr_rules, constant_typed, field_attribute};
 use zk_tree::{Attr, Expr};
@@ -53,13 +53,16 @@ impl Ground<'_> {
         requires { IsGround self.now }
         ensures { Tells (λ made. made) result (spec.default_typed (spec.env_at (scripts_in self.now.names.now) (home_of home.entry)) (type_of wanted.now) value.now) }
     {
-        let env = Env {
-            scripts: self.source.scripts,
+        let source = self.source;
+        let one = bodiless_expr(
+            self.alloc,
+            source.scripts,
+            source.globals,
             home,
-            locals: &[],
-            globals: self.source.globals,
-        };
-        match expr_typed(self.alloc, &env, Wanted::Type(wanted), value) {
+            Wanted::Type(wanted),
+            value,
+        );
+        match one {
             Ok(_) => constant_typed(self.alloc, home.file, wanted, value),
             Err(refusal) => Err(refusal),
         }

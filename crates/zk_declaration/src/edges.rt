@@ -4,11 +4,11 @@ ghost use Rattle.zk_typed.specs.Resolving as spec;
 ghost use Rattle.zk_names.specs.Fields.{field_of, fields_lent, stated_fields};
 ghost use Rattle.zk_names.specs.Lent.{home_of, stated_lent, stated_of};
 ghost use Rattle.zk_names.specs.Scripted.{scripts_in};
-ghost use Rattle.zk_declaration.specs.Edges.{edges_at, is_among, kind_of, kinds, only, redef_fields};
+ghost use Rattle.zk_declaration.specs.Edges.{edges_at, kind_of, kinds, only, redef_fields};
 
 use std::alloc::Global;
 use zk_base::{Mem, RecordNo};
-use zk_names::{FieldInfo, Home, Names, Stated, record_count};
+use zk_names::{FieldInfo, Home, Names, Stated, named_record, record_count};
 use zk_operator::copied_type;
 use zk_tree::{Decl, Field, Name};
 use zk_typed::Refusal;
@@ -119,26 +119,6 @@ fn add_fields(
         add_field(alloc, names, home, owner, field, edges)?;
     }
     Ok(())
-}
-
-/// The number of the record type that a name names.
-pub fn named_record(
-    alloc: Global,
-    names: &Names<'_>,
-    home: Home<'_>,
-    name: &Name,
-) -> Result<Option<u32>, Mem>
-    ensures { IfOk result (λ found. (number : ℕ) → spec.is_that number (spec.type_named (scripts_in names.now) (home_of home.entry) name.now) ≡ is_among number found) }
-{
-    match names.type_named(alloc, home, name) {
-        Ok(ValueType::Record(number)) => Ok(Some(number.0)),
-        Ok(ValueType::Simple(_))
-        | Ok(ValueType::Table { .. })
-        | Ok(ValueType::Set { .. })
-        | Ok(ValueType::Vector { .. }) => Ok(None),
-        Err(Refusal::Broken(_)) => Ok(None),
-        Err(Refusal::NoMemory) => Err(Mem),
-    }
 }
 
 /// Adds the fields that `redef record` adds.

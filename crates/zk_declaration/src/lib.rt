@@ -1,6 +1,7 @@
 //! Checks declarations: the rules that rest on no body of a function, handler or hook.
 #![tactic(auto)]
 
+mod bodiless;
 mod defaults;
 mod edges;
 mod fields;
@@ -10,7 +11,9 @@ mod groups;
 mod heads;
 mod heights;
 mod logging;
+mod mentions;
 mod naming;
+mod order;
 mod paths;
 mod records;
 mod redefs;

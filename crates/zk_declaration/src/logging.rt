@@ -11,12 +11,13 @@ ghost use Rattle.zk_declaration.specs.Sources.{IsSource, scripts_from};
 ghost use Rattle.zk_declaration.specs.Uses.{created_by, created_in, if_there, log_form, log_primitive, means_log, paths_of, stated_created, streams_lent, use_with};
 ghost use Rattle.zk_declaration.specs.Paths.{use_of, uses_lent};
 
+use crate::bodiless::bodiless_expr;
 use crate::paths::{PathUse, copied_leaf};
 use crate::source::Source;
 use sqlite_items::at;
 use std::alloc::Global;
 use zk_base::{Bytes, LogId, Mem};
-use zk_expression::{Env, called_name, expr_typed};
+use zk_expression::called_name;
 use zk_names::{Call, Declared, Leaf, Meant, Stated, decl_calls};
 use zk_operator::Wanted;
 use zk_tree::Expr;
@@ -124,13 +125,15 @@ pub fn log_call(source: &Source<'_>, call: &Call<'_>) -> Result<Option<LogCall>,
     if !may_log(source, call)? {
         return Ok(None);
     }
-    let env = Env {
-        scripts: source.scripts,
-        home: call.home,
-        locals: &[],
-        globals: source.globals,
-    };
-    match expr_typed(source.alloc, &env, Wanted::Nothing, call.whole) {
+    let one = bodiless_expr(
+        source.alloc,
+        source.scripts,
+        source.globals,
+        call.home,
+        Wanted::Nothing,
+        call.whole,
+    );
+    match one {
         Ok(one) => Ok(log_form(one.expr)),
         Err(Refusal::Broken(_)) => Ok(None),
         Err(Refusal::NoMemory) => Err(Mem),

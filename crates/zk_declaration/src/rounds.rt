@@ -1,20 +1,23 @@
-ghost use Rattle.std.specs.Prelude.{◌≡◌, ◌+◌, ℕ, Some, map, filter, false, IfOk};
+ghost use Rattle.std.specs.Prelude.{◌≡◌, ℕ, [], ◌∷◌, ◌++◌, Some, map, filter, slice_get, if◌then◌else◌, IfOk, OnOk};
 ghost use Rattle.std.specs.Bool.{OnTrue};
 ghost use Rattle.zk_typed.specs.Checked.{Checked};
 ghost use Rattle.zk_typed.specs.Declarations as spec;
 ghost use Rattle.zk_typed.specs.Resolving as resolving;
 ghost use Rattle.zk_typed.specs.Tells.{Tells};
-ghost use Rattle.zk_typed.specs.Types as typed;
 ghost use Rattle.zk_typed.specs.Typing as typing;
+ghost use Rattle.zk_names.specs.Indexing.{passing};
 ghost use Rattle.zk_names.specs.Lent.{declared_lent, declared_of, home_of};
 ghost use Rattle.zk_names.specs.Scripted.{scripts_in};
 ghost use Rattle.zk_operator.specs.Views.{typed_of};
 ghost use Rattle.zk_expression.specs.Envs.{global_of, globals_at};
-ghost use Rattle.zk_declaration.specs.Rounds.{IsGlobals, IsRound, by_init, filled};
+ghost use Rattle.zk_declaration.specs.Rounds.{IsAfter, IsGlobals, by_init, filled, types_at};
 
+use crate::bodiless::bodiless_init;
+use crate::order::order_of;
+use sqlite_items::at;
 use std::alloc::Global;
 use zk_base::Mem;
-use zk_expression::{Env, GlobalType, Globals, init_typed};
+use zk_expression::{GlobalType, Globals};
 use zk_names::{Declared, Home, Kind, Meant, Scripts};
 use zk_operator::{Typed, Wanted, copied_type, same_type};
 use zk_tree::{Init, Type};
@@ -91,33 +94,19 @@ fn by_init(
     ensures { IfOk result (λ made. global_of made ≡ by_init (scripts_in scripts.now.names) (globals_at globals.entry) (home_of home.entry) init.now) }
 {
     match init {
-        Some(init) => {
-            let env = Env {
-                scripts,
-                home,
-                locals: &[],
-                globals,
-            };
-            marked(init_typed(alloc, &env, Wanted::Nothing, init))
-        }
+        Some(init) => marked(bodiless_init(alloc, scripts, globals, home, Wanted::Nothing, init)),
         None => Ok(GlobalType::Unknown),
     }
 }
 
-/// A copy of a type of a global.
-fn copied(alloc: Global, one: &GlobalType) -> Result<GlobalType, Mem>
-    ensures { IfOk result (λ copy. global_of copy ≡ global_of one.now) }
-{
-    match one {
-        GlobalType::Known(one) => Ok(GlobalType::Known(copied_type(alloc, one)?)),
-        GlobalType::Unknown => Ok(GlobalType::Unknown),
-        GlobalType::Circular => Ok(GlobalType::Circular),
-    }
-}
-
-/// The type of a global before the type of any other is told.
-fn first_type(alloc: Global, scripts: &Scripts<'_>, one: &Declared<'_>) -> Result<GlobalType, Mem>
-    ensures { IfOk result (λ made. global_of made ≡ spec.variable_type (scripts_in scripts.now.names) (λ number. spec.circular) (Some (declared_of one.now))) }
+/// The type of a global, by those of the others.
+fn variable_type(
+    alloc: Global,
+    scripts: &Scripts<'_>,
+    globals: Globals<'_>,
+    one: &Declared<'_>,
+) -> Result<GlobalType, Mem>
+    ensures { IfOk result (λ made. global_of made ≡ spec.variable_type (scripts_in scripts.now.names) (globals_at globals.entry) (Some (declared_of one.now))) }
 {
     match &one.meant {
         Meant::Variable {
@@ -128,45 +117,6 @@ fn first_type(alloc: Global, scripts: &Scripts<'_>, one: &Declared<'_>) -> Resul
             attrs: _,
         } => match tree {
             Some(tree) => by_type(alloc, scripts, *home, tree),
-            None => {
-                let globals = Globals {
-                    types: &[],
-                    circular: true,
-                };
-                by_init(alloc, scripts, globals, *home, init)
-            }
-        },
-        Meant::KnownType { .. }
-        | Meant::WrittenType { .. }
-        | Meant::Word { .. }
-        | Meant::Event { .. }
-        | Meant::Hook { .. }
-        | Meant::Function { .. }
-        | Meant::BuiltInFunction { .. }
-        | Meant::Log { .. } => Ok(GlobalType::Unknown),
-    }
-}
-
-/// The type of a global by those of the others, and by what it was before. What is written stays.
-fn next_type(
-    alloc: Global,
-    scripts: &Scripts<'_>,
-    globals: Globals<'_>,
-    before: &GlobalType,
-    one: &Declared<'_>,
-) -> Result<GlobalType, Mem>
-    ensures { IfOk result (λ made. (others : ℕ → Checked typed.ValueType) → global_of before.now ≡ spec.variable_type (scripts_in scripts.now.names) others (Some (declared_of one.now))
-        → global_of made ≡ spec.variable_type (scripts_in scripts.now.names) (globals_at globals.entry) (Some (declared_of one.now))) }
-{
-    match &one.meant {
-        Meant::Variable {
-            home,
-            lasting: _,
-            tree,
-            init,
-            attrs: _,
-        } => match tree {
-            Some(_) => copied(alloc, before),
             None => by_init(alloc, scripts, globals, *home, init),
         },
         Meant::KnownType { .. }
@@ -180,63 +130,126 @@ fn next_type(
     }
 }
 
-/// The types of the globals among names, before the type of any is told.
-fn first_types(
-    alloc: Global,
-    scripts: &Scripts<'_>,
-    declared: &[Declared<'_>],
-) -> Result<Vec<GlobalType>, Mem>
-    ensures { IfOk result (λ types. map global_of types.items ≡ filled (scripts_in scripts.now.names) (λ number. spec.circular) (filter typing.is_variable (declared_lent declared.now))) }
+/// Adds the place of a global or a constant.
+fn add_place(one: &Declared<'_>, place: usize, places: &mut Vec<usize>) -> Result<(), Mem>
+    ensures { OnOk result (places.new.items ≡ places.old.items ++ (if typing.is_variable (declared_of one.now) then place ∷ [] else [])) }
 {
-    let mut types = Vec::new(alloc);
-    for one in declared {
-        if Kind::Variable.is_of(one) {
-            let made = first_type(alloc, scripts, one)?;
-            types.push(made)?;
-        }
+    if Kind::Variable.is_of(one) {
+        places.push(place)?;
+        return Ok(());
     }
-    Ok(types)
+    Ok(())
 }
 
-/// The types of the globals among names, by those of all and by what they were before.
-fn next_types(
+/// Where the globals and constants stand among names, by their numbers.
+fn places_of(alloc: Global, declared: &[Declared<'_>]) -> Result<Vec<usize>, Mem>
+    ensures { IfOk result (λ places. places.items ≡ passing typing.is_variable (declared_lent declared.now)) }
+{
+    let mut places = Vec::new(alloc);
+    for (place, one) in declared.iter().enumerate() {
+        add_place(one, place, &mut places)?;
+    }
+    Ok(places)
+}
+
+/// The types of all globals, by those that they had.
+fn types_by(
     alloc: Global,
     scripts: &Scripts<'_>,
     globals: Globals<'_>,
-    before: &[GlobalType],
     declared: &[Declared<'_>],
 ) -> Result<Vec<GlobalType>, Mem>
-    ensures { IfOk result (λ types. (others : ℕ → Checked typed.ValueType) → map global_of before.now ≡ filled (scripts_in scripts.now.names) others (filter typing.is_variable (declared_lent declared.now))
-        → map global_of types.items ≡ filled (scripts_in scripts.now.names) (globals_at globals.entry) (filter typing.is_variable (declared_lent declared.now))) }
+    ensures { IfOk result (λ types. map global_of types.items ≡ filled (scripts_in scripts.now.names) (globals_at globals.entry) (filter typing.is_variable (declared_lent declared.now))) }
 {
     let mut types = Vec::new(alloc);
-    let mut left = before;
     for one in declared {
         if Kind::Variable.is_of(one) {
-            let Some((was, others)) = left.split_first() else {
-                return Err(Mem);
-            };
-            let made = next_type(alloc, scripts, globals, was, one)?;
+            let made = variable_type(alloc, scripts, globals, one)?;
             types.push(made)?;
-            left = others;
         }
     }
     Ok(types)
 }
 
-/// The types of the globals after a round more.
+/// The types of all globals before the type of any is told.
+fn first_types(alloc: Global, scripts: &Scripts<'_>) -> Result<Vec<GlobalType>, Mem>
+    ensures { IfOk result (λ types. IsAfter (scripts_in scripts.now.names) 0 types.items) }
+{
+    let globals = Globals {
+        types: &[],
+        circular: true,
+    };
+    types_by(alloc, scripts, globals, scripts.names.declared())
+}
+
+/// The types of all globals after a round more.
 fn round(
     alloc: Global,
     scripts: &Scripts<'_>,
     before: &[GlobalType],
 ) -> Result<Vec<GlobalType>, Mem>
-    ensures { IfOk result (λ types. (round : ℕ) → IsRound (scripts_in scripts.now.names) round before.now → IsRound (scripts_in scripts.now.names) (round + 1) types.items) }
+    ensures { IfOk result (λ types. map global_of types.items ≡ filled (scripts_in scripts.now.names) (types_at (map global_of before.now)) (spec.variables (scripts_in scripts.now.names))) }
 {
     let globals = Globals {
         types: before,
         circular: false,
     };
-    next_types(alloc, scripts, globals, before, scripts.names.declared())
+    types_by(alloc, scripts, globals, scripts.names.declared())
+}
+
+/// The type of the name at a place, by those that the globals have so far.
+fn told_at(
+    alloc: Global,
+    scripts: &Scripts<'_>,
+    types: &[GlobalType],
+    place: usize,
+) -> Result<GlobalType, Mem>
+    ensures { IfOk result (λ made. global_of made ≡ spec.variable_type (scripts_in scripts.now.names) (types_at (map global_of types.now)) (slice_get (scripts_in scripts.now.names).names place)) }
+{
+    let globals = Globals {
+        types,
+        circular: false,
+    };
+    match at(scripts.names.declared(), place) {
+        Some(one) => variable_type(alloc, scripts, globals, one),
+        None => Ok(GlobalType::Unknown),
+    }
+}
+
+/// Tells the type of one global, by those that the others have so far.
+fn tell(
+    alloc: Global,
+    scripts: &Scripts<'_>,
+    places: &[usize],
+    number: usize,
+    types: &mut Vec<GlobalType>,
+) -> Result<(), Mem>
+    ensures { OnOk result ((round : ℕ) → places.now ≡ passing typing.is_variable (scripts_in scripts.now.names).names
+        → IsAfter (scripts_in scripts.now.names) round types.old.items → IsAfter (scripts_in scripts.now.names) round types.new.items) }
+{
+    if number >= places.len() || number >= types.len() {
+        return Ok(());
+    }
+    let made = told_at(alloc, scripts, types.as_slice(), places[number])?;
+    types[number] = made;
+    Ok(())
+}
+
+/// Tells the types of those globals that wait for others, each behind those that its initial value names.
+fn tell_in_order(
+    alloc: Global,
+    scripts: &Scripts<'_>,
+    places: &[usize],
+    types: &mut Vec<GlobalType>,
+) -> Result<(), Mem>
+    ensures { OnOk result ((round : ℕ) → places.now ≡ passing typing.is_variable (scripts_in scripts.now.names).names
+        → IsAfter (scripts_in scripts.now.names) round types.old.items → IsAfter (scripts_in scripts.now.names) round types.new.items) }
+{
+    let order = order_of(alloc, scripts, places, types.as_slice())?;
+    for number in order.as_slice() {
+        tell(alloc, scripts, places, *number, types)?;
+    }
+    Ok(())
 }
 
 /// Whether two types of globals are the same.
@@ -279,15 +292,16 @@ fn same_globals(a: &[GlobalType], b: &[GlobalType]) -> bool
 }
 
 /// The types of the globals and constants, by their numbers. That of an initial value is told by those of the
-/// globals that it names, so they are told round after round until nothing changes. No way from one
-/// initial value to the next is longer than there are globals.
+/// globals that it names: first by those that come before it in an order of these names, and then round after
+/// round until nothing changes. No way from one initial value to the next is longer than there are globals.
 pub fn told_types(alloc: Global, scripts: &Scripts<'_>) -> Result<Vec<GlobalType>, Mem>
     ensures { IfOk result (λ types. IsGlobals types.items (spec.told_type (scripts_in scripts.now.names))) }
 {
-    let mut types = first_types(alloc, scripts, scripts.names.declared())?;
-    let count = types.len();
-    for at in 0..count {
+    let places = places_of(alloc, scripts.names.declared())?;
+    let mut types = first_types(alloc, scripts)?;
+    for at in 0..places.len() {
         let _ = at;
+        tell_in_order(alloc, scripts, &places, &mut types)?;
         let next = round(alloc, scripts, &types)?;
         if same_globals(&types, &next) {
             return Ok(types);

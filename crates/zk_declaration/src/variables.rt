@@ -12,13 +12,14 @@ ghost use Rattle.zk_names.specs.Scripted.{scripts_in};
 ghost use Rattle.zk_operator.specs.Views.{typed_of, wanted_in};
 ghost use Rattle.zk_declaration.specs.Valued.{IsValued, global_rules, inferred, place_of_init, variable_rules, written, written_with};
 
+use crate::bodiless::bodiless_init;
 use crate::ground::Ground;
 use crate::rounds::{is_circular, is_mark};
 use crate::told::dropped;
 use sqlite_items::Items;
 use std::alloc::Global;
 use zk_base::Mem;
-use zk_expression::{Env, Globals, init_typed, refused};
+use zk_expression::{Globals, refused};
 use zk_names::{Declared, Home, Meant, Scripts, Signature, place_in};
 use zk_operator::{Typed, Wanted, also, signature_attrs};
 use zk_tree::{Attr, Init, Lasting, Place, Type};
@@ -98,13 +99,14 @@ impl Valued<'_> {
         requires { IsValued self.now }
         ensures { Tells typed_of result (spec.telling_value (scripts_in self.now.ground.names.now) (home_of home.entry) init.now) }
     {
-        let env = Env {
-            scripts: self.scripts,
+        let one = bodiless_init(
+            self.ground.alloc,
+            self.scripts,
+            self.told,
             home,
-            locals: &[],
-            globals: self.told,
-        };
-        let one = init_typed(self.ground.alloc, &env, Wanted::Nothing, init);
+            Wanted::Nothing,
+            init,
+        );
         told(self.ground.alloc, init_place(home, init), one)
     }
 
@@ -118,13 +120,14 @@ impl Valued<'_> {
         requires { IsValued self.now }
         ensures { Tells typed_of result (spec.init_checked (scripts_in self.now.ground.names.now) (home_of home.entry) (wanted_in wanted.entry) init.now) }
     {
-        let env = Env {
-            scripts: self.scripts,
+        bodiless_init(
+            self.ground.alloc,
+            self.scripts,
+            self.known,
             home,
-            locals: &[],
-            globals: self.known,
-        };
-        init_typed(self.ground.alloc, &env, wanted, init)
+            wanted,
+            init,
+        )
     }
 
     /// An initial value where the type of a declaration is wanted.

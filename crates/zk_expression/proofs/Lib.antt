@@ -8,6 +8,7 @@ pub mod FoundFields
 pub mod GivenLaws
 pub mod KeyLaws
 pub mod Leftovers
+pub mod LocalLaws
 pub mod LogLaws
 pub mod MarkLaws
 pub mod Matching

@@ -42,6 +42,11 @@ local_found one = (one.0, (local_of one.1.now).type)
 abbrev pub locals_of : List LentLocal → List LocalName
 locals_of locals = map local_of locals
 
+-- those that are visible, which are none outside a body
+abbrev pub visible : Option (Bor (List LentLocal)) → List LocalName
+visible None = []
+visible (Some locals) = locals_of locals.now
+
 abbrev pub global_of : RustGlobal → Checked ValueType
 global_of (global.Known one) = Ok (type_of one)
 global_of global.Unknown = elsewhere
@@ -59,7 +64,7 @@ abbrev pub env_of : LentEnv → Env
 env_of env = record {
   scripts = scripts_in env.scripts.now.names;
   home = home_of env.home;
-  locals = locals_of env.locals.now;
+  locals = visible env.locals;
   global_type = globals_at env.globals;
 }
 

@@ -2,6 +2,7 @@ pub mod Calls
 pub mod Envs
 pub mod Fields
 pub mod Judging
+pub mod Locals
 pub mod LogSettings
 pub mod Marks
 pub mod Members

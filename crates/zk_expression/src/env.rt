@@ -1,5 +1,6 @@
 ghost use Rattle.std.specs.Prelude.{◌≡◌};
 
+use crate::locals::Locals;
 use zk_names::{Home, Scripts};
 use zk_tree::{Expr, Place};
 use zk_typed::script::ValueType;
@@ -35,8 +36,8 @@ pub struct Globals<'a> {
 pub struct Env<'a> {
     pub scripts: &'a Scripts<'a>,
     pub home: Home<'a>,
-    /// The parameters and locals that are visible, by their numbers.
-    pub locals: &'a [LocalName<'a>],
+    /// The parameters and locals that are visible, in a body.
+    pub locals: Option<&'a Locals<'a>>,
     pub globals: Globals<'a>,
 }
 

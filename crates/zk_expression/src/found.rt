@@ -22,7 +22,7 @@ pub enum Found<'a> {
 pub fn look_up<'a>(alloc: Global, env: &Env<'a>, name: &Name) -> Result<Found<'a>, Mem>
     ensures { IfOk result (λ found. found_of (env_of env.now) name.now found ≡ spec.found (env_of env.now) name.now) }
 {
-    if local_meant(env.locals, name.text.as_slice())?.is_some() {
+    if local_meant(alloc, env.locals, name.text.as_slice())?.is_some() {
         return Ok(Found::Local);
     }
     let declared = env

@@ -112,7 +112,7 @@ fn is_fixed(lasting: Lasting) -> bool
 fn name_side(alloc: Global, env: &Env<'_>, name: &Name) -> Result<Side, Refusal>
     ensures { Tells side_of result (rules.name_side (env_of env.now) name.now (spec.local_meant name.now.text (env_of env.now).locals)) }
 {
-    match local_meant(env.locals, name.text.as_slice())? {
+    match local_meant(alloc, env.locals, name.text.as_slice())? {
         Some((number, local)) => local_side(alloc, number, &local.value_type),
         None => {
             let found = env

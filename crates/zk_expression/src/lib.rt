@@ -18,6 +18,7 @@ mod forms;
 mod found;
 mod judge;
 mod lefts;
+mod locals;
 mod log;
 mod log_columns;
 mod log_made;
@@ -43,7 +44,8 @@ pub use expr::expr_to;
 pub use fields::{Read, is_wire, wire_read};
 pub use found::{Found, look_up};
 pub use judge::Judge;
-pub use names::{local_meant, local_named, name_typed};
+pub use locals::Locals;
+pub use names::{local_meant, name_typed};
 pub use refuse::refused;
 pub use side::{Side, assignable};
 pub use whole::{

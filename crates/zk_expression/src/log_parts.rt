@@ -45,7 +45,7 @@ fn not_local(alloc: Global, env: &Env<'_>, one: &Expr) -> Result<(), Refusal>
 {
     match one {
         Expr::Name { name } => {
-            if local_meant(env.locals, name.text.as_slice())?.is_some() {
+            if local_meant(alloc, env.locals, name.text.as_slice())?.is_some() {
                 let place = env.expr_place(one);
                 return Err(Refusal::Broken(one_broken(alloc, Rule::WrongType, place)?));
             }

@@ -7,10 +7,11 @@ ghost use Rattle.zk_typed.specs.Forms as form;
 ghost use Rattle.zk_typed.specs.Tells.{Tells};
 ghost use Rattle.zk_typed.specs.Typing as spec;
 ghost use Rattle.zk_typed.specs.View.{type_of};
-ghost use Rattle.zk_expression.specs.Envs.{env_of, local_found, locals_of, global_of, globals_at, known_or};
+ghost use Rattle.zk_expression.specs.Envs.{env_of, local_found, global_of, globals_at, known_or, visible};
 ghost use Rattle.zk_expression.specs.Parts.{and_then};
 
 use crate::env::{Env, GlobalType, Globals, LocalName};
+use crate::locals::Locals;
 use sqlite_items::{Items, at};
 use std::alloc::Global;
 use zk_base::{Bytes, Mem};
@@ -20,35 +21,21 @@ use zk_tree::{Name, Place};
 use zk_typed::script::{Expr, Literal, SimpleType, ValueType};
 use zk_typed::{Refusal, Rule, one_broken};
 
-/// The local of a name among some, and its number. More locals than numbers are more than memory holds.
-pub fn local_named<'a>(
-    locals: &'a [LocalName<'a>],
-    name: &[u8],
-) -> Result<Option<(u32, &'a LocalName<'a>)>, Mem>
-    ensures { IfOk result (λ found. option_map local_found found ≡ spec.local_named name.now 0 (locals_of locals.entry.now)) }
-{
-    for (number, local) in locals.iter().enumerate() {
-        if local.name == name {
-            return match u32::try_from(number) {
-                Ok(number) => Ok(Some((number, local))),
-                Err(_) => Err(Mem),
-            };
-        }
-    }
-    Ok(None)
-}
-
 /// The local that a name means, and its number: a name with `::` is one of a module's.
 pub fn local_meant<'a>(
-    locals: &'a [LocalName<'a>],
+    alloc: Global,
+    locals: Option<&'a Locals<'a>>,
     name: &[u8],
 ) -> Result<Option<(u32, &'a LocalName<'a>)>, Mem>
-    ensures { IfOk result (λ found. option_map local_found found ≡ spec.local_meant name.now (locals_of locals.entry.now)) }
+    ensures { IfOk result (λ found. option_map local_found found ≡ spec.local_meant name.now (visible locals.entry)) }
 {
     if has_module(name) {
         return Ok(None);
     }
-    local_named(locals, name)
+    match locals {
+        Some(locals) => locals.named(alloc, name),
+        None => Ok(None),
+    }
 }
 
 /// The value of a local.
@@ -151,7 +138,7 @@ fn declared_value(
 pub fn name_typed(alloc: Global, env: &Env<'_>, name: &Name) -> Result<Typed, Refusal>
     ensures { Tells typed_of result (spec.name_typed (env_of env.now) name.now) }
 {
-    match local_meant(env.locals, name.text.as_slice())? {
+    match local_meant(alloc, env.locals, name.text.as_slice())? {
         Some((number, local)) => local_value(alloc, number, &local.value_type),
         None => {
             let found = env

@@ -10,7 +10,6 @@ use Rattle.zk_base.specs.declared.time.Moment.{Moment}
 use Rattle.zk_tree.specs.Store as object
 use Rattle.zk_tree.specs.Store.{Object, Store}
 use Rattle.zk_tree.specs.Table as table
-use Rattle.zk_tree.specs.Table.{first_due}
 use Rattle.zk_typed.specs.Does.{named}
 use Rattle.zk_typed.specs.Running as typed
 use Rattle.zk_typed.specs.State.{World}
@@ -231,8 +230,11 @@ first-turn store at number first = by (turn_in store (Some number)) refl (sym (d
         (turn.1, e ∙ ap (λ (m : Moment). let t : Moment × ℕ = (m, turn.1) in Some t) moment)
 
 module _ (world : World) (at : Moment) (object : ObjectNo) (global order : ℕ) (first : IsFirst world.store at object.0)
-    (names : object_of world.globals global ≡ Some object) (turn_is : turn_in world.store (Some object) ≡ Some (at, order))
-    (rises : (other : ℕ) (later : ObjectNo) (turn : Moment × ℕ) → object_of world.globals other ≡ Some later → object.0 ≤ later.0 → due_at world.store later.0 ≡ Some turn → global ≤ other) where
+    (names : object_of world.globals global ≡ Some object) (turn_is : turn_in world.store (Some object) ≡ Some (at, order)) where
+  -- where another global names a later table that is due, it is a later one
+  abbrev Rising : ℕ → Type 0
+  Rising other = (later : ObjectNo) (turn : Moment × ℕ) → object_of world.globals other ≡ Some later → object.0 ≤ later.0 → due_at world.store later.0 ≡ Some turn → global ≤ other
+
   -- the first entry of the global's table
   abbrev one : Due
   one = record { at = at; what = kind.Entry global order }
@@ -259,40 +261,40 @@ module _ (world : World) (at : Moment) (object : ObjectNo) (global order : ℕ) 
   same_turn turn o first second = cc
 
   -- that of another global is not before it
-  later : (other : ℕ) (number : ObjectNo) (turn : Moment × ℕ) → object_named (named world.globals other) ≡ Some number → turn_in world.store (Some number) ≡ Some turn
+  later : (other : ℕ) (number : ObjectNo) (turn : Moment × ℕ) → Rising other → object_named (named world.globals other) ≡ Some number → turn_in world.store (Some number) ≡ Some turn
       → is_before (record { at = turn.0; what = kind.Entry other turn.1 }) one ≡ false
-  later other number turn is there =
+  later other number turn rises is there =
       let due : due_at world.store number.0 ≡ Some (turn.0, number.0) =
       due-turn world.store number ∙ ap (option_map (λ (turn : Moment × ℕ). let t : Moment × ℕ = (turn.0, number.0) in t)) there in
       not_before turn.0.0 at.0 number.0 object.0 other global turn.1 order
       (first.least number.0 (turn.0, number.0) due)
-      (λ above. rises other number (turn.0, number.0) is above due)
+      (λ above. rises number (turn.0, number.0) is above due)
       (λ here. ap (λ (turn : Moment × ℕ). turn.1) (same_turn turn (turn_in world.store (Some number)) there
       (ap (λ n. turn_in world.store (Some n)) (same_object number object (object_named (named world.globals other)) is (ap (λ n. object_named (named world.globals n)) here ∙ names))
       ∙ turn_is)))
 
-  of_turn : (other : ℕ) (number : ObjectNo) → object_named (named world.globals other) ≡ Some number → (o : Option (Moment × ℕ)) → turn_in world.store (Some number) ≡ o
+  of_turn : (other : ℕ) (number : ObjectNo) → Rising other → object_named (named world.globals other) ≡ Some number → (o : Option (Moment × ℕ)) → turn_in world.store (Some number) ≡ o
       → Each (λ (due : Due). is_before due one ≡ false) (entry_due other o)
-  of_turn other number is None there = tt
-  of_turn other number is (Some turn) there = (later other number turn is there, tt)
+  of_turn other number rises is None there = tt
+  of_turn other number rises is (Some turn) there = (later other number turn rises is there, tt)
 
-  of_global : (other : ℕ) (o : Option ObjectNo) → object_named (named world.globals other) ≡ o → Each (λ (due : Due). is_before due one ≡ false) (entry_due other (turn_in world.store o))
-  of_global other None is = tt
-  of_global other (Some number) is = of_turn other number is (turn_in world.store (Some number)) refl
+  of_global : (other : ℕ) (o : Option ObjectNo) → Rising other → object_named (named world.globals other) ≡ o → Each (λ (due : Due). is_before due one ≡ false) (entry_due other (turn_in world.store o))
+  of_global other None rises is = tt
+  of_global other (Some number) rises is = of_turn other number rises is (turn_in world.store (Some number)) refl
 
-  past : (list : List ℕ) → Each (λ (due : Due). is_before due one ≡ false) (entry_dues world list)
-  past [] = tt
-  past (other ∷ list) = each-append (λ (due : Due). is_before due one ≡ false) (entry_due other (turn_in world.store (object_named (named world.globals other)))) (entry_dues world list)
-      (of_global other (object_named (named world.globals other)) refl) (past list)
+  past : (list : List ℕ) → ((place other : ℕ) → slice_get list place ≡ Some other → Rising other) → Each (λ (due : Due). is_before due one ≡ false) (entry_dues world list)
+  past [] all = tt
+  past (other ∷ list) all = each-append (λ (due : Due). is_before due one ≡ false) (entry_due other (turn_in world.store (object_named (named world.globals other)))) (entry_dues world list)
+      (of_global other (object_named (named world.globals other)) (all 0 other refl) refl) (past list (λ place one is. all (suc place) one is))
 
-  first_is : (globals : List ℕ) (more : List Due) (place : ℕ) → slice_get globals place ≡ Some global
+  first_is : (globals : List ℕ) (more : List Due) (place : ℕ) → ((place other : ℕ) → slice_get globals place ≡ Some other → Rising other) → slice_get globals place ≡ Some global
       → first_of (entry_due global (turn_in world.store (object_named (named world.globals global))) ++ more) ≡ first_of (entry_dues world globals ++ more)
-  first_is globals more place among =
-      ap (λ turn. first_of (entry_due global turn ++ more)) own ∙ sym (first_of-least one (entry_dues world globals) more (within globals place among) (past globals))
+  first_is globals more place all among =
+      ap (λ turn. first_of (entry_due global turn ++ more)) own ∙ sym (first_of-least one (entry_dues world globals) more (within globals place among) (past globals all))
 
 -- Where the index leads to a global, its entry is the first of all entries.
 pub led : (world : World) (globals : List ℕ) (more : List Due) (at : Moment) (object : ObjectNo) (global : ℕ) → IsFirst world.store at object.0 → Leads world globals global object.0
     → first_of (entry_due global (turn_in world.store (object_named (named world.globals global))) ++ more) ≡ first_of (entry_dues world globals ++ more)
 led world globals more at object global first leads =
     let turn = first-turn world.store at object first in
-    first_is world at object global turn.0 first leads.names turn.1 leads.first globals more leads.among.0 leads.among.1
+    first_is world at object global turn.0 first leads.names turn.1 globals more leads.among.0 leads.first leads.among.1

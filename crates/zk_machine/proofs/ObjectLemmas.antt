@@ -4,7 +4,7 @@ use Rattle.zk_base.specs.declared.numbers.ObjectNo.{ObjectNo}
 use Rattle.zk_base.specs.declared.time.Moment.{Moment}
 use Rattle.zk_tree.specs.declared.place.Place.{Place}
 use Rattle.zk_tree.specs.Store as object
-use Rattle.zk_tree.specs.Store.{Object, Store}
+use Rattle.zk_tree.specs.Store.{Object}
 use Rattle.zk_tree.specs.Table.{Table}
 use Rattle.zk_tree.specs.Value as plain
 use Rattle.zk_tree.specs.Value.{Value}

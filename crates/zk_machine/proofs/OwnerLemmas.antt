@@ -1,5 +1,5 @@
 -- The globals that name objects, and those that are noted.
-use Rattle.std.proofs.Common.{◌≡◌, ℕ, zero, suc, ◌-◌, ◌<◌, ◌≤◌, ⊎_elim, List, [], ◌∷◌, ◌++◌, length, get_or, slice_get, slice_set, replicate, Option, Some, None, Result, Ok, Err, refl, sym, ap, subst, ◌∙◌, arith}
+use Rattle.std.proofs.Common.{◌≡◌, ℕ, Bool, true, false, zero, suc, ◌-◌, ◌<◌, ◌≤◌, ⊎_elim, List, [], ◌∷◌, ◌++◌, length, get_or, slice_get, slice_set, replicate, Option, Some, None, Result, Ok, Err, refl, sym, ap, subst, ◌∙◌, arith}
 use Rattle.std.specs.Prelude.{IfSome}
 use Rattle.std.specs.List.Sorted.{IsBinarySearchResult, IsSearchInRange}
 use Rattle.std.specs.Option.{option_map}
@@ -8,11 +8,10 @@ use Rattle.std.specs.Result.{result_ok}
 use Rattle.std.proofs.lemmas.Bool.{cases_eq, cases_lt}
 use Rattle.std.proofs.lemmas.Option.{slice_get-get_or, slice_get_within}
 use Rattle.zk_base.specs.declared.numbers.ObjectNo.{ObjectNo}
-use Rattle.zk_table.proofs.TurnLemmas.{slice_get-push_other, slice_get-push_same, slice_get-set_other, slice_get-set_same}
+use Rattle.zk_table.proofs.TurnLemmas.{slice_get-push_other, slice_get-push_same}
 use Rattle.zk_tree.specs.Value.{Value}
-use Rattle.zk_typed.specs.Does.{named}
 use Rattle.zk_machine.specs.Entries.{object_named}
-use Rattle.zk_machine.specs.Owners.{AreNoted, IsNoted, IsOwner, Rises, RisesTo, object_of}
+use Rattle.zk_machine.specs.Owners.{AllExpire, AreNoted, IsNoted, IsOwner, IsSeen, NotedBelow, Rises, RisesTo, each_global, expires_in, object_of}
 use Rattle.zk_machine.specs.declared.globals.Owner.{Owner}
 use Rattle.zk_machine.proofs.DefaultLemmas.{equal_is}
 
@@ -89,20 +88,35 @@ object_of-same [] global value object is = cc
 object_of-same (one ∷ values) zero value object is = is
 object_of-same (one ∷ values) (suc global) value object is = object_of-same values global value object is
 
--- where what it is to name is noted, all are
-pub noted-set : (values : List (Option Value)) (owners news : List Owner) (limit below global : ℕ) (value : Option Value)
-    → (Rises owners → Rises news) → (Rises owners → (one : Owner) → IsNoted one owners → IsNoted one news) → below ≤ limit
-    → (AreNoted values owners limit → (object : ObjectNo) → object_named value ≡ Some object → object.0 < below → IsNoted (record { object = object; global = global }) news)
-    → AreNoted values owners limit → AreNoted (slice_set values global value) news below
-noted-set values owners news limit below global value rises kept less own noted = record {
-  rises = rises noted.rises;
-  noted = λ other object names under. ⊎_elim
-      (λ here. subst (λ n. IsNoted (record { object = object; global = n }) news) (sym here)
-      (own noted object (object_of-same values global value object (subst (λ n. object_of (slice_set values global value) n ≡ Some object) here names)) under))
-      (λ apart. kept noted.rises (record { object = object; global = other })
-      (noted.noted other object (sym (object_of-other values global other value apart) ∙ names) (omega (arith, under, less))))
-      (cases_eq other global);
+seen-kept : (owner : Owner) (owners news : List Owner) → ((one : Owner) → IsNoted one owners → IsNoted one news) → IsSeen owner owners → IsSeen owner news
+seen-kept owner owners news kept is = (is.0, is.1, kept (record { object = owner.object; global = is.0 }) is.2)
+
+-- one that is noted is seen
+pub seen-noted : (owner : Owner) (owners : List Owner) → IsNoted owner owners → IsSeen owner owners
+seen-noted owner owners is = (owner.global, omega arith, is)
+
+-- where what it is to name is seen, if it is one of these, all of these are
+pub noted-set : (these : ℕ → Bool) (values : List (Option Value)) (owners news : List Owner) (limit below global : ℕ) (value : Option Value)
+    → ((one : Owner) → IsNoted one owners → IsNoted one news) → below ≤ limit
+    → (these global ≡ true → (object : ObjectNo) → object_named value ≡ Some object → object.0 < below → IsSeen (record { object = object; global = global }) news)
+    → NotedBelow these values owners limit → NotedBelow these (slice_set values global value) news below
+noted-set these values owners news limit below global value kept less own noted = λ other object is names under. ⊎_elim
+    (λ here. subst (λ n. IsSeen (record { object = object; global = n }) news) (sym here)
+    (own (subst (λ n. these n ≡ true) here is) object (object_of-same values global value object (subst (λ n. object_of (slice_set values global value) n ≡ Some object) here names)) under))
+    (λ apart. seen-kept (record { object = object; global = other }) owners news kept
+    (noted other object is (sym (object_of-other values global other value apart) ∙ names) (omega (arith, under, less))))
+    (cases_eq other global)
+
+-- a global that is none of these makes no difference to them
+pub noted-past : (these : ℕ → Bool) (values : List (Option Value)) (owners : List Owner) (limit global : ℕ) (value : Option Value) → these global ≡ false
+    → AreNoted these values owners limit → AreNoted these (slice_set values global value) owners limit
+noted-past these values owners limit global value none noted = record {
+  rises = noted.rises;
+  noted = noted-set these values owners owners limit limit global value (λ one is. is) (omega arith) (λ among. absurd (true_false (sym among ∙ none))) noted.noted;
 }
+  where
+    true_false : true ≡ false → ⊥
+    true_false e = cc
 
 -- The owner of an object -------------------------------------------------------------------------------------------
 
@@ -127,23 +141,47 @@ noted-at owners place object owner found there =
     same : (a b : ℕ) → Some a ≡ Some b → a ≡ b
     same a b e = cc
 
+-- each of these globals that names an object below the end is seen
+abbrev pub AreSeen : List (Option Value) → List Owner → List ℕ → ℕ → Type 0
+AreSeen values owners globals end = (place other : ℕ) → slice_get globals place ≡ Some other → (later : ObjectNo) → object_of values other ≡ Some later → later.0 < end
+    → IsSeen (record { object = later; global = other }) owners
+
+-- where all globals are noted
+pub all-seen : (values : List (Option Value)) (owners : List Owner) (limit end : ℕ) (globals : List ℕ) → AreNoted each_global values owners limit → end ≤ limit → AreSeen values owners globals end
+all-seen values owners limit end globals noted below = λ place other is later names under. noted.noted other later refl names (omega (arith, under, below))
+
+-- where those are noted whose entries expire, and these are such
+pub expiring-seen : (values : List (Option Value)) (truths : List Bool) (owners : List Owner) (limit end : ℕ) (globals : List ℕ) → AreNoted (expires_in truths) values owners limit
+    → end ≤ limit → AllExpire truths globals → AreSeen values owners globals end
+expiring-seen values truths owners limit end globals noted below all = λ place other is later names under. noted.noted other later (all place other is) names (omega (arith, under, below))
+
 -- one that is noted and still names the object is its owner
-pub owner-is : (values : List (Option Value)) (owners : List Owner) (limit end global : ℕ) (object : ObjectNo) → AreNoted values owners limit → end ≤ limit
-    → IsNoted (record { object = object; global = global }) owners → object_of values global ≡ Some object → IsOwner values global object.0 end
-owner-is values owners limit end global object noted less own names = record {
+owner-is : (values : List (Option Value)) (owners : List Owner) (globals : List ℕ) (end global : ℕ) (object : ObjectNo) → Rises owners → AreSeen values owners globals end
+    → IsNoted (record { object = object; global = global }) owners → object_of values global ≡ Some object → IsOwner values globals global object.0 end
+owner-is values owners globals end global object rises all own names = record {
   names = names;
-  first = λ other later is above under.
-      let place = noted.noted other later is (omega (arith, under, less)) in
+  first = λ at other among later is above under.
+      let seen = all at other among later is under in
+      let first = seen.0 in
+      let least = seen.1 in
+      let place = seen.2 in
       ⊎_elim
-      (λ before. let rises = noted.rises place.0 own.0 (record { object = later; global = other }) (record { object = object; global = global }) before place.1 own.1 in
-      absurd (omega (arith, rises.0, above)))
+      (λ before. let behind = rises place.0 own.0 (record { object = later; global = first }) (record { object = object; global = global }) before place.1 own.1 in
+      absurd (omega (arith, behind.0, above)))
       (λ behind. ⊎_elim
-      (λ same. let e = ap (λ (it : Owner). it.global) (same_owner (record { object = object; global = global }) (record { object = later; global = other }) (sym own.1 ∙ (ap (slice_get owners) (sym same) ∙ place.1))) in omega (arith, e))
-      (λ apart. let rises = noted.rises own.0 place.0 (record { object = object; global = global }) (record { object = later; global = other }) (omega (arith, behind, apart)) own.1 place.1 in
-      omega (arith, rises.1))
+      (λ same. let e = ap (λ (it : Owner). it.global) (same_owner (record { object = object; global = global }) (record { object = later; global = first }) (sym own.1 ∙ (ap (slice_get owners) (sym same) ∙ place.1))) in omega (arith, e, least))
+      (λ apart. let above = rises own.0 place.0 (record { object = object; global = global }) (record { object = later; global = first }) (omega (arith, behind, apart)) own.1 place.1 in
+      omega (arith, above.1, least))
       (cases_eq place.0 own.0))
       (cases_lt place.0 own.0);
 }
+
+-- of a noted global that still names the object, if there is one
+pub owner-some : (values : List (Option Value)) (owners : List Owner) (globals : List ℕ) (end : ℕ) (object : ObjectNo) (found : Option ℕ) → Rises owners → AreSeen values owners globals end
+    → IfSome found (λ global. IsNoted (record { object = object; global = global }) owners × (object_of values global ≡ Some object))
+    → IfSome found (λ global. IsOwner values globals global object.0 end)
+owner-some values owners globals end object None rises all is = tt
+owner-some values owners globals end object (Some global) rises all is = owner-is values owners globals end global object rises all is.0 is.1
 
 -- no global names an object before any has a value
 none-named : (count : ℕ) (global : ℕ) (object : ObjectNo) → object_of (replicate count None) global ≡ Some object → ⊥
@@ -151,8 +189,8 @@ none-named zero global object is = none_some refl is
 none-named (suc count) zero object is = none_some refl is
 none-named (suc count) (suc global) object is = none-named count global object is
 
-pub none-owned : (count limit : ℕ) (values : List (Option Value)) (owners : List Owner) → owners ≡ [] → values ≡ replicate count None → AreNoted values owners limit
-none-owned count limit values owners none is = record {
+pub none-owned : (these : ℕ → Bool) (count limit : ℕ) (values : List (Option Value)) (owners : List Owner) → owners ≡ [] → values ≡ replicate count None → AreNoted these values owners limit
+none-owned these count limit values owners none is = record {
   rises = λ place later one other before here there. absurd (none_some (ap (λ os. slice_get os place) none) here);
-  noted = λ global object names under. absurd (none-named count global object (sym (ap (λ vs. object_of vs global) is) ∙ names));
+  noted = λ global object among names under. absurd (none-named count global object (sym (ap (λ vs. object_of vs global) is) ∙ names));
 }

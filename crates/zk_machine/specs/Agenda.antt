@@ -67,12 +67,12 @@ event_dues world = map event_due world.scheduled
 abbrev pub due_in : World → List ℕ → Option Due
 due_in world globals = first_of ((if world.is_ending then [] else entry_dues world globals) ++ event_dues world)
 
--- Of these globals this one names the table of an object, and none that names a later table which is due has a lower number.
+-- Of these globals this one names the table of an object, and none of them that names a later table which is due has a lower number.
 pub record Leads (world : World) (globals : List ℕ) (global object : ℕ) : Type 0 where
   pub among : (place : ℕ) × (slice_get globals place ≡ Some global)
   pub names : object_of world.globals global ≡ Some (record { 0 = object })
-  pub first : (other : ℕ) (later : ObjectNo) (turn : Moment × ℕ) → object_of world.globals other ≡ Some later → object ≤ later.0
-      → due_at world.store later.0 ≡ Some turn → global ≤ other
+  pub first : (place other : ℕ) → slice_get globals place ≡ Some other → (later : ObjectNo) (turn : Moment × ℕ) → object_of world.globals other ≡ Some later
+      → object ≤ later.0 → due_at world.store later.0 ≡ Some turn → global ≤ other
 
 -- Events and entries -------------------------------------------------------------------------------------------------
 

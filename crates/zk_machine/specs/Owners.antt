@@ -1,5 +1,5 @@
 -- The globals that name objects, as they are noted.
-use Rattle.std.specs.Prelude.{◌≡◌, ℕ, ◌<◌, ◌≤◌, List, Option, Some, slice_get}
+use Rattle.std.specs.Prelude.{◌≡◌, ℕ, ◌<◌, ◌≤◌, Bool, true, false, List, Option, Some, slice_get, unwrap_or}
 use Rattle.zk_base.specs.declared.numbers.ObjectNo.{ObjectNo}
 use Rattle.zk_tree.specs.Value.{Value}
 use Rattle.zk_typed.specs.Does.{named}
@@ -10,10 +10,10 @@ use Rattle.zk_machine.specs.declared.globals.Owner.{Owner}
 abbrev pub object_of : List (Option Value) → ℕ → Option ObjectNo
 object_of values global = object_named (named values global)
 
--- a global names an object of this number, and none that names a later one below the end has a lower number
-pub record IsOwner (values : List (Option Value)) (global object end : ℕ) : Type 0 where
+-- a global names an object of this number, and of these globals none that names a later one below the end has a lower number
+pub record IsOwner (values : List (Option Value)) (globals : List ℕ) (global object end : ℕ) : Type 0 where
   pub names : object_of values global ≡ Some (record { 0 = object })
-  pub first : (other : ℕ) (later : ObjectNo) → object_of values other ≡ Some later → object ≤ later.0 → later.0 < end → global ≤ other
+  pub first : (place other : ℕ) → slice_get globals place ≡ Some other → (later : ObjectNo) → object_of values other ≡ Some later → object ≤ later.0 → later.0 < end → global ≤ other
 
 -- Notes ------------------------------------------------------------------------------------------------------------
 
@@ -28,7 +28,28 @@ RisesTo one other = (one.object.0 < other.object.0) × (one.global < other.globa
 abbrev pub Rises : List Owner → Type 0
 Rises owners = (place later : ℕ) (one other : Owner) → place < later → slice_get owners place ≡ Some one → slice_get owners later ≡ Some other → RisesTo one other
 
--- the numbers of those that are noted rise, and each global that names an object below the limit is noted
-pub record AreNoted (values : List (Option Value)) (owners : List Owner) (limit : ℕ) : Type 0 where
+-- this one is among those that are noted, or one of the same object that is no later global
+abbrev pub IsSeen : Owner → List Owner → Type 0
+IsSeen owner owners = (first : ℕ) × (first ≤ owner.global) × IsNoted (record { object = owner.object; global = first }) owners
+
+-- each of these globals that names an object below the limit is seen among those that are noted
+abbrev pub NotedBelow : (ℕ → Bool) → List (Option Value) → List Owner → ℕ → Type 0
+NotedBelow these values owners limit = (global : ℕ) (object : ObjectNo) → these global ≡ true → object_of values global ≡ Some object → object.0 < limit
+    → IsSeen (record { object = object; global = global }) owners
+
+-- the numbers of those that are noted rise, and each of these globals is seen that names an object below the limit
+pub record AreNoted (these : ℕ → Bool) (values : List (Option Value)) (owners : List Owner) (limit : ℕ) : Type 0 where
   pub rises : Rises owners
-  pub noted : (global : ℕ) (object : ObjectNo) → object_of values global ≡ Some object → object.0 < limit → IsNoted (record { object = object; global = global }) owners
+  pub noted : NotedBelow these values owners limit
+
+-- all globals
+abbrev pub each_global : ℕ → Bool
+each_global global = true
+
+-- whether the entries of a global expire
+abbrev pub expires_in : List Bool → ℕ → Bool
+expires_in truths global = unwrap_or (slice_get truths global) false
+
+-- the entries of each of these globals expire
+abbrev pub AllExpire : List Bool → List ℕ → Type 0
+AllExpire truths globals = (place global : ℕ) → slice_get globals place ≡ Some global → expires_in truths global ≡ true

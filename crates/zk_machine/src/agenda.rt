@@ -101,11 +101,13 @@ impl World {
     }
 
     /// Of these globals the one whose table an object is, where each later table that is due is that of a
-    /// later global, if it is a global's. None also where this is not known.
+    /// later one of them, if it is that of one. None also where this is not known.
     fn first_owner(&self, globals: &[u32], object: ObjectNo) -> Option<u32>
         ensures { IfSome result (λ global. Leads (world_of self.now) globals.now global object.0) }
     {
-        let global = self.globals.owner(object, self.heap.expiring_end())?;
+        let global = self
+            .globals
+            .owner(object, self.heap.expiring_end(), globals)?;
         if is_among(globals, global) {
             Some(global)
         } else {

@@ -1,9 +1,10 @@
-ghost use Rattle.std.specs.Prelude.{◌≡◌, ◌<◌, ◌≤◌, ℕ, true, None as Nothing, Some, map, replicate, slice_get, slice_set, IfOk, IfSome};
+ghost use Rattle.std.specs.Prelude.{◌≡◌, ◌<◌, ◌≤◌, ℕ, Bool, true, [], None as Nothing, Some, is_some, length, map, replicate, slice_get, slice_set, IfOk, IfSome};
 ghost use Rattle.std.specs.Option.{option_map};
 ghost use Rattle.zk_typed.specs.Does as does;
 ghost use Rattle.zk_value.specs.Plain.{field_of};
 ghost use Rattle.zk_machine.specs.Entries.{object_named};
-ghost use Rattle.zk_machine.specs.Owners.{AreNoted, IsNoted, Rises, RisesTo, object_of};
+ghost use Rattle.zk_lower.specs.View.{global_of};
+ghost use Rattle.zk_machine.specs.Owners.{AllExpire, AreNoted, IsNoted, IsSeen, NotedBelow, Rises, RisesTo, expires_in, object_of};
 ghost use Rattle.zk_machine.specs.declared.globals.Owner.{Owner as Rust};
 
 use crate::calls::add_locals;
@@ -11,6 +12,7 @@ use crate::state::set_named;
 use std::alloc::Global;
 use std::marker::Model;
 use zk_base::{Mem, ObjectNo};
+use zk_lower::GlobalCode;
 use zk_value::Value;
 
 /// A global that names an object.
@@ -20,31 +22,45 @@ pub struct Owner {
     pub global: u32,
 }
 
+/// Some of the globals that name objects, from the object back to the global.
+#[derive(Debug, Drop)]
+struct Owners {
+    /// Globals that named objects when they were noted; both numbers rise.
+    list: Vec<Owner>,
+    /// Each global that counts here and names an object below this number is in the list, or an earlier one of
+    /// the same object is.
+    limit: u64,
+}
+
 /// The values of globals and constants by their numbers, each where it has one. Contracts see their list.
 ///
 /// From the object of a table it leads back to the global whose table that is. Initial values are computed
 /// in load order, so the objects that they make have numbers that rise with those of the globals. As long as
-/// they do, the globals that name objects are noted.
+/// they do, the globals that name objects are noted. Those whose entries expire are noted beside the others
+/// once more: they get no values but their initial ones, so they stay noted whatever the others are given.
 #[derive(Debug, Drop)]
 pub struct Globals {
     values: Vec<Option<Value>>,
-    /// Globals that named objects when they were noted; both numbers rise.
-    owners: Vec<Owner>,
-    /// Each global that names an object below this number is noted.
-    limit: u64,
+    /// Of each global whether its entries expire.
+    expires: Vec<bool>,
+    /// The owners among all globals.
+    all: Owners,
+    /// The owners among those whose entries expire.
+    expiring: Owners,
 }
 
 impl Model for Globals {
     ghost use Rattle.std.specs.Prelude.{List, Option, map};
     ghost use Rattle.zk_tree.specs.Value.{Value as Plain};
     ghost use Rattle.zk_value.specs.Plain.{field_of};
-    ghost use Rattle.zk_machine.specs.Owners.{AreNoted};
+    ghost use Rattle.zk_machine.specs.Owners.{AreNoted, each_global, expires_in};
 
     ghost Value = { List (Option Plain) };
 
     ghost view = { λ globals. map field_of globals.values.items };
 
-    ghost invariant = { λ globals. AreNoted (map field_of globals.values.items) globals.owners.items globals.limit };
+    ghost invariant = { λ globals. AreNoted each_global (map field_of globals.values.items) globals.all.list.items globals.all.limit
+        × AreNoted (expires_in globals.expires.items) (map field_of globals.values.items) globals.expiring.list.items globals.expiring.limit };
 }
 
 /// The object that a value names.
@@ -87,40 +103,18 @@ fn is_last(owners: &[Owner], owner: Owner) -> bool
     }
 }
 
-/// Notes an owner where there is room for it behind all that are noted. Answers below which number each
-/// owner is noted then.
-fn note(owners: &mut Vec<Owner>, limit: u64, owner: Owner) -> u64
+/// Notes an owner where there is room for it behind all that are noted. Answers below which number it is
+/// noted then.
+fn note(owners: &mut Vec<Owner>, owner: Owner) -> u64
     ensures rises { Rises owners.old.items → Rises owners.new.items }
     ensures kept { Rises owners.old.items → (one : Rust) → IsNoted one owners.old.items → IsNoted one owners.new.items }
     ensures noted { owner.object.0 < result → IsNoted owner owners.new.items }
-    ensures limit { result ≤ limit }
 {
     if owners.len() < owners.capacity() && is_last(owners, owner) {
         owners.push_reserved(owner);
-        return limit;
+        return u64::MAX;
     }
-    limit.min(owner.object.0)
-}
-
-/// Notes what a global is to name, where it does not name it yet. Answers below which number each owner is
-/// noted then.
-fn note_value(
-    values: &[Option<Value>],
-    owners: &mut Vec<Owner>,
-    limit: u64,
-    global: u32,
-    value: &Option<Value>,
-) -> u64
-    ensures { AreNoted (map field_of values.now) owners.old.items limit
-        → AreNoted (slice_set (map field_of values.now) global (field_of value.now)) owners.new.items result }
-{
-    let Some(object) = object_in(value) else {
-        return limit;
-    };
-    if names(values, global, object) {
-        return limit;
-    }
-    note(owners, limit, Owner { object, global })
+    owner.object.0
 }
 
 /// The place of an object among those that are noted, found by halving.
@@ -141,21 +135,126 @@ fn noted(owners: &[Owner], object: ObjectNo) -> Option<u32>
     Some(owner.global)
 }
 
+/// Whether an owner is noted, or one of the same object that is no later global.
+fn is_seen(owners: &[Owner], owner: Owner) -> bool
+    ensures { result ≡ true → IsSeen owner owners.now }
+{
+    match noted(owners, owner.object) {
+        Some(first) => first <= owner.global,
+        None => false,
+    }
+}
+
+/// Notes what a global is to name, where that isn't seen yet. Answers below which number it is then.
+fn note_value(
+    values: &[Option<Value>],
+    owners: &mut Vec<Owner>,
+    global: u32,
+    value: &Option<Value>,
+) -> u64
+    ensures rises { Rises owners.old.items → Rises owners.new.items }
+    ensures noted { (these : ℕ → Bool) (limit below : ℕ) → Rises owners.old.items → below ≤ limit → (these global ≡ true → below ≤ result)
+        → NotedBelow these (map field_of values.now) owners.old.items limit
+        → NotedBelow these (slice_set (map field_of values.now) global (field_of value.now)) owners.new.items below }
+{
+    let Some(object) = object_in(value) else {
+        return u64::MAX;
+    };
+    if names(values, global, object) {
+        return u64::MAX;
+    }
+    let owner = Owner { object, global };
+    if is_seen(owners, owner) {
+        return u64::MAX;
+    }
+    note(owners, owner)
+}
+
+/// Whether the entries of a global expire.
+fn expires(truths: &[bool], global: u32) -> bool
+    ensures { result ≡ expires_in truths.now global }
+{
+    match truths.get(global as usize) {
+        Some(expires) => *expires,
+        None => false,
+    }
+}
+
+/// Whether the entries of each of these globals expire.
+fn all_expire(truths: &[bool], globals: &[u32]) -> bool
+    ensures { result ≡ true → AllExpire truths.now globals.now }
+{
+    for place in 0..globals.len() {
+        if !expires(truths, globals[place]) {
+            return false;
+        }
+    }
+    true
+}
+
+/// Of each global whether its entries expire.
+fn expiring(alloc: Global, globals: &[GlobalCode]) -> Result<Vec<bool>, Mem>
+    ensures { IfOk result (λ list. list.items ≡ map (λ global. is_some (global_of global).expiry) globals.now) }
+{
+    let mut list = Vec::new(alloc);
+    for global in globals {
+        list.push(global.expiry.is_some())?;
+    }
+    Ok(list)
+}
+
+impl Owners {
+    /// No owners, and room for so many.
+    fn new(alloc: Global, room: usize) -> Result<Owners, Mem>
+        ensures { IfOk result (λ owners. owners.list.items ≡ []) }
+    {
+        let mut list = Vec::new(alloc);
+        list.reserve(room)?;
+        Ok(Owners {
+            list,
+            limit: u64::MAX,
+        })
+    }
+
+    /// Notes what a global is to name, if it is one of those that are noted here.
+    fn note(&mut self, counts: bool, values: &[Option<Value>], global: u32, value: &Option<Value>)
+        ensures { (these : ℕ → Bool) → these global ≡ counts → AreNoted these (map field_of values.now) self.old.list.items self.old.limit
+            → AreNoted these (slice_set (map field_of values.now) global (field_of value.now)) self.new.list.items self.new.limit }
+    {
+        if !counts {
+            return;
+        }
+        let below = note_value(values, &mut self.list, global, value);
+        self.limit = self.limit.min(below);
+    }
+
+    /// The global that is noted for an object and names it still.
+    fn owner(&self, values: &[Option<Value>], object: ObjectNo) -> Option<u32>
+        ensures { IfSome result (λ global. IsNoted (record { object = object; global = global }) self.now.list.items × (object_of (map field_of values.now) global ≡ Some object)) }
+    {
+        let global = noted(&self.list, object)?;
+        if names(values, global, object) {
+            Some(global)
+        } else {
+            None
+        }
+    }
+}
+
 impl Globals {
     ghost use Rattle.zk_machine.specs.Owners.{IsOwner};
 
-    /// So many globals without a value.
-    pub fn new(alloc: Global, count: usize) -> Result<Globals, Mem>
-        ensures { IfOk result (λ globals. globals ≡ replicate count Nothing) }
+    /// Globals of this code, without a value.
+    pub fn new(alloc: Global, code: &[GlobalCode]) -> Result<Globals, Mem>
+        ensures { IfOk result (λ globals. globals ≡ replicate (length code.now) Nothing) }
     {
         let mut values = Vec::new(alloc);
-        add_locals(&mut values, count)?;
-        let mut owners = Vec::new(alloc);
-        owners.reserve(count)?;
+        add_locals(&mut values, code.len())?;
         Ok(Globals {
             values,
-            owners,
-            limit: u64::MAX,
+            expires: expiring(alloc, code)?,
+            all: Owners::new(alloc, code.len())?,
+            expiring: Owners::new(alloc, code.len())?,
         })
     }
 
@@ -178,23 +277,23 @@ impl Globals {
     pub fn set(&mut self, global: u32, value: Option<Value>)
         ensures { self.new ≡ slice_set self.old global (field_of value) }
     {
-        self.limit = note_value(&self.values, &mut self.owners, self.limit, global, &value);
+        let counts = expires(&self.expires, global);
+        self.all.note(true, &self.values, global, &value);
+        self.expiring.note(counts, &self.values, global, &value);
         set_named(&mut self.values, global, value);
     }
 
-    /// The global that names an object, where none of a lower number names that or a later one below the
-    /// end. None also where this is not known.
-    pub fn owner(&self, object: ObjectNo, end: ObjectNo) -> Option<u32>
-        ensures { IfSome result (λ global. IsOwner self.now global object.0 end.0) }
+    /// The global that names an object, where none of these that has a lower number names that or a later one
+    /// below the end. None also where this is not known.
+    pub fn owner(&self, object: ObjectNo, end: ObjectNo, globals: &[u32]) -> Option<u32>
+        ensures { IfSome result (λ global. IsOwner self.now globals.now global object.0 end.0) }
     {
-        if end.0 > self.limit {
-            return None;
+        if end.0 <= self.all.limit {
+            return self.all.owner(&self.values, object);
         }
-        let global = noted(&self.owners, object)?;
-        if names(&self.values, global, object) {
-            Some(global)
-        } else {
-            None
+        if end.0 <= self.expiring.limit && all_expire(&self.expires, globals) {
+            return self.expiring.owner(&self.values, object);
         }
+        None
     }
 }

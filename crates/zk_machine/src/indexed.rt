@@ -183,27 +183,6 @@ impl IndexedCode {
         list_of(&self.handlers, event)
     }
 
-    /// The list of an event, lent.
-    fn list_of(lists: &[Vec<HandlerNo>], event: EventNo) -> &[HandlerNo]
-        ensures { map (λ number. number.0) result.now ≡ numbers_at lists.now event.0 }
-    {
-        let place = event.0 as usize;
-        if place >= lists.len() {
-            return &[];
-        }
-        &lists[place]
-    }
-
-    /// Adds a number where it is that of a global whose entries expire.
-    fn add_if(list: &mut Vec<u32>, number: u32, expires: bool) -> Result<(), Mem>
-        ensures { OnOk result (list.new.items ≡ list.old.items ++ (if expires then number ∷ [] else [])) }
-    {
-        if expires {
-            list.push(number)?;
-        }
-        Ok(())
-    }
-
     /// The numbers of the globals whose entries expire, in load order.
     pub fn expiring(&self) -> &[u32]
         ensures { result.now ≡ expiring_from 0 (code_in self.now).globals }

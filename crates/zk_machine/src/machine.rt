@@ -164,7 +164,7 @@ impl Machine {
         ensures stands { IfOk result (λ machine. (program : Program) → lower.code_of code ≡ lowered program → StandsFor machine program nothing (first_world (no_values program))) }
         ensures code { IfOk result (λ machine. code_of machine ≡ lower.code_of code) }
     {
-        let globals = Globals::new(alloc, code.globals.len())?;
+        let globals = Globals::new(alloc, code.globals.as_slice())?;
         let indexed = IndexedCode::new(alloc, code)?;
         let running = Running::new(alloc, globals);
         Ok(Machine {

@@ -76,7 +76,7 @@ fn all_own(alloc: Global, names: &Names<'_>) -> Result<Vec<RecordFields>, Mem>
 }
 
 /// The number of the record type that a name names.
-fn named_record(
+pub fn named_record(
     alloc: Global,
     names: &Names<'_>,
     home: Home<'_>,

@@ -1,4 +1,4 @@
-ghost use Rattle.std.specs.Prelude.{◌≡◌, [], ◌∷◌, ◌++◌, List, OnOk};
+ghost use Rattle.std.specs.Prelude.{◌≡◌, [], ◌∷◌, ◌++◌, List, OnErr, OnOk};
 ghost use Rattle.zk_typed.specs.Names.{count_before};
 
 use indexmap::IndexMap;
@@ -26,9 +26,10 @@ impl<K: Eq + Hash + Drop> FirstPlaces<K> {
         }
     }
 
-    /// Adds a key at the list's end.
+    /// Adds a key at the list's end. At `Mem` the keys are the same.
     pub fn add(&mut self, key: K) -> Result<(), Mem>
-        ensures { OnOk result ((keys : List K) → Stands K.eq self.old keys → Stands K.eq self.new (keys ++ key ∷ [])) }
+        ensures ok { OnOk result ((keys : List K) → Stands K.eq self.old keys → Stands K.eq self.new (keys ++ key ∷ [])) }
+        ensures err { OnErr result ((keys : List K) → Stands K.eq self.old keys → Stands K.eq self.new keys) }
     {
         let place = self.count;
         let count = place.checked_add(1).ok_or(Mem)?;

@@ -47,6 +47,8 @@ pub use calls::{Call, item_expr};
 pub use declared::{Declared, LogFunction, Meant, Signature};
 pub use field::FieldInfo;
 pub use fielding::{attr_value, has_attr};
+pub use fields::named_record;
+pub use first_places::FirstPlaces;
 pub use home::{Home, Stated};
 pub use inner::within;
 pub use kind::Kind;

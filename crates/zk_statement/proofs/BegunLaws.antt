@@ -39,18 +39,17 @@ named_whole None (Some init) name made = behind None (Some init) name made refl
 named_whole (Some tree) init name made = behind (Some tree) init name made refl
 
 -- a `local` at its place, and the names that are visible behind it
-pub local_gives : (given : Result RustStmt Refusal) (after : List LentLocal) (context : Context) (locals seen : Locals) (byte : ℕ) (name : Name) (text : List ℕ)
-    (tree : Option «Type») (init : Option Init) (place : Place) (known : Checked ValueType) → place ≡ place_of context byte → seen ≡ locals → text ≡ name.text →
-    Tells stmt_of given (local_whole tree init (once name seen place) (local_value context seen place (local_type context seen tree) init)) →
-    (Told given → known ≡ type_for (local_type context seen tree) (local_value context seen place (local_type context seen tree) init)) →
+pub local_gives : (given : Result RustStmt Refusal) (after : List LentLocal) (context : Context) (locals : Locals) (byte : ℕ) (name : Name) (text : List ℕ)
+    (tree : Option «Type») (init : Option Init) (place : Place) (known : Checked ValueType) → place ≡ place_of context byte → text ≡ name.text →
+    Tells stmt_of given (local_whole tree init (once name locals place) (local_value context locals place (local_type context locals tree) init)) →
+    (Told given → known ≡ type_for (local_type context locals tree) (local_value context locals place (local_type context locals tree) init)) →
     locals_of after ≡ locals ++ record { name = text; type = known } ∷ [] → Gives given after (local_stated context locals byte name tree init)
-local_gives given after context locals seen byte name text tree init place known here same called told typed behind =
-    let made : Place → Locals → Checked (ValueType × form.Stmt) = λ at visible. local_value context visible at (local_type context visible tree) init in
-    let type : Place → Locals → Checked ValueType = λ at visible. type_for (local_type context visible tree) (made at visible) in
-    let P : Place → Type 0 = λ at. Tells stmt_of given (local_whole tree init (once name locals at) (made at locals)) in
-    let Q : Locals → Type 0 = λ visible. Tells stmt_of given (local_whole tree init (once name visible place) (made place visible)) in
+local_gives given after context locals byte name text tree init place known here called told typed behind =
+    let made : Place → Checked (ValueType × form.Stmt) = λ at. local_value context locals at (local_type context locals tree) init in
+    let type : Place → Checked ValueType = λ at. type_for (local_type context locals tree) (made at) in
+    let P : Place → Type 0 = λ at. Tells stmt_of given (local_whole tree init (once name locals at) (made at)) in
     let with_name : List ℕ → Checked ValueType → Locals = λ word is. locals ++ record { name = word; type = is } ∷ [] in
     record {
-      made = subst P here (subst Q same told);
-      visible = λ it. behind ∙ ap (λ word. with_name word known) called ∙ ap (with_name name.text) (typed it ∙ ap (type place) same ∙ ap (λ at. type at locals) here);
+      made = subst P here told;
+      visible = λ it. behind ∙ ap (λ word. with_name word known) called ∙ ap (with_name name.text) (typed it ∙ ap type here);
     }

@@ -221,11 +221,10 @@ visible_at : (depth : ℕ) (context : Context) (locals : Locals) (one : Stmt) �
 visible_at zero context locals one plain some = absurd (omega arith)
 visible_at (suc depth) context locals one plain some = plain_visible depth context locals one plain
 
-pub plain_gives : (given : Result RustStmt Refusal) (after lent : List LentLocal) (depth : ℕ) (context : Context) (one : Stmt) →
-    0 < depth → IsTrue (is_plain one) → lent ≡ after → ((least : ℕ) → 0 < least → Tells stmt_of given (stmt_to least context (locals_of lent) one).made) → Gives given after (stmt_to depth context (locals_of after) one)
-plain_gives given after lent depth context one some plain same tells =
-    let Q : List LentLocal → Type 0 = λ seen_locals. Tells stmt_of given (stmt_to depth context (locals_of seen_locals) one).made in
-    record { made = subst Q same (tells depth some); visible = λ known. sym (visible_at depth context (locals_of after) one plain some) }
+pub plain_gives : (given : Result RustStmt Refusal) (after : List LentLocal) (depth : ℕ) (context : Context) (one : Stmt) →
+    0 < depth → IsTrue (is_plain one) → ((least : ℕ) → 0 < least → Tells stmt_of given (stmt_to least context (locals_of after) one).made) → Gives given after (stmt_to depth context (locals_of after) one)
+plain_gives given after depth context one some plain tells =
+    record { made = tells depth some; visible = λ known. sym (visible_at depth context (locals_of after) one plain some) }
 
 layer_local : (depth : ℕ) (context : Context) (locals : Locals) (place : ℕ) (name : Name) (given : Option «Type») (init : Option Init) → 0 < depth →
     local_stated context locals place name given init ≡ stmt_to depth context locals (tree.Local place name given init)

@@ -79,10 +79,10 @@ for_stated given between after judge context locals byte place keys named over b
     })
 
 -- the same over what is lent
-pub for_lent : (given : Result RustStmt Refusal) (between after before lent : List LentLocal) (judge : Judge) (context inner_context : Context) (byte : ℕ) (place : Place) (keys : Keys) (named : Option Name) (over : Expr) (body : Stmt)
+pub for_lent : (given : Result RustStmt Refusal) (between after before : List LentLocal) (judge : Judge) (context inner_context : Context) (byte : ℕ) (place : Place) (keys : Keys) (named : Option Name) (over : Expr) (body : Stmt)
     (over_it : Result (RustTyped × Vec RustType Global) Refusal) (numbers : Result (Vec ℕ Global) Refusal) (inner : Result RustStmt Refusal) →
-    lent ≡ before → inner_context ≡ looping context → place ≡ place_of context byte →
-    Tells over_of over_it (over_typed context (locals_of lent) byte keys named over) →
+    inner_context ≡ looping context → place ≡ place_of context byte →
+    Tells over_of over_it (over_typed context (locals_of before) byte keys named over) →
     ((wanted : Checked (Typed × List ValueType)) → Told over_it → Tells over_of over_it wanted →
     GivesNumbers numbers between (for_names context (locals_of before) (wanted_names keys named) (types_or_unknown (wanted_names keys named) (types_over wanted)))) →
     Gives inner after (judge inner_context (locals_of between) body) →
@@ -90,7 +90,6 @@ pub for_lent : (given : Result RustStmt Refusal) (between after before lent : Li
     Tells stmt_of given (for_of place named wanted wanted_numbers wanted_body)) →
     (Told given → Told over_it × Told numbers × Told inner) →
     Gives given after (for_typed judge context (locals_of before) byte keys named over body)
-for_lent given between after before lent judge context inner_context byte place keys named over body over_it numbers inner same inside here over_tells names_give body_gives made_is known_is =
-    let P : List LentLocal → Type 0 = λ seen. Tells over_of over_it (over_typed context (locals_of seen) byte keys named over) in
+for_lent given between after before judge context inner_context byte place keys named over body over_it numbers inner inside here over_tells names_give body_gives made_is known_is =
     let Q : Context → Type 0 = λ within. Gives inner after (judge within (locals_of between) body) in
-    for_stated given between after judge context (locals_of before) byte place keys named over body over_it numbers inner here (subst P same over_tells) names_give (subst Q inside body_gives) made_is known_is
+    for_stated given between after judge context (locals_of before) byte place keys named over body over_it numbers inner here over_tells names_give (subst Q inside body_gives) made_is known_is

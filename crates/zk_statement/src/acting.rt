@@ -13,7 +13,7 @@ use crate::context::{Context, env_in, place_of};
 use crate::made::done;
 use sqlite_items::Items;
 use std::alloc::{AllocError, Global};
-use zk_expression::{LocalName, each_printed};
+use zk_expression::{Locals, each_printed};
 use zk_operator::{Typed, operands_of};
 use zk_tree::{Expr as Syntax, Place};
 use zk_typed::Refusal;
@@ -52,7 +52,7 @@ pub fn with_first(
 /// `print`
 pub fn print_stmt(
     context: &Context<'_, '_>,
-    locals: &[LocalName<'_>],
+    locals: &Locals<'_>,
     place: u64,
     values: &[Syntax],
 ) -> Result<Stmt, Refusal>

@@ -27,7 +27,7 @@ use crate::turns::new_local;
 use sqlite_items::Items;
 use std::alloc::{AllocError, Global};
 use zk_base::Mem;
-use zk_expression::{LocalName, init_typed, local_meant, local_named};
+use zk_expression::{Locals, init_typed, local_meant};
 use zk_operator::{Typed, Wanted, also, both, empty_of, one_operand};
 use zk_tree::{Init, Name, Place, Type};
 use zk_typed::script::{Action, Expr, Left, Stmt, ValueType};
@@ -40,7 +40,7 @@ pub struct Begun {
 }
 
 /// The number of the next local. More locals than numbers are more than memory holds.
-fn next_local(locals: &[LocalName<'_>]) -> Result<u32, Mem>
+fn next_local(locals: &Locals<'_>) -> Result<u32, Mem>
     ensures { IfOk result (λ number. number ≡ length (locals_of locals.now)) }
 {
     match u32::try_from(locals.len()) {
@@ -50,10 +50,10 @@ fn next_local(locals: &[LocalName<'_>]) -> Result<u32, Mem>
 }
 
 /// Whether a name that a type mentions is hidden by a local.
-fn seen(context: &Context<'_, '_>, locals: &[LocalName<'_>], name: &Name) -> Result<(), Refusal>
+fn seen(context: &Context<'_, '_>, locals: &Locals<'_>, name: &Name) -> Result<(), Refusal>
     ensures { Tells (λ done. done) result (seen (context_of context.now) (locals_of locals.now) name.now) }
 {
-    match local_meant(locals, name.text.as_slice())? {
+    match local_meant(context.alloc, Some(locals), name.text.as_slice())? {
         None => Ok(()),
         Some(_) => {
             let place = place_of(context, name.place);
@@ -63,11 +63,7 @@ fn seen(context: &Context<'_, '_>, locals: &[LocalName<'_>], name: &Name) -> Res
 }
 
 /// Whether names that a type mentions are hidden by locals.
-fn all_seen(
-    context: &Context<'_, '_>,
-    locals: &[LocalName<'_>],
-    names: &[&Name],
-) -> Result<(), Refusal>
+fn all_seen(context: &Context<'_, '_>, locals: &Locals<'_>, names: &[&Name]) -> Result<(), Refusal>
     ensures { Tells (λ done. done) result (nothing (each (seen (context_of context.now) (locals_of locals.now)) (names_lent names.now))) }
 {
     let mut all = Ok(());
@@ -81,7 +77,7 @@ fn all_seen(
 #[tactic(auto, using(zk_operator::proofs::BothLaws::passed))]
 fn local_type(
     context: &Context<'_, '_>,
-    locals: &[LocalName<'_>],
+    locals: &Locals<'_>,
     tree: &Type,
 ) -> Result<ValueType, Refusal>
     ensures { Tells type_of result (declared_type (context_of context.now) (locals_of locals.now) tree.now) }
@@ -117,7 +113,7 @@ fn assigned(alloc: Global, place: Place, local: u32, value: Expr) -> Result<Stmt
 /// A local with a number of its own begins with the empty value of its type, or with none.
 fn begin_local(
     alloc: Global,
-    locals: &[LocalName<'_>],
+    locals: &Locals<'_>,
     place: Place,
     one: &ValueType,
 ) -> Result<Stmt, Mem>
@@ -128,12 +124,7 @@ fn begin_local(
 }
 
 /// A local with a number of its own is given a value.
-fn give_local(
-    alloc: Global,
-    locals: &[LocalName<'_>],
-    place: Place,
-    value: Expr,
-) -> Result<Stmt, Mem>
+fn give_local(alloc: Global, locals: &Locals<'_>, place: Place, value: Expr) -> Result<Stmt, Mem>
     ensures { IfOk result (λ made. stmt_of made ≡ form.Do place (action.Assign (left.Local (length (locals_of locals.now)))) (form.AndExpr (expr_of value) form.NoExpr)) }
 {
     match next_local(locals) {
@@ -148,7 +139,7 @@ fn give_local(
 /// A local of a type, without an initial value.
 fn typed_local(
     context: &Context<'_, '_>,
-    locals: &[LocalName<'_>],
+    locals: &Locals<'_>,
     place: Place,
     declared: Result<ValueType, Refusal>,
 ) -> Begun
@@ -173,12 +164,7 @@ fn typed_local(
 }
 
 /// A local of the type of its initial value.
-fn given_local(
-    context: &Context<'_, '_>,
-    locals: &[LocalName<'_>],
-    place: Place,
-    init: &Init,
-) -> Begun
+fn given_local(context: &Context<'_, '_>, locals: &Locals<'_>, place: Place, init: &Init) -> Begun
     ensures { Begins result None (spec.local_value (context_of context.now) (locals_of locals.now) place None (Some init.now)) }
 {
     let alloc = context.alloc;
@@ -203,7 +189,7 @@ fn given_local(
 /// An initial value where a type is declared.
 fn wanted_init(
     context: &Context<'_, '_>,
-    locals: &[LocalName<'_>],
+    locals: &Locals<'_>,
     declared: &Result<ValueType, Refusal>,
     init: &Init,
 ) -> Result<Typed, Refusal>
@@ -229,7 +215,7 @@ fn known(declared: Result<ValueType, Refusal>) -> (Result<(), Refusal>, Option<V
 /// A local with an initial value, of right parts.
 fn given_parts(
     context: &Context<'_, '_>,
-    locals: &[LocalName<'_>],
+    locals: &Locals<'_>,
     place: Place,
     declared: Result<(), Refusal>,
     given: Result<Typed, Refusal>,
@@ -250,7 +236,7 @@ fn given_parts(
 /// A local of a type with an initial value.
 fn typed_and_given_local(
     context: &Context<'_, '_>,
-    locals: &[LocalName<'_>],
+    locals: &Locals<'_>,
     place: Place,
     declared: Result<ValueType, Refusal>,
     init: &Init,
@@ -266,7 +252,7 @@ fn typed_and_given_local(
 /// What a `local` begins with, of a type that is declared.
 fn declared_local(
     context: &Context<'_, '_>,
-    locals: &[LocalName<'_>],
+    locals: &Locals<'_>,
     place: Place,
     tree: &Type,
     init: &Option<Init>,
@@ -297,7 +283,7 @@ fn bare_local(alloc: Global, place: Place) -> Begun
 /// What a `local` begins with.
 fn local_begun(
     context: &Context<'_, '_>,
-    locals: &[LocalName<'_>],
+    locals: &Locals<'_>,
     place: Place,
     tree: &Option<Type>,
     init: &Option<Init>,
@@ -314,10 +300,10 @@ fn local_begun(
 }
 
 /// That no other local has a name.
-fn once(alloc: Global, locals: &[LocalName<'_>], place: Place, name: &Name) -> Result<(), Refusal>
+fn once(alloc: Global, locals: &Locals<'_>, place: Place, name: &Name) -> Result<(), Refusal>
     ensures { Tells (λ done. done) result (once name.now (locals_of locals.now) place) }
 {
-    match local_named(locals, name.text.as_slice())? {
+    match locals.named(alloc, name.text.as_slice())? {
         None => Ok(()),
         Some(_) => Err(Refusal::Broken(one_broken(alloc, Rule::Twice, place)?)),
     }
@@ -367,7 +353,7 @@ fn is_bare(tree: &Option<Type>, init: &Option<Init>) -> bool
 /// What a `local` is at its place, with what is said of its name.
 fn local_made(
     context: &Context<'_, '_>,
-    locals: &[LocalName<'_>],
+    locals: &Locals<'_>,
     place: Place,
     name: &Name,
     tree: &Option<Type>,
@@ -384,24 +370,17 @@ fn local_made(
 /// `local`, whose name is visible from its end on.
 pub fn local_stmt<'a>(
     context: &Context<'a, '_>,
-    locals: &mut Vec<LocalName<'a>>,
+    locals: &mut Locals<'a>,
     place: u64,
     name: &'a Name,
     tree: &'a Option<Type>,
     init: &'a Option<Init>,
 ) -> Result<Stmt, Refusal>
-    ensures { Gives result locals.new.items (spec.local_stated (context_of context.now) (locals_of locals.old.items) place name.now tree.now init.now) }
+    ensures { Gives result locals.new (spec.local_stated (context_of context.now) (locals_of locals.old) place name.now tree.now init.now) }
 {
     let place = place_of(context, place);
-    let Begun { value_type, made } = local_made(
-        context,
-        locals.as_slice(),
-        place,
-        name,
-        tree,
-        init,
-    );
-    match new_local(locals, name.text.as_slice(), value_type) {
+    let Begun { value_type, made } = local_made(context, locals, place, name, tree, init);
+    match new_local(context.alloc, locals, name.text.as_slice(), value_type) {
         Ok(_) => made,
         Err(_) => {
             drop(made);

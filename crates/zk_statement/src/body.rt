@@ -11,7 +11,7 @@ use crate::loops::{for_made, loop_names, over_and_types};
 use crate::made::{block, no_stmt};
 use crate::plain::plain_stmt;
 use sqlite_items::Items;
-use zk_expression::LocalName;
+use zk_expression::Locals;
 use zk_operator::{Wanted, with_part};
 use zk_tree::{Block, Expr, Keys, Name, Stmt as Syntax};
 use zk_typed::script::{SimpleType, Stmt, ValueType};
@@ -23,11 +23,11 @@ const BOOL: ValueType = ValueType::Simple(SimpleType::Bool);
 #[cycle(stmt)]
 fn other_arm<'a>(
     context: &Context<'a, '_>,
-    locals: &mut Vec<LocalName<'a>>,
+    locals: &mut Locals<'a>,
     depth: u64,
     other: Option<&'a Syntax>,
 ) -> Result<Stmt, Refusal>
-    ensures { Gives result locals.new.items (other_typed (spec.stmt_to depth) (context_of context.now) (locals_of locals.old.items) (option_copied other.entry)) }
+    ensures { Gives result locals.new (other_typed (spec.stmt_to depth) (context_of context.now) (locals_of locals.old) (option_copied other.entry)) }
 {
     match other {
         Some(one) => stmt(context, locals, depth, one),
@@ -39,16 +39,16 @@ fn other_arm<'a>(
 #[cycle(stmt)]
 fn if_stmt<'a>(
     context: &Context<'a, '_>,
-    locals: &mut Vec<LocalName<'a>>,
+    locals: &mut Locals<'a>,
     depth: u64,
     place: u64,
     test: &'a Expr,
     one: &'a Syntax,
     other: Option<&'a Syntax>,
 ) -> Result<Stmt, Refusal>
-    ensures { Gives result locals.new.items (spec.if_typed (spec.stmt_to depth) (context_of context.now) (locals_of locals.old.items) place test.now one.now (option_copied other.entry)) }
+    ensures { Gives result locals.new (spec.if_typed (spec.stmt_to depth) (context_of context.now) (locals_of locals.old) place test.now one.now (option_copied other.entry)) }
 {
-    let test = check_in(context, locals.as_slice(), Wanted::Type(&BOOL), test);
+    let test = check_in(context, locals, Wanted::Type(&BOOL), test);
     let yes = stmt(context, locals, depth, one);
     let no = other_arm(context, locals, depth, other);
     if_made(context.alloc, place_of(context, place), test, yes, no)
@@ -58,15 +58,15 @@ fn if_stmt<'a>(
 #[cycle(stmt)]
 fn while_stmt<'a>(
     context: &Context<'a, '_>,
-    locals: &mut Vec<LocalName<'a>>,
+    locals: &mut Locals<'a>,
     depth: u64,
     place: u64,
     test: &'a Expr,
     body: &'a Syntax,
 ) -> Result<Stmt, Refusal>
-    ensures { Gives result locals.new.items (spec.while_typed (spec.stmt_to depth) (context_of context.now) (locals_of locals.old.items) place test.now body.now) }
+    ensures { Gives result locals.new (spec.while_typed (spec.stmt_to depth) (context_of context.now) (locals_of locals.old) place test.now body.now) }
 {
-    let test = check_in(context, locals.as_slice(), Wanted::Type(&BOOL), test);
+    let test = check_in(context, locals, Wanted::Type(&BOOL), test);
     let body = stmt(&looping(context), locals, depth, body);
     while_made(context.alloc, place_of(context, place), test, body)
 }
@@ -75,7 +75,7 @@ fn while_stmt<'a>(
 #[cycle(stmt)]
 fn for_stmt<'a>(
     context: &Context<'a, '_>,
-    locals: &mut Vec<LocalName<'a>>,
+    locals: &mut Locals<'a>,
     depth: u64,
     place: u64,
     keys: &'a Keys,
@@ -83,9 +83,9 @@ fn for_stmt<'a>(
     over: &'a Expr,
     body: &'a Syntax,
 ) -> Result<Stmt, Refusal>
-    ensures { Gives result locals.new.items (spec.for_typed (spec.stmt_to depth) (context_of context.now) (locals_of locals.old.items) place keys.now named.now over.now body.now) }
+    ensures { Gives result locals.new (spec.for_typed (spec.stmt_to depth) (context_of context.now) (locals_of locals.old) place keys.now named.now over.now body.now) }
 {
-    let over = over_and_types(context, locals.as_slice(), place, keys, named, over);
+    let over = over_and_types(context, locals, place, keys, named, over);
     let names = loop_names(context, locals, keys, named, &over);
     let body = stmt(&looping(context), locals, depth, body);
     let place = place_of(context, place);
@@ -96,11 +96,11 @@ fn for_stmt<'a>(
 #[cycle(stmt)]
 fn block_stmt<'a>(
     context: &Context<'a, '_>,
-    locals: &mut Vec<LocalName<'a>>,
+    locals: &mut Locals<'a>,
     depth: u64,
     one: &'a Block,
 ) -> Result<Stmt, Refusal>
-    ensures { Gives result locals.new.items (spec.block_typed (spec.stmt_to depth) (context_of context.now) (locals_of locals.old.items) one.now) }
+    ensures { Gives result locals.new (spec.block_typed (spec.stmt_to depth) (context_of context.now) (locals_of locals.old) one.now) }
 {
     let mut all = Ok(Vec::new(context.alloc));
     for one in one.stmts.as_slice() {
@@ -116,11 +116,11 @@ fn block_stmt<'a>(
 #[cycle(stmt)]
 pub fn stmt<'a>(
     context: &Context<'a, '_>,
-    locals: &mut Vec<LocalName<'a>>,
+    locals: &mut Locals<'a>,
     depth: u64,
     one: &'a Syntax,
 ) -> Result<Stmt, Refusal>
-    ensures { Gives result locals.new.items (spec.stmt_to depth (context_of context.now) (locals_of locals.old.items) one.now) }
+    ensures { Gives result locals.new (spec.stmt_to depth (context_of context.now) (locals_of locals.old) one.now) }
 {
     if depth == 0 {
         let place = place_of(context, one.place());
@@ -162,7 +162,7 @@ pub fn stmt<'a>(
             local_type,
             init,
         } => local_stmt(context, locals, *place, name, local_type, init),
-        _ => plain_stmt(context, locals.as_slice(), one),
+        _ => plain_stmt(context, locals, one),
     }
 }
 
@@ -170,10 +170,10 @@ pub fn stmt<'a>(
 #[tactic(auto, unfolding(zk_typed::specs::Within::depth_max))]
 pub fn body_typed<'a>(
     context: &Context<'a, '_>,
-    locals: &mut Vec<LocalName<'a>>,
+    locals: &mut Locals<'a>,
     one: &'a Block,
 ) -> Result<Stmt, Refusal>
-    ensures { Gives result locals.new.items (spec.body_typed (context_of context.now) (locals_of locals.old.items) one.now) }
+    ensures { Gives result locals.new (spec.body_typed (context_of context.now) (locals_of locals.old) one.now) }
 {
     block_stmt(context, locals, u64::MAX, one)
 }

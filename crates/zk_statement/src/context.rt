@@ -7,7 +7,7 @@ ghost use Rattle.zk_typed.specs.Typing as typing;
 ghost use Rattle.zk_statement.specs.Bodies.{context_of};
 
 use std::alloc::Global;
-use zk_expression::{Env, Globals, LocalName, expr_typed};
+use zk_expression::{Env, Globals, Locals, expr_typed};
 use zk_names::{Home, Scripts};
 use zk_operator::{Typed, Wanted};
 use zk_tree::{Expr, Place};
@@ -77,13 +77,13 @@ pub fn looping<'a, 'w>(context: &Context<'a, 'w>) -> Context<'a, 'w>
 }
 
 /// Where the expressions of a body stand, beside the names that are visible.
-pub fn env_in<'e>(context: &Context<'e, '_>, locals: &'e [LocalName<'e>]) -> Env<'e>
+pub fn env_in<'e>(context: &Context<'e, '_>, locals: &'e Locals<'e>) -> Env<'e>
     ensures { env_of result ≡ spec.env_of (context_of context.entry.now) (locals_of locals.entry.now) }
 {
     Env {
         scripts: context.scripts,
         home: context.home,
-        locals,
+        locals: Some(locals),
         globals: context.globals,
     }
 }
@@ -91,7 +91,7 @@ pub fn env_in<'e>(context: &Context<'e, '_>, locals: &'e [LocalName<'e>]) -> Env
 /// An expression where a type is wanted.
 pub fn check_in(
     context: &Context<'_, '_>,
-    locals: &[LocalName<'_>],
+    locals: &Locals<'_>,
     wanted: Wanted<'_>,
     one: &Expr,
 ) -> Result<Typed, Refusal>

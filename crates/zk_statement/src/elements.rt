@@ -16,7 +16,7 @@ use crate::context::{Context, env_in, place_of};
 use crate::made::done;
 use sqlite_items::Items;
 use std::alloc::{AllocError, Global};
-use zk_expression::{Env, LocalName, each_typed, expr_typed, keys_fit, post_typed, refused};
+use zk_expression::{Env, Locals, each_typed, expr_typed, keys_fit, post_typed, refused};
 use zk_operator::{Typed, Wanted, both, keys_in, operands_of};
 use zk_tree::{Expr as Syntax, Part, Place};
 use zk_typed::script::{Action, Expr, Stmt};
@@ -151,7 +151,7 @@ fn element_of(
 #[tactic(auto, using(zk_operator::proofs::BothLaws::passed))]
 pub fn element_stmt(
     context: &Context<'_, '_>,
-    locals: &[LocalName<'_>],
+    locals: &Locals<'_>,
     place: u64,
     action: Action,
     tables: bool,

@@ -19,7 +19,7 @@ use crate::elements::operands_with;
 use crate::made::done;
 use std::alloc::{AllocError, Global};
 use zk_base::EventNo;
-use zk_expression::{Env, Found, LocalName, look_up, signed_arguments, wrong_name};
+use zk_expression::{Env, Found, Locals, look_up, signed_arguments, wrong_name};
 use zk_names::{Declared, Kind, Meant};
 use zk_operator::{Typed, Wanted, both, operands_of};
 use zk_tree::{Expr, Item, Name, Place};
@@ -63,7 +63,7 @@ fn declared_event(
 /// An event with its arguments.
 fn event_args(
     context: &Context<'_, '_>,
-    locals: &[LocalName<'_>],
+    locals: &Locals<'_>,
     place: u64,
     name: &Name,
     items: &[Item],
@@ -85,7 +85,7 @@ fn event_args(
 #[tactic(auto, using(zk_operator::proofs::BothLaws::passed))]
 pub fn event_stmt(
     context: &Context<'_, '_>,
-    locals: &[LocalName<'_>],
+    locals: &Locals<'_>,
     place: u64,
     name: &Name,
     items: &[Item],
@@ -139,7 +139,7 @@ fn due_event(
 /// `schedule`
 pub fn schedule_stmt(
     context: &Context<'_, '_>,
-    locals: &[LocalName<'_>],
+    locals: &Locals<'_>,
     place: u64,
     delay: &Expr,
     name: &Name,

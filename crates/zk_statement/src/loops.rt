@@ -22,7 +22,7 @@ use crate::turns::wanted_names;
 use sqlite_items::Items;
 use std::alloc::{AllocError, Global};
 use zk_base::Mem;
-use zk_expression::LocalName;
+use zk_expression::Locals;
 use zk_operator::{Typed, Wanted, both, copied_type, is_vector};
 use zk_tree::{Expr, Keys, Name, Place};
 use zk_typed::Refusal;
@@ -48,7 +48,7 @@ fn told_twice(alloc: Global, refusal: Refusal) -> Refusal
 #[tactic(auto, using(crate::proofs::Turning::over_refused))]
 pub fn over_and_types(
     context: &Context<'_, '_>,
-    locals: &[LocalName<'_>],
+    locals: &Locals<'_>,
     place: u64,
     keys: &Keys,
     named: &Option<Name>,
@@ -116,14 +116,14 @@ fn name_types(
 /// The numbers of the names of a `for`, by what it goes over.
 pub fn loop_names<'a>(
     context: &Context<'a, '_>,
-    locals: &mut Vec<LocalName<'a>>,
+    locals: &mut Locals<'a>,
     keys: &'a Keys,
     named: &'a Option<Name>,
     over: &Result<(Typed, Vec<ValueType>), Refusal>,
 ) -> Result<Vec<u32>, Refusal>
     requires { IfOk over.now (λ made. length made.1.items ≡ length (spec.wanted_names keys.now named.now)) }
     ensures { (wanted : Checked (typing.Typed × List types.ValueType)) → Told over.now → Tells over_of over.now wanted →
-        GivesNumbers result locals.new.items (spec.for_names (context_of context.now) (locals_of locals.old.items) (spec.wanted_names keys.now named.now) (spec.types_or_unknown (spec.wanted_names keys.now named.now) (types_over wanted))) }
+        GivesNumbers result locals.new (spec.for_names (context_of context.now) (locals_of locals.old) (spec.wanted_names keys.now named.now) (spec.types_or_unknown (spec.wanted_names keys.now named.now) (types_over wanted))) }
 {
     let names = wanted_names(context.alloc, keys, named)?;
     let types = name_types(context.alloc, names.as_slice(), over)?;

@@ -12,7 +12,7 @@ use crate::context::Context;
 use crate::turns::for_name;
 use std::alloc::Global;
 use zk_base::Mem;
-use zk_expression::LocalName;
+use zk_expression::Locals;
 use zk_operator::{copied_type, with_part};
 use zk_tree::Name;
 use zk_typed::Refusal;
@@ -34,11 +34,11 @@ fn copied_given(alloc: Global, one: &Option<ValueType>) -> Result<Option<ValueTy
 /// A name of a `for` with the type that is given to it.
 fn named_one<'a>(
     context: &Context<'a, '_>,
-    locals: &mut Vec<LocalName<'a>>,
+    locals: &mut Locals<'a>,
     name: &'a Name,
     given: &Option<ValueType>,
 ) -> Result<u32, Refusal>
-    ensures { GivesNumber result locals.new.items (spec.for_name (context_of context.now) (locals_of locals.old.items) name.now (known_or (option_map type_of given.now))) }
+    ensures { GivesNumber result locals.new (spec.for_name (context_of context.now) (locals_of locals.old) name.now (known_or (option_map type_of given.now))) }
 {
     match copied_given(context.alloc, given) {
         Ok(given) => for_name(context, locals, name, given),
@@ -49,12 +49,12 @@ fn named_one<'a>(
 /// The numbers of the names of a `for`, each with the type that is given to it.
 pub fn for_names<'a>(
     context: &Context<'a, '_>,
-    locals: &mut Vec<LocalName<'a>>,
+    locals: &mut Locals<'a>,
     names: &[&'a Name],
     types: &[Option<ValueType>],
 ) -> Result<Vec<u32>, Refusal>
     requires { length names.now ≤ length types.now }
-    ensures { GivesNumbers result locals.new.items (spec.for_names (context_of context.now) (locals_of locals.old.items) (names_lent names.now) (givens_in types.now)) }
+    ensures { GivesNumbers result locals.new (spec.for_names (context_of context.now) (locals_of locals.old) (names_lent names.now) (givens_in types.now)) }
 {
     let mut all = Ok(Vec::new(context.alloc));
     for index in 0..names.len() {

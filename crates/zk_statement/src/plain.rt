@@ -13,7 +13,7 @@ use crate::events::{event_stmt, schedule_stmt};
 use crate::expressions::expr_stmt;
 use crate::made::{break_stmt, next_stmt, no_stmt};
 use crate::returns::return_stmt;
-use zk_expression::LocalName;
+use zk_expression::Locals;
 use zk_tree::Stmt as Syntax;
 use zk_typed::Refusal;
 use zk_typed::script::{Action, Stmt};
@@ -21,7 +21,7 @@ use zk_typed::script::{Action, Stmt};
 /// A statement that has no others within it, and declares no name.
 pub fn plain_stmt(
     context: &Context<'_, '_>,
-    locals: &[LocalName<'_>],
+    locals: &Locals<'_>,
     one: &Syntax,
 ) -> Result<Stmt, Refusal>
     requires { IsTrue (is_plain one.now) }

@@ -8,7 +8,7 @@ ghost use Rattle.zk_statement.specs.Bodies.{context_of};
 ghost use Rattle.zk_statement.specs.Returns.{given_back, nothing_back};
 
 use crate::context::{Context, Within, check_in};
-use zk_expression::{LocalName, refused};
+use zk_expression::{Locals, refused};
 use zk_operator::Wanted;
 use zk_tree::{Expr, Place};
 use zk_typed::script::Stmt;
@@ -18,7 +18,7 @@ use zk_typed::{Refusal, Rule, one_broken};
 #[tactic(auto, using(zk_operator::proofs::BothLaws::passed))]
 fn return_given(
     context: &Context<'_, '_>,
-    locals: &[LocalName<'_>],
+    locals: &Locals<'_>,
     place: Place,
     wanted: Wanted<'_>,
     value: &Option<Expr>,
@@ -41,7 +41,7 @@ fn return_given(
 #[tactic(auto, using(zk_expression::proofs::Refusals::refused))]
 fn return_alone(
     context: &Context<'_, '_>,
-    locals: &[LocalName<'_>],
+    locals: &Locals<'_>,
     place: Place,
     value: &Option<Expr>,
 ) -> Result<Stmt, Refusal>
@@ -59,7 +59,7 @@ fn return_alone(
 /// `return`, which has a value exactly where a result is declared.
 pub fn return_stmt(
     context: &Context<'_, '_>,
-    locals: &[LocalName<'_>],
+    locals: &Locals<'_>,
     place: Place,
     value: &Option<Expr>,
 ) -> Result<Stmt, Refusal>

@@ -12,7 +12,7 @@ use crate::context::{Context, place_of};
 use sqlite_items::Items;
 use std::alloc::Global;
 use zk_base::Mem;
-use zk_expression::{LocalName, local_named};
+use zk_expression::{LocalName, Locals};
 use zk_operator::same_type;
 use zk_tree::{Keys, Name, Place};
 use zk_typed::script::ValueType;
@@ -43,36 +43,37 @@ fn fitting_local(
 
 /// A new local, by its number. More locals than numbers are more than memory holds.
 pub fn new_local<'a>(
-    locals: &mut Vec<LocalName<'a>>,
+    alloc: Global,
+    locals: &mut Locals<'a>,
     name: &'a [u8],
     value_type: Option<ValueType>,
 ) -> Result<u32, Mem>
-    ensures number { IfOk result (λ number. number ≡ length locals.old.items) }
-    ensures visible { OnOk result (locals_of locals.new.items ≡ locals_of locals.old.items ++ record { name = name.now; type = known_or (option_map type_of value_type) } ∷ []) }
+    ensures number { IfOk result (λ number. number ≡ length locals.old) }
+    ensures visible { OnOk result (locals_of locals.new ≡ locals_of locals.old ++ record { name = name.now; type = known_or (option_map type_of value_type) } ∷ []) }
 {
     let Ok(number) = u32::try_from(locals.len()) else {
         return Err(Mem);
     };
-    locals.push(LocalName { name, value_type })?;
+    locals.add(alloc, LocalName { name, value_type })?;
     Ok(number)
 }
 
 /// A name of a `for`: a visible local or parameter, whose type must fit, or else a new local.
 pub fn for_name<'a>(
     context: &Context<'a, '_>,
-    locals: &mut Vec<LocalName<'a>>,
+    locals: &mut Locals<'a>,
     name: &'a Name,
     given: Option<ValueType>,
 ) -> Result<u32, Refusal>
-    ensures { GivesNumber result locals.new.items (spec.for_name (context_of context.now) (locals_of locals.old.items) name.now (known_or (option_map type_of given))) }
+    ensures { GivesNumber result locals.new (spec.for_name (context_of context.now) (locals_of locals.old) name.now (known_or (option_map type_of given))) }
 {
     let text = name.text.as_slice();
     let place = place_of(context, name.place);
-    match local_named(locals.as_slice(), text)? {
+    match locals.named(context.alloc, text)? {
         Some((number, local)) => {
             fitting_local(context.alloc, place, number, &local.value_type, &given)
         }
-        None => Ok(new_local(locals, text, given)?),
+        None => Ok(new_local(context.alloc, locals, text, given)?),
     }
 }
 

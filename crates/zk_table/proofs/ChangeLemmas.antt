@@ -79,6 +79,7 @@ pub rewrites_reordered : (old : Entries) (place order : ℕ) (was is : Stored) (
       slots = with_item old.slots place slot;
       orders = old.orders;
       firsts = with_items old.firsts reordered;
+      recent = old.recent;
     }) place order is
 rewrites_reordered old place order was is slot lent_slots shown reordered there slot_is lent_is shown_is long reorder due_is = record {
   slots = ap (set old.slots.items place) slot_is;
@@ -106,6 +107,7 @@ pub rewrites_same : (old : Entries) (place order : ℕ) (was is : Stored) (slot 
       slots = with_item old.slots place slot;
       orders = old.orders;
       firsts = old.firsts;
+      recent = old.recent;
     }) place order is
 rewrites_same old place order was is slot there slot_is due_is = record {
   slots = ap (set old.slots.items place) slot_is;

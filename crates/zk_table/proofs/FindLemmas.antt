@@ -1,16 +1,17 @@
 -- What the look-ups of a table find.
-use Rattle.std.proofs.Common.{◌≡◌, ℕ, List, slice_get, Option, Some, None, refl, sym, ap, ◌∙◌}
+use Rattle.std.proofs.Common.{◌≡◌, ℕ, true, List, slice_get, Option, Some, None, refl, sym, ap, ◌∙◌}
 use Rattle.std.specs.Prelude.{IfSome, IfNone}
 use Rattle.std.specs.Option.{option_map, option_and_then}
 use Rattle.zk_tree.specs.Table.{entry_at, entry_numbered}
 use Rattle.zk_value.specs.Plain.{key_of}
+use Rattle.zk_value.specs.contracts.key.KeyPartialEq.TheImpl as key_eq
 use Rattle.zk_value.specs.declared.value.Value.{Value}
 use Rattle.zk_table.specs.declared.entries.Entries.{Entries}
 use Rattle.zk_table.specs.declared.slot.Slot.{Slot}
 use Rattle.zk_table.specs.declared.slot.Stored.{Stored}
 use Rattle.zk_table.specs.Kept.{IsKept, Found, Numbered, order_at}
 use Rattle.zk_table.specs.Slots.{Ascends, entries_in, occupied, stored_numbered}
-use Rattle.zk_table.proofs.KeptLemmas.{numbered-none}
+use Rattle.zk_table.proofs.KeptLemmas.{key_eq-Decides, numbered-none}
 use Rattle.zk_table.proofs.SlotLemmas.{numbered-at}
 
 no_number : {A : Type 0} {o : Option A} {a : A} → o ≡ None → o ≡ Some a → ⊥
@@ -84,3 +85,17 @@ place-numbered-none entries order place number is kept = numbered-none entries k
         ap (λ n. stored_numbered n entries.slots.items) (sym number_is)
         ∙ numbered-at 0 entries.slots.items entries.insertions place slot kept.ascends e
         ∙ sym (is ∙ ap (option_and_then (λ (s : Slot). s.entry)) e)
+
+-- an entry in a place that has the key is the key's
+pub found-at : (entries : Entries) (key : List Value) (place : ℕ) (stored : Stored) → Some stored ≡ stored_in entries.slots.items place → (key_eq.ghosts).eq stored.key key ≡ true
+    → Found entries key place
+found-at entries key place stored is same = by (slice_get entries.slots.items place) refl
+  where
+    by : (o : Option Slot) → slice_get entries.slots.items place ≡ o → Found entries key place
+    by None e = absurd (no_number (ap (option_and_then (λ (s : Slot). s.entry)) e) (sym is))
+    by (Some slot) e = record {
+      order = slot.order;
+      stored = stored;
+      there = e ∙ ap (λ s. Some s) (made slot slot.order stored refl (sym (is ∙ ap (option_and_then (λ (s : Slot). s.entry)) e)));
+      key_is = (key_eq-Decides stored.key key).0 same;
+    }

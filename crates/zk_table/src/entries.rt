@@ -1,4 +1,4 @@
-ghost use Rattle.std.specs.Prelude.{◌≡◌, ◌↔◌, ℕ, ◌+◌, ◌<◌, ◌≤◌, length, map, slice_get, slice_set, Some, None, is_some, IfSome, IfOk, OnOk, OnErr, IfNone, vec_len, IsTrue, [], ◌∷◌, ◌++◌, IsSome, List, vec_capacity};
+ghost use Rattle.std.specs.Prelude.{◌≡◌, ◌↔◌, ℕ, ◌+◌, ◌<◌, ◌≤◌, true, length, map, slice_get, slice_set, Some, None, is_some, IfSome, IfOk, OnOk, OnErr, IfNone, vec_len, IsTrue, [], ◌∷◌, ◌++◌, IsSome, List, vec_capacity};
 ghost use Rattle.std.specs.Option.{option_map, option_and_then, option_copied};
 ghost use Rattle.zk_tree.specs.Table as plain;
 ghost use Rattle.zk_tree.specs.Table.{entry_at, entry_numbered, first_due, due_from, renews, with_entries, without};
@@ -14,6 +14,7 @@ use crate::index::{Turn, below, rebuild, reorder};
 use crate::slot::{Pair, Slot, Stored, moment_after};
 use indexmap::IndexMap;
 use std::alloc::Global;
+use std::cell::Cell;
 use zk_base::{Mem, Moment, Span};
 use zk_tree::Expiry;
 use zk_value::{Key, Value};
@@ -75,6 +76,10 @@ pub struct Entries {
     orders: IndexMap<Key, u64>,
     /// The index of dues: for each place the first turn of its own and of those below it.
     firsts: Vec<Option<Turn>>,
+    /// The place where an entry was found or added last. Scripts mostly ask for the same key again
+    /// (`if (k in t) .. t[k]`, `t[k] += 1`) or for the next one (`for (k in t) .. t[k]`). It counts only where
+    /// the entry there has the key, so no clause sees it.
+    recent: Cell<usize>,
 }
 
 impl Entries {
@@ -93,6 +98,7 @@ impl Entries {
             slots: Vec::new(alloc),
             orders: IndexMap::new(alloc),
             firsts: Vec::new(alloc),
+            recent: Cell::new(0),
         }
     }
 
@@ -117,13 +123,57 @@ impl Entries {
         self.slots.get(place)?.entry.as_ref()
     }
 
-    /// The place of a key's entry.
-    pub fn find(&self, key: &Key) -> Option<usize>
+    /// Whether the entry in a place has this key.
+    fn is_at(&self, place: usize, key: &Key) -> bool
+        ensures { result ≡ true → Found self.now key.now place }
+    {
+        match self.stored(place) {
+            Some(stored) => stored.key == *key,
+            None => false,
+        }
+    }
+
+    /// The place of a key's entry, where it is the one that was found last or the one behind it. A key that has
+    /// another costs a comparison or two.
+    fn find_recent(&self, key: &Key) -> Option<usize>
+        ensures { IfSome result (λ place. Found self.now key.now place) }
+    {
+        let last = self.recent.get();
+        if self.is_at(last, key) {
+            return Some(last);
+        }
+        let next = last.saturating_add(1);
+        if self.is_at(next, key) {
+            self.recent.set(next);
+            return Some(next);
+        }
+        None
+    }
+
+    /// The place of a key's entry, by its order number.
+    fn search(&self, key: &Key) -> Option<usize>
         ensures found { IfSome result (λ place. IsKept self.now → Found self.now key.now place) }
         ensures none { IfNone result (IsKept self.now → entry_at (key_of key.now) (table_in self.now).entries ≡ None) }
     {
         match self.orders.get(key) {
             Some(order) => place_of(&self.slots, self.insertions, *order),
+            None => None,
+        }
+    }
+
+    /// The place of a key's entry.
+    pub fn find(&self, key: &Key) -> Option<usize>
+        ensures found { IfSome result (λ place. IsKept self.now → Found self.now key.now place) }
+        ensures none { IfNone result (IsKept self.now → entry_at (key_of key.now) (table_in self.now).entries ≡ None) }
+    {
+        if let Some(place) = self.find_recent(key) {
+            return Some(place);
+        }
+        match self.search(key) {
+            Some(place) => {
+                self.recent.set(place);
+                Some(place)
+            }
             None => None,
         }
     }
@@ -297,6 +347,7 @@ impl Entries {
         };
         self.insertions = insertions;
         self.live = live;
+        self.recent.set(place);
         reorder(&self.slots, &mut self.firsts, place);
         Ok(())
     }

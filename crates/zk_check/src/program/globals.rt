@@ -36,7 +36,7 @@ fn env_at<'a>(source: &Source<'a>, home: Home<'a>) -> Env<'a>
     Env {
         scripts: source.scripts,
         home,
-        locals: &[],
+        locals: None,
         globals: source.globals,
     }
 }

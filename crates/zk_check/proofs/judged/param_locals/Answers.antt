@@ -19,6 +19,6 @@ loop-param-preserved c =
     let named : List ℕ → Checked ValueType → LocalName = λ text is. record { name = text; type = is } in
     let f : Param → LocalName = λ param. named (out-Param param).name.text (hushed (type_of scripts home (out-Param param).param_type)) in
     let known : Checked ValueType = known_or (option_map view.type_of c.in_ok-value_type.value_type) in
-    pushed local_of f c.args.params.now c.loop-param.param-index c.param-item.result c.loop-param.locals.items c.push.new.self.items _
-    c.in_ok-push.ensures.items (omega arith) c.param-item.is c.loop-param.invariant
+    pushed local_of f c.args.params.now c.loop-param.param-index c.param-item.result c.loop-param.locals c.add.new.self _
+    c.in_ok-add.ensures (omega arith) c.param-item.is c.loop-param.invariant
     (ap (λ text. named text known) c.as_slice-name.ensures ∙ ap (named (out-Param c.param-item.result).name.text) c.in_ok-value_type.ensures)

@@ -2,7 +2,8 @@ use Rattle.std.proofs.Common.{Some, None, ◌++◌, map, ap, sym, ◌∙◌, app
 use Rattle.zk_typed.specs.Resolving.{is_that, type_named, written_field}
 use Rattle.zk_names.specs.Lent.{home_of}
 use Rattle.zk_names.specs.Scripted.{scripts_in}
-use Rattle.zk_declaration.specs.Edges.{edges_at, is_among}
+use Rattle.zk_names.specs.FieldPlaces.{is_among}
+use Rattle.zk_declaration.specs.Edges.{edges_at}
 use Rattle.zk_declaration.proofs.EdgeLaws.{added_by}
 use Rattle.zk_declaration.proofs.edges.add_redef.Goals as goal
 

@@ -11,4 +11,4 @@ returns-then-is_record-records c = λ places stands.
     let kept : beq (is_record (node_of c.args.node.now)) c.args.records ≡ true = search rules in
     subst (λ (x : List (ℕ × ℕ)). Stands spot_eq c.add.new.self (places ++ x))
     (sym (spot_kept c.args.records (node_of c.args.node.now) c.spot.result kept c.spot.ensures))
-    (c.in_ok-add.ensures places stands)
+    (c.in_ok-add.ensures.ok places stands)

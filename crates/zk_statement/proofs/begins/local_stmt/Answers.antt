@@ -1,4 +1,3 @@
-use Rattle.std.proofs.Common.{ap}
 use Rattle.zk_expression.specs.Envs.{locals_of}
 use Rattle.zk_statement.specs.Bodies.{context_of}
 use Rattle.zk_statement.proofs.BegunLaws.{local_gives}
@@ -6,6 +5,6 @@ use Rattle.zk_statement.proofs.begins.local_stmt.Goals as goal
 
 pub returns-in-Ok : goal.returns-in-Ok
 returns-in-Ok c =
-    local_gives c.local_made-value_type.result.made c.new_local.new.locals.items (context_of c.args.context.now) (locals_of c.args.locals.now.items) (locals_of c.as_slice.result.now)
-    c.args.place c.args.name.now c.as_slice-2.result.now c.args.tree.now c.args.init.now c.place_of-place.result _
-    c.place_of-place.ensures (ap locals_of c.as_slice.ensures.value) c.as_slice-2.ensures c.local_made-value_type.ensures.made c.local_made-value_type.ensures.known c.in-Ok.ensures.visible
+    local_gives c.local_made-value_type.result.made c.new_local.new.locals (context_of c.args.context.now) (locals_of c.args.locals.now)
+    c.args.place c.args.name.now c.as_slice.result.now c.args.tree.now c.args.init.now c.place_of-place.result _
+    c.place_of-place.ensures c.as_slice.ensures c.local_made-value_type.ensures.made c.local_made-value_type.ensures.known c.in-Ok.ensures.visible

@@ -36,11 +36,11 @@ stmt-returns-in-Local t c = local_gives _ _ _ _ _ _ _ _ _ _ (omega arith) c.in-L
 
 pub for_stmt-returns : goal.for_stmt-returns
 for_stmt-returns t c =
-    for_lent _ _ _ _ c.as_slice.result.now (spec.stmt_to c.args.depth) (context_of c.args.context.now) (context_of c.looping.result) c.args.place c.place_of-place.result c.args.keys.now c.args.named.now c.args.over.now c.args.body.now
-    c.over_and_types-over.result c.loop_names-names.result c.stmt-body.result c.as_slice.ensures.value c.looping.ensures c.place_of-place.ensures
+    for_lent _ _ _ _ (spec.stmt_to c.args.depth) (context_of c.args.context.now) (context_of c.looping.result) c.args.place c.place_of-place.result c.args.keys.now c.args.named.now c.args.over.now c.args.body.now
+    c.over_and_types-over.result c.loop_names-names.result c.stmt-body.result c.looping.ensures c.place_of-place.ensures
     c.over_and_types-over.ensures.over c.loop_names-names.ensures c.stmt-body.ensures c.for_made.ensures.made c.for_made.ensures.known
 
 pub stmt-returns-in_default : goal.stmt-returns-in_default
 stmt-returns-in_default t c =
     let plain : IsTrue (is_plain c.args.one.now) = search rules in
-    plain_gives _ _ c.as_slice.result.now c.args.depth (context_of c.args.context.now) c.args.one.now (omega arith) plain c.as_slice.ensures.value c.plain_stmt.ensures
+    plain_gives _ c.args.locals.now c.args.depth (context_of c.args.context.now) c.args.one.now (omega arith) plain c.plain_stmt.ensures

@@ -25,5 +25,5 @@ decreases-block_stmt l = 3 * l.depth + 1
 
 abbrev pub invariant-block_stmt-loop-one : goal.invariant-block_stmt-loop-one
 invariant-block_stmt-loop-one l = Told l.all →
-    with_more (seen l.all) (spec.stmts_typed (spec.stmt_to l.depth) (context_of l.context) (locals_of l.locals.items) (drop l.one-index l.one-items))
-    ≡ spec.stmts_typed (spec.stmt_to l.depth) (context_of l.context) (locals_of l.initial.locals.items) l.one-items
+    with_more (seen l.all) (spec.stmts_typed (spec.stmt_to l.depth) (context_of l.context) (locals_of l.locals) (drop l.one-index l.one-items))
+    ≡ spec.stmts_typed (spec.stmt_to l.depth) (context_of l.context) (locals_of l.initial.locals) l.one-items

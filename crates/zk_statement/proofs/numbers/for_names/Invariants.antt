@@ -9,5 +9,5 @@ use Rattle.zk_statement.proofs.numbers.for_names.Given as goal
 
 abbrev pub invariant-loop-index : goal.invariant-loop-index
 invariant-loop-index l = Told l.all →
-    with_numbers (seen_numbers l.all) (spec.for_names (context_of l.context) (locals_of l.locals.items) (names_lent (drop l.index l.names)) (givens_in (drop l.index l.types)))
-    ≡ spec.for_names (context_of l.context) (locals_of l.initial.locals.items) (names_lent l.names) (givens_in l.types)
+    with_numbers (seen_numbers l.all) (spec.for_names (context_of l.context) (locals_of l.locals) (names_lent (drop l.index l.names)) (givens_in (drop l.index l.types)))
+    ≡ spec.for_names (context_of l.context) (locals_of l.initial.locals) (names_lent l.names) (givens_in l.types)

@@ -1,4 +1,4 @@
-use Rattle.std.proofs.Common.{◌≡◌, ◌<◌, ◌∷◌, ◌+◌, List, length, drop, Some, sym, ap, ◌∙◌, arith}
+use Rattle.std.proofs.Common.{◌<◌, List, length, sym, ap, ◌∙◌, arith}
 use Rattle.zk_lower.specs.Steps as steps
 use Rattle.zk_lower.specs.View.{code_of}
 use Rattle.zk_typed.specs.Does.{Gives, and_then}

@@ -1,5 +1,5 @@
-use Rattle.std.proofs.Common.{◌≡◌, ◌++◌, [], cond, true, false, Some, sym, ap, ◌∙◌}
-use Rattle.zk_machine.specs.Agenda.{entry_dues, event_dues, first_of}
+use Rattle.std.proofs.Common.{◌++◌, sym, ap, ◌∙◌}
+use Rattle.zk_machine.specs.Agenda.{event_dues, first_of}
 use Rattle.zk_machine.specs.State.{world_of}
 use Rattle.zk_machine.proofs.FirstLemmas.{led, no_entries, due_in-ending, due_in-going}
 use Rattle.zk_machine.proofs.world.World.due.Goals as goal

@@ -3,8 +3,8 @@ ghost use Rattle.std.specs.Prelude.{◌≡◌, ◌+◌, ◌≤◌, [], ◌∷◌
 use crate::Mem;
 use std::alloc::Global;
 
-/// Bytes that are added at the end and taken from the front. What was taken is let go of once it is
-/// more than what is left, so that each byte is moved once at most.
+/// Bytes that are added at the end and taken from the front. What was taken is let go of where room is
+/// made and it is more than what is left, so that each byte is moved once at most.
 #[derive(Debug, Drop)]
 pub struct ByteQueue {
     bytes: Vec<u8>,
@@ -39,6 +39,7 @@ impl ByteQueue {
         ensures ok { OnOk result (more ≤ room_of self.new) }
         ensures room { room_of self.old ≤ room_of self.new }
     {
+        self.let_go();
         self.bytes.reserve(more)?;
         Ok(())
     }
@@ -72,30 +73,18 @@ impl ByteQueue {
         ensures room { room_of self.old ≤ room_of self.new }
     {
         self.taken += n;
+    }
+
+    /// Lets go of what was taken, where it is more than what is left.
+    fn let_go(&mut self)
+        ensures bytes { bytes_of self.new ≡ bytes_of self.old }
+        ensures room { room_of self.old ≤ room_of self.new }
+    {
         let left = self.bytes.len() - self.taken;
         if left < self.taken {
             self.bytes.copy_within(self.taken.., 0);
             self.bytes.truncate(left);
             self.taken = 0;
         }
-    }
-}
-
-#[cfg(test)]
-mod tests {
-    use super::*;
-    use std::test::Fail;
-
-    #[test]
-    fn bytes_are_taken_in_the_order_in_which_they_were_added(rt: HostRuntime) -> Result<(), Fail> {
-        let mut queue = ByteQueue::new(rt.alloc());
-        queue.reserve(5)?;
-        queue.append(b"abcd");
-        queue.push(b'e');
-        queue.take(1);
-        assert_eq!(rt; queue.as_slice(), b"bcde".as_slice());
-        queue.take(3);
-        assert_eq!(rt; queue.as_slice(), b"e".as_slice());
-        Ok(())
     }
 }

@@ -143,26 +143,3 @@ impl From<Bytes> for Word {
         Word { bytes }
     }
 }
-
-#[cfg(test)]
-mod tests {
-    use super::*;
-    use std::test::Fail;
-
-    #[test]
-    fn bytes_are_added_compared_and_given_back(rt: HostRuntime) -> Result<(), Fail> {
-        let alloc = rt.alloc();
-        let mut bytes = Bytes::copy_of(alloc, b"web")?;
-        bytes.append(b".pcap")?;
-        assert_eq!(rt; bytes, Bytes::from(Vec::from_slice(alloc, b"web.pcap")?));
-        assert_eq!(rt; bytes.len(), 8);
-        assert_eq!(rt; Word::from(bytes).as_slice(), b"web.pcap".as_slice());
-
-        let mut bytes = Bytes::copy_of(alloc, b"dns")?;
-        bytes.clear();
-        assert!(rt; bytes.is_empty());
-        bytes.append(b"log")?;
-        assert_eq!(rt; bytes.into_vec().as_slice(), b"log".as_slice());
-        Ok(())
-    }
-}

@@ -33,20 +33,3 @@ pub fn is_right_checksum(total: u64) -> bool
     // 2^16 counts as 1, so what carries leave is the remainder by 2^16 - 1.
     total > 0 && total % 0xffff == 0
 }
-
-#[cfg(test)]
-mod tests {
-    use super::*;
-
-    // The bytes, their sum and their checksum are those of RFC 1071, section 3.
-    #[test]
-    fn the_standards_example_sums_as_it_says(rt: HostRuntime) {
-        let bytes = [0x00, 0x01, 0xf2, 0x03, 0xf4, 0xf5, 0xf6, 0xf7];
-        assert_eq!(rt; word_sum(&bytes), 0x2ddf0);
-        assert_eq!(rt; word_sum(&bytes[..7]), 0x2ddf0 - 0xf7);
-        let checksum = 0xffff - 0xddf2;
-        assert!(rt; is_right_checksum(0x2ddf0 + checksum));
-        assert!(rt; !is_right_checksum(0x2ddf0 + checksum + 1));
-        assert!(rt; !is_right_checksum(0));
-    }
-}

@@ -65,21 +65,3 @@ impl<T> From<Vec<T>> for Sequence<T> {
         Sequence { vec }
     }
 }
-
-#[cfg(test)]
-mod tests {
-    use super::*;
-    use std::test::Fail;
-
-    #[test]
-    fn values_are_kept_and_given_back_in_order(rt: HostRuntime) -> Result<(), Fail> {
-        let alloc = rt.alloc();
-        let none: Sequence<u32> = Sequence::new(alloc);
-        assert!(rt; none.is_empty());
-        let some = Sequence::from(vec![in alloc; 3_u32, 1, 2]?);
-        assert_eq!(rt; some.len(), 3);
-        assert_eq!(rt; some.as_slice(), [3, 1, 2].as_slice());
-        assert_eq!(rt; some.into_vec().as_slice(), [3, 1, 2].as_slice());
-        Ok(())
-    }
-}

@@ -21,6 +21,8 @@ mod streams;
 #[cfg(test)]
 mod table;
 #[cfg(test)]
+mod text;
+#[cfg(test)]
 mod token;
 #[cfg(test)]
 mod value;

@@ -87,31 +87,3 @@ fn is_taken(text: &[u8]) -> bool
         [first, ..] => *first == b'#' || text == b"-".as_slice() || text == b"(empty)".as_slice(),
     }
 }
-
-#[cfg(test)]
-mod tests {
-    use super::*;
-    use std::test::Fail;
-
-    #[test]
-    fn strings_are_escaped_as_cells_have_them(rt: HostRuntime) -> Result<(), Fail> {
-        let rows = [
-            (b"-".as_slice(), false, "\\x2d"),
-            (b"--", false, "--"),
-            (b"(empty)", false, "\\x28empty)"),
-            (b"\t\\\xff", false, "\\x09\\x5c\\xff"),
-            (b"#x#", false, "\\x23x#"),
-            (b"a,b", false, "a,b"),
-            (b"a,b", true, "a\\x2cb"),
-            (b"", true, ""),
-        ];
-        for (string, in_set, text) in rows {
-            let mut out = [b'?'; 16];
-            let len = escape_into(string, in_set, &mut out)?;
-            assert_eq!(rt; &out[..len], text.as_bytes());
-        }
-        let mut out = [b'?'; 3];
-        assert!(rt; escape_into(b"-", false, &mut out).is_err());
-        Ok(())
-    }
-}

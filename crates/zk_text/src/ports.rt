@@ -36,24 +36,3 @@ pub fn proto_name(proto: Proto) -> &'static [u8]
         Proto::Udp => b"udp",
     }
 }
-
-#[cfg(test)]
-mod tests {
-    use super::*;
-    use std::test::Fail;
-
-    #[test]
-    fn ports_print_with_their_protocol(rt: HostRuntime) -> Result<(), Fail> {
-        let rows = [
-            (80, Proto::Tcp, "80/tcp"),
-            (0, Proto::Udp, "0/udp"),
-            (u16::MAX, Proto::Tcp, "65535/tcp"),
-        ];
-        for (port, proto, text) in rows {
-            let mut out = [b'?'; PORT_TEXT_MAX];
-            let len = port_text(port, proto, &mut out)?;
-            assert_eq!(rt; &out[..len], text.as_bytes());
-        }
-        Ok(())
-    }
-}

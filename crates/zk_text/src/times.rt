@@ -61,31 +61,3 @@ fn write_seconds(size: u64, text: &mut [u8; SPAN_TEXT_MAX]) -> usize
     write_digits(size % MICROSECONDS_PER_SECOND, text, SPAN_TEXT_MAX);
     write_digits(size / MICROSECONDS_PER_SECOND, text, POINT)
 }
-
-#[cfg(test)]
-mod tests {
-    use super::*;
-    use std::test::Fail;
-
-    /// Numbers of microseconds with what `format(Decimal(n).scaleb(-6), ".6f")` gives in Python.
-    const ROWS: [(i64, &str); 8] = [
-        (0, "0.000000"),
-        (1_999_999, "1.999999"),
-        (-1, "-0.000001"),
-        (1_700_000_000_020_000, "1700000000.020000"),
-        (i64::MIN, "-9223372036854.775808"),
-        (i64::MAX, "9223372036854.775807"),
-        (-60_000_000, "-60.000000"),
-        (300_000_001, "300.000001"),
-    ];
-
-    #[test]
-    fn spans_print_as_seconds_with_six_decimals(rt: HostRuntime) -> Result<(), Fail> {
-        for (n, text) in &ROWS {
-            let mut out = [b'?'; SPAN_TEXT_MAX];
-            let len = span_text(*n, &mut out)?;
-            assert_eq!(rt; &out[..len], text.as_bytes(), "at {n}");
-        }
-        Ok(())
-    }
-}

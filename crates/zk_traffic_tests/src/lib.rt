@@ -3,6 +3,8 @@
 #![tactic(auto)]
 
 #[cfg(test)]
+mod base;
+#[cfg(test)]
 mod conn;
 #[cfg(test)]
 mod dns;
@@ -18,6 +20,8 @@ mod link_ip;
 mod pcap;
 #[cfg(test)]
 mod reasm;
+#[cfg(test)]
+mod shelves;
 #[cfg(test)]
 mod traffic;
 #[cfg(test)]

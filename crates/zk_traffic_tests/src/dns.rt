@@ -1,6 +1,6 @@
-use std::alloc::{AllocError, Global};
+use std::alloc::Global;
 use std::test::Fail;
-use zk_dns::{AnswerKind, DnsFault, DnsRecord, DnsStep, Message, QuestionPart, TcpDns};
+use zk_dns::{AnswerKind, DnsFault, DnsRecord, Message};
 
 /// A query for the address of www.example.com.
 const QUERY: &[u8] = &[
@@ -33,21 +33,6 @@ const KINDS: &[u8] = &[
     0x02, 0x00, 0x00, 0x00, 0x03, 0x00, 0x00, 0x00, 0x04, 0x00, 0x00, 0x00, 0x05, 0x00, 0x00, 0x29,
     0x00, 0x01, 0x00, 0x00, 0x01, 0x2c, 0x00, 0x03, 0x78, 0x79, 0x7a, 0x00, 0x00, 0x01, 0x00, 0x03,
     0x00, 0x00, 0x01, 0x2c, 0x00, 0x03, 0x31, 0x32, 0x33,
-];
-
-/// Frame 8 of examples/web.pcap: a reply whose second answer is named in the data of the first.
-const ALIAS: &[u8] = &[
-    0x12, 0x81, 0x81, 0x80, 0x00, 0x01, 0x00, 0x02, 0x00, 0x00, 0x00, 0x00, 0x05, 0x61, 0x6c, 0x69,
-    0x61, 0x73, 0x07, 0x65, 0x78, 0x61, 0x6d, 0x70, 0x6c, 0x65, 0x00, 0x00, 0x01, 0x00, 0x01, 0xc0,
-    0x0c, 0x00, 0x05, 0x00, 0x01, 0x00, 0x00, 0x02, 0x58, 0x00, 0x0b, 0x01, 0x68, 0x07, 0x65, 0x78,
-    0x61, 0x6d, 0x70, 0x6c, 0x65, 0x00, 0xc0, 0x2b, 0x00, 0x01, 0x00, 0x01, 0x00, 0x00, 0x02, 0x58,
-    0x00, 0x04, 0xc0, 0x00, 0x02, 0x07,
-];
-
-/// Frame 2 there: a reply that says that there is no such name.
-const NO_SUCH_NAME: &[u8] = &[
-    0x96, 0x87, 0x81, 0x83, 0x00, 0x01, 0x00, 0x00, 0x00, 0x00, 0x00, 0x00, 0x01, 0x61, 0x07, 0x65,
-    0x78, 0x61, 0x6d, 0x70, 0x6c, 0x65, 0x00, 0x00, 0x01, 0x00, 0x01,
 ];
 
 /// What the data of an answer is to say.
@@ -109,114 +94,49 @@ fn record_of(alloc: Global, bytes: &[u8]) -> Result<DnsRecord, Fail> {
 #[test]
 fn a_query_is_told_field_by_field(rt: HostRuntime) -> Result<(), Fail> {
     let told = record_of(rt.alloc(), QUERY)?;
-    assert_eq!(rt; (told.id, told.opcode, told.rcode), (4660, 0, 0));
-    assert_eq!(rt;
-        (told.qr, told.aa, told.tc, told.rd, told.ra),
-        (false, false, false, true, false)
+    assert!(rt; (told.id, told.opcode, told.rcode) == (4660, 0, 0));
+    assert!(rt;
+        (told.qr, told.aa, told.tc, told.rd, told.ra) == (false, false, false, true, false)
     );
-    assert_eq!(rt; told.counts, [1, 0, 0, 0]);
-    assert_eq!(rt; (told.questions.len(), told.answers.len()), (1, 0));
+    assert!(rt; told.counts == [1, 0, 0, 0]);
+    assert!(rt; (told.questions.len(), told.answers.len()) == (1, 0));
     for question in told.questions.as_slice() {
-        assert_eq!(rt; question.name.as_slice(), b"www.example.com".as_slice());
-        assert_eq!(rt; (question.qtype, question.qclass), (1, 1));
+        assert!(rt; question.name.as_slice() == b"www.example.com".as_slice());
+        assert!(rt; (question.qtype, question.qclass) == (1, 1));
     }
     Ok(())
 }
 
-/// What tshark prints of replies: their names of answers in their order, and the answers.
+/// What tshark prints of the answers of `KINDS`.
+const ANSWERS: [Row; 10] = [
+    (1, 1, 300, Want::A(0x0a00_0007)),
+    (
+        28,
+        1,
+        300,
+        Want::Aaaa(0x2001_0db8_0000_0000_0000_0000_0000_0001),
+    ),
+    (2, 1, 300, Want::Name(b"www.example.com")),
+    (5, 1, 300, Want::Name(b"c")),
+    (12, 1, 300, Want::Name(b".")),
+    (15, 1, 300, Want::Mx(10, b"mail.a")),
+    (16, 1, 300, Want::Txt(&[b"ab", b"", b","])),
+    (6, 1, 300, Want::Soa(b"a", b"b", [1, 2, 3, 4, 5])),
+    (41, 1, 300, Want::Other),
+    (1, 3, 300, Want::Other),
+];
+
 #[test]
 fn answers_are_those_that_tshark_prints(rt: HostRuntime) -> Result<(), Fail> {
-    let alloc = rt.alloc();
-    let kinds: [Row; 10] = [
-        (1, 1, 300, Want::A(0x0a00_0007)),
-        (
-            28,
-            1,
-            300,
-            Want::Aaaa(0x2001_0db8_0000_0000_0000_0000_0000_0001),
-        ),
-        (2, 1, 300, Want::Name(b"www.example.com")),
-        (5, 1, 300, Want::Name(b"c")),
-        (12, 1, 300, Want::Name(b".")),
-        (15, 1, 300, Want::Mx(10, b"mail.a")),
-        (16, 1, 300, Want::Txt(&[b"ab", b"", b","])),
-        (6, 1, 300, Want::Soa(b"a", b"b", [1, 2, 3, 4, 5])),
-        (41, 1, 300, Want::Other),
-        (1, 3, 300, Want::Other),
-    ];
-    let told = record_of(alloc, KINDS)?;
-    assert_eq!(rt; told.counts, [1, 10, 0, 0]);
-    assert_eq!(rt;
-        (told.qr, told.aa, told.rd, told.ra, told.rcode),
-        (true, true, true, true, 3)
-    );
-    assert_eq!(rt; told.answers.len(), kinds.len());
-    for (answer, (rtype, rclass, ttl, want)) in told.answers.as_slice().iter().zip(kinds.iter()) {
-        assert_eq!(rt;
-            (answer.rtype, answer.rclass, answer.ttl),
-            (*rtype, *rclass, *ttl)
-        );
-        assert_eq!(rt; answer.name.as_slice(), b".".as_slice());
+    let told = record_of(rt.alloc(), KINDS)?;
+    assert!(rt; told.counts == [1, 10, 0, 0]);
+    assert!(rt; (told.qr, told.aa, told.rd, told.ra, told.rcode) == (true, true, true, true, 3));
+    assert!(rt; told.answers.len() == ANSWERS.len());
+    for (answer, (rtype, rclass, ttl, want)) in told.answers.as_slice().iter().zip(ANSWERS.iter()) {
+        assert!(rt; (answer.rtype, answer.rclass, answer.ttl) == (*rtype, *rclass, *ttl));
+        assert!(rt; answer.name.as_slice() == b".".as_slice());
         assert!(rt; says(&answer.what, want), "in type {rtype}");
     }
-    Ok(())
-}
-
-#[test]
-fn a_second_answer_is_named_in_the_data_of_the_first(rt: HostRuntime) -> Result<(), Fail> {
-    let alloc = rt.alloc();
-    let rows: [(&[u8], Row); 2] = [
-        (b"alias.example", (5, 1, 600, Want::Name(b"h.example"))),
-        (b"h.example", (1, 1, 600, Want::A(0xc000_0207))),
-    ];
-    let told = record_of(alloc, ALIAS)?;
-    assert_eq!(rt; told.answers.len(), rows.len());
-    for (answer, (name, (rtype, rclass, ttl, want))) in told
-        .answers
-        .as_slice()
-        .iter()
-        .zip(rows.iter())
-    {
-        assert_eq!(rt; answer.name.as_slice(), *name);
-        assert_eq!(rt;
-            (answer.rtype, answer.rclass, answer.ttl),
-            (*rtype, *rclass, *ttl)
-        );
-        assert!(rt; says(&answer.what, want), "in type {rtype}");
-    }
-    assert_eq!(rt; record_of(alloc, NO_SUCH_NAME)?.rcode, 3);
-    Ok(())
-}
-
-#[test]
-fn parts_stand_in_their_places(rt: HostRuntime) -> Result<(), Fail> {
-    let message = Message::read(REPLY)?;
-    let mut questions = message.questions();
-    assert_eq!(rt;
-        questions.next(),
-        Some(QuestionPart {
-            name: 12,
-            qtype: 1,
-            qclass: 1
-        })
-    );
-    assert_eq!(rt; questions.next(), None);
-    let rows: [(usize, u16, usize, &[u8]); 2] = [
-        (33, 5, 45, b"\xc0\x10"),
-        (47, 1, 59, b"\x5d\xb8\xd8\x22"),
-    ];
-    let mut answers = message.answers();
-    for (name, rtype, at, bytes) in rows {
-        let Some(part) = answers.next() else {
-            panic!(&rt; "an answer is missing");
-        };
-        assert_eq!(rt;
-            (part.name, part.rtype, part.rclass, part.ttl, part.at),
-            (name, rtype, 1, 300, at)
-        );
-        assert_eq!(rt; part.bytes, bytes);
-    }
-    assert!(rt; answers.next().is_none());
     Ok(())
 }
 
@@ -228,51 +148,26 @@ fn a_part_is_named_by_its_place(rt: HostRuntime) -> Result<(), Fail> {
         panic!(&rt; "the question is missing");
     };
     let name = message.name_out(rt.alloc(), question.name)?;
-    assert_eq!(rt; name.as_slice(), b"www.example.com".as_slice());
+    assert!(rt; name.as_slice() == b"www.example.com".as_slice());
     Ok(())
 }
 
 /// Messages that can't be read, each with its fault.
-const FAULTS: [(&[u8], DnsFault); 26] = [
+const FAULTS: [(&[u8], DnsFault); 14] = [
     // the header ends early
     (
         b"\x124\x01\x00\x00\x01\x00\x00\x00\x00\x00",
         DnsFault::Short { place: 11 },
-    ),
-    // no question
-    (
-        b"\x124\x01\x00\x00\x01\x00\x00\x00\x00\x00\x00",
-        DnsFault::Short { place: 12 },
     ),
     // a label passes the end
     (
         b"\x124\x01\x00\x00\x01\x00\x00\x00\x00\x00\x00\x05ab",
         DnsFault::Short { place: 15 },
     ),
-    // a pointer passes the end
-    (
-        b"\x124\x01\x00\x00\x01\x00\x00\x00\x00\x00\x00\xc0",
-        DnsFault::Short { place: 13 },
-    ),
-    // a name without fields
-    (
-        b"\x124\x01\x00\x00\x01\x00\x00\x00\x00\x00\x00\x00\x00\x01\x00",
-        DnsFault::Short { place: 16 },
-    ),
-    // a record without fields
-    (
-        b"\x124\x81\x80\x00\x00\x00\x01\x00\x00\x00\x00\x00\x00\x01\x00\x01\x00\x00\x01,\x00",
-        DnsFault::Short { place: 22 },
-    ),
     // data passes the end
     (
         b"\x124\x81\x80\x00\x00\x00\x01\x00\x00\x00\x00\x00\x00\x01\x00\x01\x00\x00\x01,\x00\x0412",
         DnsFault::Short { place: 25 },
-    ),
-    // a length byte 01
-    (
-        b"\x124\x01\x00\x00\x01\x00\x00\x00\x00\x00\x00@\x00\x01\x00\x01",
-        DnsFault::Label { place: 12 },
     ),
     // a length byte 10 behind a label
     (
@@ -284,11 +179,6 @@ const FAULTS: [(&[u8], DnsFault); 26] = [
         b"\x124\x81\x80\x00\x00\x00\x01\x00\x00\x00\x00\x00\x00\x02\x00\x01\x00\x00\x01,\x00\x03\x01a\x7f",
         DnsFault::Label { place: 25 },
     ),
-    // a pointer to its own run
-    (
-        b"\x124\x01\x00\x00\x01\x00\x00\x00\x00\x00\x00\xc0\x0c\x00\x01\x00\x01",
-        DnsFault::Pointer { place: 12 },
-    ),
     // a pointer to its own run, behind a label
     (
         b"\x124\x01\x00\x00\x01\x00\x00\x00\x00\x00\x00\x01a\xc0\x0c\x00\x01\x00\x01",
@@ -299,34 +189,14 @@ const FAULTS: [(&[u8], DnsFault); 26] = [
         b"\x124\x01\x00\x00\x01\x00\x00\x00\x00\x00\x00\xc0\x12\x00\x01\x00\x01\x00",
         DnsFault::Pointer { place: 12 },
     ),
-    // a pointer into the header
-    (
-        b"\x124\x01\x00\x00\x01\x00\x00\x00\x00\x00\x00\xc0\x0b\x00\x01\x00\x01",
-        DnsFault::Pointer { place: 12 },
-    ),
-    // a pointer onward in data
-    (
-        b"\x124\x81\x80\x00\x00\x00\x01\x00\x00\x00\x00\x00\x00\x02\x00\x01\x00\x00\x01,\x00\x02\xc0\x17",
-        DnsFault::Pointer { place: 23 },
-    ),
     // 256 bytes of name
     (
         b"\x124\x01\x00\x00\x01\x00\x00\x00\x00\x00\x00?aaaaaaaaaaaaaaaaaaaaaaaaaaaaaaaaaaaaaaaaaaaaaaaaaaaaaaaaaaaaaaa?aaaaaaaaaaaaaaaaaaaaaaaaaaaaaaaaaaaaaaaaaaaaaaaaaaaaaaaaaaaaaaa?aaaaaaaaaaaaaaaaaaaaaaaaaaaaaaaaaaaaaaaaaaaaaaaaaaaaaaaaaaaaaaa>aaaaaaaaaaaaaaaaaaaaaaaaaaaaaaaaaaaaaaaaaaaaaaaaaaaaaaaaaaaaaa\x00\x00\x01\x00\x01",
         DnsFault::Name { place: 204 },
     ),
-    // 256 bytes of name by a pointer
-    (
-        b"\x124\x01\x00\x00\x02\x00\x00\x00\x00\x00\x00?aaaaaaaaaaaaaaaaaaaaaaaaaaaaaaaaaaaaaaaaaaaaaaaaaaaaaaaaaaaaaaa?aaaaaaaaaaaaaaaaaaaaaaaaaaaaaaaaaaaaaaaaaaaaaaaaaaaaaaaaaaaaaaa?aaaaaaaaaaaaaaaaaaaaaaaaaaaaaaaaaaaaaaaaaaaaaaaaaaaaaaaaaaaaaaa\x00\x00\x01\x00\x01>aaaaaaaaaaaaaaaaaaaaaaaaaaaaaaaaaaaaaaaaaaaaaaaaaaaaaaaaaaaaaa\xc0\x0c\x00\x01\x00\x01",
-        DnsFault::Name { place: 140 },
-    ),
     // an address of 3 bytes
     (
         b"\x124\x81\x80\x00\x00\x00\x01\x00\x00\x00\x00\x00\x00\x01\x00\x01\x00\x00\x01,\x00\x03123",
-        DnsFault::Data { place: 23 },
-    ),
-    // an IPv6 address of 15 bytes
-    (
-        b"\x124\x81\x80\x00\x00\x00\x01\x00\x00\x00\x00\x00\x00\x1c\x00\x01\x00\x00\x01,\x00\x0f\x00\x00\x00\x00\x00\x00\x00\x00\x00\x00\x00\x00\x00\x00\x00",
         DnsFault::Data { place: 23 },
     ),
     // a byte behind a name
@@ -339,19 +209,9 @@ const FAULTS: [(&[u8], DnsFault); 26] = [
         b"\x124\x81\x80\x00\x00\x00\x01\x00\x00\x00\x00\x00\x00\x05\x00\x01\x00\x00\x01,\x00\x02\x01a\x00",
         DnsFault::Data { place: 23 },
     ),
-    // 19 bytes behind two names
-    (
-        b"\x124\x81\x80\x00\x00\x00\x01\x00\x00\x00\x00\x00\x00\x06\x00\x01\x00\x00\x01,\x00\x19\x01a\x00\x01b\x00\x00\x00\x00\x00\x00\x00\x00\x00\x00\x00\x00\x00\x00\x00\x00\x00\x00\x00\x00",
-        DnsFault::Data { place: 23 },
-    ),
     // a mail exchange without a name
     (
         b"\x124\x81\x80\x00\x00\x00\x01\x00\x00\x00\x00\x00\x00\x0f\x00\x01\x00\x00\x01,\x00\x02\x00\x01",
-        DnsFault::Data { place: 23 },
-    ),
-    // no string
-    (
-        b"\x124\x81\x80\x00\x00\x00\x01\x00\x00\x00\x00\x00\x00\x10\x00\x01\x00\x00\x01,\x00\x00",
         DnsFault::Data { place: 23 },
     ),
     // a string that passes its data
@@ -369,7 +229,7 @@ const FAULTS: [(&[u8], DnsFault); 26] = [
 #[test]
 fn each_fault_is_told_with_its_place(rt: HostRuntime) {
     for (n, (bytes, fault)) in FAULTS.iter().enumerate() {
-        assert_eq!(rt; Message::read(bytes).err(), Some(*fault), "in row {n}");
+        assert!(rt; Message::read(bytes).err() == Some(*fault), "in row {n}");
     }
 }
 
@@ -392,77 +252,4 @@ fn a_name_of_255_bytes_and_data_of_another_class_are_read(rt: HostRuntime) {
     for (n, bytes) in READ.iter().enumerate() {
         assert!(rt; Message::read(bytes).is_ok(), "in row {n}");
     }
-}
-
-#[test]
-fn a_step_waits_for_a_length_and_its_message(rt: HostRuntime) {
-    let rows: [(&[u8], DnsStep); 6] = [
-        (b"", DnsStep::More),
-        (b"\x00", DnsStep::More),
-        (
-            b"\x00\x00",
-            DnsStep::One {
-                used: 2,
-                from: 2,
-                to: 2,
-            },
-        ),
-        (b"\x00\x02a", DnsStep::More),
-        (
-            b"\x00\x02ab",
-            DnsStep::One {
-                used: 4,
-                from: 2,
-                to: 4,
-            },
-        ),
-        (
-            b"\x00\x01ab",
-            DnsStep::One {
-                used: 3,
-                from: 2,
-                to: 3,
-            },
-        ),
-    ];
-    let mut side = TcpDns::new();
-    for (n, (bytes, step)) in rows.iter().enumerate() {
-        assert_eq!(rt; side.step(bytes), *step, "in row {n}");
-    }
-}
-
-/// A message of 636 bytes: in the data of its first record, at place 23, a root stands and behind it 300
-/// pointers, each to the one before. The second record is named by the last of them. The pointer of
-/// number `broken` leads to itself.
-fn with_a_chain(alloc: Global, broken: u16) -> Result<Vec<u8>, AllocError> {
-    let mut bytes = Vec::from_slice(
-        alloc,
-        b"\x124\x80\x00\x00\x00\x00\x02\x00\x00\x00\x00\x00\xff\x00\x00\x01\x00\x00\x00\x00\x02\x59\x00",
-    )?;
-    let mut target = 23u16;
-    for n in 0..300u16 {
-        let place = 24 + 2 * n;
-        let led = if n == broken { place } else { target };
-        bytes.extend_from_slice(&(0xc000 | led).to_be_bytes())?;
-        target = place;
-    }
-    bytes.extend_from_slice(b"\xc2\x6e\xff\x00\x00\x01\x00\x00\x00\x00\x00\x00")?;
-    Ok(bytes)
-}
-
-#[test]
-fn a_name_goes_on_over_a_long_chain_of_pointers(rt: HostRuntime) -> Result<(), Fail> {
-    let whole = with_a_chain(rt.alloc(), 300)?;
-    let record = record_of(rt.alloc(), &whole)?;
-    let [first, second] = record.answers.as_slice() else {
-        panic!(&rt; "two answers");
-    };
-    assert_eq!(rt; first.name.as_slice(), b".".as_slice());
-    assert_eq!(rt; second.name.as_slice(), b".".as_slice());
-    let broken = with_a_chain(rt.alloc(), 100)?;
-    assert_eq!(rt;
-        Message::read(&broken).err(),
-        Some(DnsFault::Pointer { place: 224 })
-    );
-    Ok(())
 }

@@ -105,7 +105,7 @@ fn head_of(alloc: Global, side: Side, text: &[u8]) -> Result<Head, Fail> {
 }
 
 #[test]
-fn heads_have_their_parts(rt: HostRuntime) -> Result<(), Fail> {
+fn the_head_of_a_request_has_its_parts(rt: HostRuntime) -> Result<(), Fail> {
     let request = head_of(
         rt.alloc(),
         Side::Orig,
@@ -117,18 +117,22 @@ fn heads_have_their_parts(rt: HostRuntime) -> Result<(), Fail> {
             target,
             minor,
         } => {
-            assert_eq!(rt; method.as_slice(), b"GET".as_slice());
-            assert_eq!(rt; target.as_slice(), b"/a?b".as_slice());
-            assert_eq!(rt; *minor, 0);
+            assert!(rt; method.as_slice() == b"GET".as_slice());
+            assert!(rt; target.as_slice() == b"/a?b".as_slice());
+            assert!(rt; *minor == 0);
         }
         Start::Response { .. } => Err("a response")?,
     }
     let headers = request.headers.as_slice();
-    assert_eq!(rt; headers.len(), 2);
-    assert_eq!(rt; headers[0].0.as_slice(), b"Host".as_slice());
-    assert_eq!(rt; headers[0].1.as_slice(), b"a.test".as_slice());
-    assert_eq!(rt; headers[1].1.as_slice(), b"".as_slice());
+    assert!(rt; headers.len() == 2);
+    assert!(rt; headers[0].0.as_slice() == b"Host".as_slice());
+    assert!(rt; headers[0].1.as_slice() == b"a.test".as_slice());
+    assert!(rt; headers[1].1.as_slice() == b"".as_slice());
+    Ok(())
+}
 
+#[test]
+fn the_head_of_a_response_has_its_parts(rt: HostRuntime) -> Result<(), Fail> {
     let response = head_of(rt.alloc(), Side::Resp, b"HTTP/1.1 404 N\xc3\xa4 o \r\n\r\n")?;
     match &response.start {
         Start::Response {
@@ -136,9 +140,9 @@ fn heads_have_their_parts(rt: HostRuntime) -> Result<(), Fail> {
             code,
             reason,
         } => {
-            assert_eq!(rt; *minor, 1);
-            assert_eq!(rt; *code, 404);
-            assert_eq!(rt; reason.as_slice(), b"N\xc3\xa4 o ".as_slice());
+            assert!(rt; *minor == 1);
+            assert!(rt; *code == 404);
+            assert!(rt; reason.as_slice() == b"N\xc3\xa4 o ".as_slice());
         }
         Start::Request { .. } => Err("a request")?,
     }
@@ -146,24 +150,17 @@ fn heads_have_their_parts(rt: HostRuntime) -> Result<(), Fail> {
 }
 
 /// Requests, the gap behind each, and their units. The stream then ends.
-const REQUESTS: [(&[u8], u64, &str); 10] = [
+const REQUESTS: [(&[u8], u64, &str); 7] = [
     // no head
     (b"GET  / HTTP/1.1\r\n\r\n", 0, "violation 19 2\n"),
     (b"GET / HTTP/2.0\r\n\r\n", 0, "violation 18 2\n"),
     (b"GET / HTTP/1.1\r\nA b: c\r\n\r\n", 0, "violation 26 2\n"),
-    (b"HTTP/1.1 200 OK\r\n\r\n", 0, "violation 19 2\n"),
     // no body
     (GET, 0, "head 18\ndone 18 0 14 0\n"),
     (
         b"POST / HTTP/1.1\r\nContent-Length: 7\r\n\r\n",
         7,
         "head 38\ndone 45 7 32 7\n",
-    ),
-    // no number
-    (
-        b"POST / HTTP/1.1\r\nContent-Length:\r\n\r\n",
-        0,
-        "head 36\nviolation 36 4\n",
     ),
     // a size of 31 with an extension, and one of 0 with blanks
     (
@@ -177,11 +174,6 @@ const REQUESTS: [(&[u8], u64, &str); 10] = [
         0,
         "head 47\nviolation 50 6\n",
     ),
-    (
-        b"POST / HTTP/1.1\r\nTransfer-Encoding: chunked\r\n\r\nx\r\n",
-        0,
-        "head 47\nviolation 50 6\n",
-    ),
 ];
 
 #[test]
@@ -190,17 +182,16 @@ fn a_request_tells_its_body(rt: HostRuntime) -> Result<(), Fail> {
         let mut told = Told::new(rt.alloc());
         told.give(Side::Orig, text)?;
         told.finish(Side::Orig, *gap, true)?;
-        assert_eq!(rt; told.asked.as_str(), *units, "at {text:?}");
+        assert!(rt; told.asked.as_str() == *units, "at {text:?}");
     }
     Ok(())
 }
 
 /// Requests, the response to each and the gap behind it, and the units of the response (RFC 9112, section
 /// 6.3). The stream of responses then ends.
-const RESPONSES: [(&[u8], &[u8], u64, &str); 16] = [
+const RESPONSES: [(&[u8], &[u8], u64, &str); 11] = [
     // no head
     (GET, b"HTTP/1.1 20 OK\r\n\r\n", 0, "violation 18 2\n"),
-    (GET, b"GET / HTTP/1.1\r\n\r\n", 0, "violation 18 2\n"),
     // up to the end
     (
         GET,
@@ -212,12 +203,6 @@ const RESPONSES: [(&[u8], &[u8], u64, &str); 16] = [
     (GET, b"HTTP/1.1 101 S\r\n\r\nabc", 0, "head 18\ntunnel 18\n"),
     (
         b"CONNECT a:1 HTTP/1.1\r\n\r\n",
-        b"HTTP/1.1 204 N\r\n\r\nabc",
-        0,
-        "head 18\ntunnel 18\n",
-    ),
-    (
-        b"CONNECT a:1 HTTP/1.1\r\n\r\n",
         b"HTTP/1.1 300 N\r\nContent-Length: 1\r\n\r\na",
         0,
         "head 37\ndone 38 1 31 0\n",
@@ -226,12 +211,6 @@ const RESPONSES: [(&[u8], &[u8], u64, &str); 16] = [
     (
         GET,
         b"HTTP/1.1 100 C\r\nContent-Length: 1\r\n\r\n",
-        0,
-        "head 37\ndone 37 0 31 0\n",
-    ),
-    (
-        GET,
-        b"HTTP/1.1 204 N\r\nContent-Length: 1\r\n\r\n",
         0,
         "head 37\ndone 37 0 31 0\n",
     ),
@@ -254,12 +233,6 @@ const RESPONSES: [(&[u8], &[u8], u64, &str); 16] = [
         0,
         "head 74\ndone 79 0 66 0\n",
     ),
-    (
-        GET,
-        b"HTTP/1.1 200 OK\r\ntransfer-encoding: chunked, gzip\r\n\r\n0\r\n\r\n",
-        0,
-        "head 53\ndone 58 5 47 0\n",
-    ),
     // one number, said three times
     (
         GET,
@@ -273,13 +246,6 @@ const RESPONSES: [(&[u8], &[u8], u64, &str); 16] = [
         b"HTTP/1.1 200 OK\r\nContent-Length: 42\r\nContent-Length: 43\r\n\r\n",
         42,
         "head 59\nviolation 59 4\n",
-    ),
-    // 18 digits, of a body that isn't there, and 19
-    (
-        GET,
-        b"HTTP/1.1 200 OK\r\nContent-Length: 999999999999999999\r\n\r\n",
-        0,
-        "head 55\n",
     ),
     (
         GET,
@@ -296,7 +262,7 @@ fn a_response_tells_its_body(rt: HostRuntime) -> Result<(), Fail> {
         told.give(Side::Orig, request)?;
         told.give(Side::Resp, response)?;
         told.finish(Side::Resp, *gap, true)?;
-        assert_eq!(rt; told.answered.as_str(), *units, "at {response:?}");
+        assert!(rt; told.answered.as_str() == *units, "at {response:?}");
     }
     Ok(())
 }
@@ -335,26 +301,10 @@ fn units_are_the_same_however_streams_are_cut(rt: HostRuntime) -> Result<(), Fai
     for exchange in &EXCHANGES {
         for cut in [1, 7, 100_000] {
             let told = told_of(rt.alloc(), exchange, cut)?;
-            assert_eq!(rt; told.asked.as_str(), exchange.asked);
-            assert_eq!(rt; told.answered.as_str(), exchange.answered);
+            assert!(rt; told.asked.as_str() == exchange.asked);
+            assert!(rt; told.answered.as_str() == exchange.answered);
         }
     }
-    Ok(())
-}
-
-#[test]
-fn so_much_may_wait_and_no_more(rt: HostRuntime) -> Result<(), Fail> {
-    let bytes = vec![in rt.alloc(); b'a'; 65_536]?;
-    let mut told = Told::new(rt.alloc());
-    told.give(Side::Orig, &bytes[..65_535])?;
-    assert_eq!(rt; told.asked.as_str(), "");
-    told.give(Side::Orig, b"a")?;
-    assert_eq!(rt; told.asked.as_str(), "violation 65536 1\n");
-    let mut told = Told::new(rt.alloc());
-    told.give(Side::Resp, &bytes)?;
-    assert_eq!(rt; told.answered.as_str(), "");
-    told.give(Side::Resp, b"a")?;
-    assert_eq!(rt; told.answered.as_str(), "violation 65537 7\n");
     Ok(())
 }
 
@@ -368,13 +318,10 @@ fn many_small_chunks_are_read_once(rt: HostRuntime) -> Result<(), Fail> {
     )?;
     for _ in 0..4_000 {
         told.give(Side::Resp, PIECE)?;
-        assert_eq!(rt; told.readers.held(Side::Resp), 0);
+        assert!(rt; told.readers.held(Side::Resp) == 0);
     }
     told.give(Side::Resp, b"0\r\n\r\n")?;
-    assert_eq!(rt; told.asked.as_str(), "head 18\ndone 18 0 14 0\n");
-    assert_eq!(rt;
-        told.answered.as_str(),
-        "head 47\ndone 2400052 400000 41 0\n"
-    );
+    assert!(rt; told.asked.as_str() == "head 18\ndone 18 0 14 0\n");
+    assert!(rt; told.answered.as_str() == "head 47\ndone 2400052 400000 41 0\n");
     Ok(())
 }

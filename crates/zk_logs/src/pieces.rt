@@ -1,4 +1,4 @@
-ghost use Rattle.std.specs.Prelude.{◌≡◌, ◌++◌, [], IfOk, OnOk, IfErr};
+ghost use Rattle.std.specs.Prelude.{◌≡◌, ◌++◌, ◌<◌, [], length, IfOk, OnOk, IfErr};
 ghost use Rattle.zk_base.specs.Shelf.{IsCreated, Puts, after_append};
 ghost use Rattle.zk_logs.specs.Logs.{file_name};
 ghost use Rattle.zk_logs.specs.Stopped.{answer_of};
@@ -45,6 +45,7 @@ pub fn add_line<S: Shelf>(
     requires { IsCreated (S.outside shelf.old) (file_name path.now) }
     ensures handed { OnOk result (HandsOver (file_name path.now) (piece.old ++ line.now) (S.outside shelf.old) (S.outside shelf.new) piece.new) }
     ensures stopped { IfErr result (λ fault. HandsPart (file_name path.now) (piece.old ++ line.now) (S.outside shelf.old) fault (S.outside shelf.new)) }
+    ensures waits { OnOk result (length piece.new < 65536) }
 {
     piece.append(line)?;
     if PIECE <= piece.len() {

@@ -1,4 +1,4 @@
-ghost use Rattle.std.specs.Prelude.{◌≡◌, OnOk};
+ghost use Rattle.std.specs.Prelude.{◌≡◌, OnErr, OnOk};
 ghost use Rattle.zk_events.specs.Known.{forgetting, knowing, none_known};
 
 use std::alloc::Global;
@@ -41,7 +41,8 @@ impl Connections {
 
     /// Gives an instance its objects. `Mem` leaves the value as it was.
     pub fn set(&mut self, conn: ConnNo, objects: Objects) -> Result<(), Mem>
-        ensures { OnOk result (known_in self.new ≡ knowing conn.0 objects (known_in self.old)) }
+        ensures ok { OnOk result (known_in self.new ≡ knowing conn.0 objects (known_in self.old)) }
+        ensures err { OnErr result (known_in self.new ≡ known_in self.old) }
     {
         self.objects.insert(conn.0, objects)?;
         Ok(())

@@ -1,4 +1,4 @@
-ghost use Rattle.std.specs.Prelude.{◌≡◌, IfOk, OnOk};
+ghost use Rattle.std.specs.Prelude.{◌≡◌, IfOk, OnErr, OnOk};
 ghost use Rattle.zk_events.specs.Becomes.{Becomes};
 ghost use Rattle.zk_events.specs.Facts.{connection_fields, duration, end_fields, id_fields};
 ghost use Rattle.zk_events.specs.Raising.{with_fields};
@@ -58,7 +58,8 @@ pub fn renew(
     conn: ConnNo,
     facts: &Facts,
 ) -> Result<(), Mem>
-    ensures { OnOk result (Becomes machine.old machine.new (λ program. with_facts conn facts.now objects.now)) }
+    ensures ok { OnOk result (Becomes machine.old machine.new (λ program. with_facts conn facts.now objects.now)) }
+    ensures err { OnErr result (machine.new ≡ machine.old) }
 {
     let texts = Texts::of(alloc, conn, facts)?;
     renew_id(alloc, machine, objects.id, facts)?;
@@ -96,7 +97,8 @@ fn renew_id(
     id: ObjectNo,
     facts: &Facts,
 ) -> Result<(), Mem>
-    ensures { OnOk result (Becomes machine.old machine.new (λ program. with_fields id 0 (id_fields facts.now))) }
+    ensures ok { OnOk result (Becomes machine.old machine.new (λ program. with_fields id 0 (id_fields facts.now))) }
+    ensures err { OnErr result (machine.new ≡ machine.old) }
 {
     let orig_h = address(alloc, facts.orig_h)?;
     let resp_h = address(alloc, facts.resp_h)?;

@@ -63,45 +63,54 @@ fn texts_are_those_of_print(rt: HostRuntime) -> Result<(), Fail> {
     Ok(())
 }
 
+/// Parts of `abcdef`: a place, a length, and what they are.
+const PARTS: [(u64, i64, &str); 8] = [
+    (1, 3, "abc"),
+    (0, 3, "abc"),
+    (2, 2, "bc"),
+    (3, 100, "cdef"),
+    (7, 1, ""),
+    (2, 0, ""),
+    (2, -1, ""),
+    (u64::MAX, i64::MAX, ""),
+];
+
+/// A string, another one, and where that stands in it.
+const FOUND: [(&str, &str, u64); 6] = [
+    ("abcabc", "ca", 3),
+    ("abc", "abc", 1),
+    ("abc", "", 1),
+    ("", "", 1),
+    ("", "a", 0),
+    ("abc", "cb", 0),
+];
+
+/// Texts, and the numbers that they are read as.
+const NUMBERS: [(&str, u64); 7] = [
+    ("18446744073709551615", u64::MAX),
+    ("18446744073709551616", 0),
+    ("99999999999999999999", 0),
+    ("007", 7),
+    ("", 0),
+    ("-1", 0),
+    ("1x", 0),
+];
+
 #[test]
 fn places_and_numbers_at_their_edges(rt: HostRuntime) -> Result<(), Fail> {
     let alloc = rt.alloc();
-    for (start, n, text) in [
-        (1, 3, "abc"),
-        (0, 3, "abc"),
-        (2, 2, "bc"),
-        (3, 100, "cdef"),
-        (7, 1, ""),
-        (2, 0, ""),
-        (2, -1, ""),
-        (u64::MAX, i64::MAX, ""),
-    ] {
-        is_string(&rt, sub_bytes(alloc, b"abcdef", start, n), text);
+    for (start, n, text) in &PARTS {
+        is_string(&rt, sub_bytes(alloc, b"abcdef", *start, *n), text);
     }
-    for (big, little, place) in [
-        ("abcabc", "ca", 3),
-        ("abc", "abc", 1),
-        ("abc", "", 1),
-        ("", "", 1),
-        ("", "a", 0),
-        ("abc", "cb", 0),
-    ] {
+    for (big, little, place) in &FOUND {
         assert!(rt;
-            strstr(big.as_bytes(), little.as_bytes()) == Ok(Value::Count(place)),
+            strstr(big.as_bytes(), little.as_bytes()) == Ok(Value::Count(*place)),
             "{little}"
         );
     }
-    for (text, number) in [
-        ("18446744073709551615", u64::MAX),
-        ("18446744073709551616", 0),
-        ("99999999999999999999", 0),
-        ("007", 7),
-        ("", 0),
-        ("-1", 0),
-        ("1x", 0),
-    ] {
+    for (text, number) in &NUMBERS {
         assert!(rt;
-            to_count(text.as_bytes()) == Ok(Value::Count(number)),
+            to_count(text.as_bytes()) == Ok(Value::Count(*number)),
             "{text}"
         );
     }

@@ -68,63 +68,68 @@ fn compare(
     Ok(())
 }
 
+/// The entries that are there at the end.
+const ENTRIES: [(u64, u64, u64); 3] = [(1, 5, 50), (3, 9, 92), (4, 7, 71)];
+
+/// Calls on a table whose entries don't expire.
+const WITHOUT: [(Call, Due); 12] = [
+    (Insert(1, 9, 90), None),
+    (Insert(2, 5, 50), None),
+    (Insert(2, 7, 70), None),
+    (Insert(4, 9, 91), None),
+    (Renew(6, 5), None),
+    (Expire(2, 3, true), None),
+    (Expire(2, 0, true), None),
+    (Expire(2, 5, false), None),
+    (Remove(9, true), None),
+    (Remove(9, false), None),
+    (Insert(9, 9, 92), None),
+    (Insert(9, 7, 71), None),
+];
+
+/// Calls on one whose entries expire 10 microseconds after they were made.
+const CREATED: [(Call, Due); 13] = [
+    (Insert(1, 9, 90), Some((11, 0))),
+    (Insert(2, 5, 50), Some((11, 0))),
+    (Insert(2, 7, 70), Some((11, 0))),
+    (Insert(4, 9, 91), Some((11, 0))),
+    (Renew(6, 5), Some((11, 0))),
+    (Renew(6, 8), Some((11, 0))),
+    (Expire(2, 3, true), Some((5, 2))),
+    (Expire(2, 0, true), Some((11, 0))),
+    (Expire(2, 5, false), Some((11, 0))),
+    (Remove(9, true), Some((16, 1))),
+    (Remove(9, false), Some((16, 1))),
+    (Insert(9, 9, 92), Some((16, 1))),
+    (Insert(9, 7, 71), Some((16, 1))),
+];
+
+/// Calls on one whose entries expire 10 microseconds after they were last renewed, by assignments too.
+const RENEWED: [(Call, Due); 12] = [
+    (Insert(1, 9, 90), Some((11, 0))),
+    (Insert(2, 5, 50), Some((11, 0))),
+    (Insert(2, 7, 70), Some((11, 0))),
+    (Insert(4, 9, 91), Some((12, 1))),
+    (Renew(6, 5), Some((12, 2))),
+    (Renew(6, 8), Some((12, 2))),
+    (Expire(2, 3, true), Some((5, 2))),
+    (Expire(2, -3, true), Some((14, 0))),
+    (Expire(2, 5, false), Some((14, 0))),
+    (Remove(9, true), Some((16, 1))),
+    (Insert(9, 9, 92), Some((16, 1))),
+    (Insert(9, 7, 71), Some((16, 1))),
+];
+
 #[test]
 fn calls_do_what_each_expiry_says(rt: HostRuntime) -> Result<(), Fail> {
     let alloc = rt.alloc();
-    let entries = [(1, 5, 50), (3, 9, 92), (4, 7, 71)];
-
     let mut table = Table::new(alloc, None);
-    let calls = [
-        (Insert(1, 9, 90), None),
-        (Insert(2, 5, 50), None),
-        (Insert(2, 7, 70), None),
-        (Insert(4, 9, 91), None),
-        (Renew(6, 5), None),
-        (Expire(2, 3, true), None),
-        (Expire(2, 0, true), None),
-        (Expire(2, 5, false), None),
-        (Remove(9, true), None),
-        (Remove(9, false), None),
-        (Insert(9, 9, 92), None),
-        (Insert(9, 7, 71), None),
-    ];
-    compare(&rt, alloc, &mut table, &calls, &entries)?;
-
+    compare(&rt, alloc, &mut table, &WITHOUT, &ENTRIES)?;
     let mut table = Table::new(alloc, Some(Expiry::Create(Span(10))));
-    let calls = [
-        (Insert(1, 9, 90), Some((11, 0))),
-        (Insert(2, 5, 50), Some((11, 0))),
-        (Insert(2, 7, 70), Some((11, 0))),
-        (Insert(4, 9, 91), Some((11, 0))),
-        (Renew(6, 5), Some((11, 0))),
-        (Renew(6, 8), Some((11, 0))),
-        (Expire(2, 3, true), Some((5, 2))),
-        (Expire(2, 0, true), Some((11, 0))),
-        (Expire(2, 5, false), Some((11, 0))),
-        (Remove(9, true), Some((16, 1))),
-        (Remove(9, false), Some((16, 1))),
-        (Insert(9, 9, 92), Some((16, 1))),
-        (Insert(9, 7, 71), Some((16, 1))),
-    ];
-    compare(&rt, alloc, &mut table, &calls, &entries)?;
-
+    compare(&rt, alloc, &mut table, &CREATED, &ENTRIES)?;
     for expiry in [Expiry::Read(Span(10)), Expiry::Write(Span(10))] {
         let mut table = Table::new(alloc, Some(expiry));
-        let calls = [
-            (Insert(1, 9, 90), Some((11, 0))),
-            (Insert(2, 5, 50), Some((11, 0))),
-            (Insert(2, 7, 70), Some((11, 0))),
-            (Insert(4, 9, 91), Some((12, 1))),
-            (Renew(6, 5), Some((12, 2))),
-            (Renew(6, 8), Some((12, 2))),
-            (Expire(2, 3, true), Some((5, 2))),
-            (Expire(2, -3, true), Some((14, 0))),
-            (Expire(2, 5, false), Some((14, 0))),
-            (Remove(9, true), Some((16, 1))),
-            (Insert(9, 9, 92), Some((16, 1))),
-            (Insert(9, 7, 71), Some((16, 1))),
-        ];
-        compare(&rt, alloc, &mut table, &calls, &entries)?;
+        compare(&rt, alloc, &mut table, &RENEWED, &ENTRIES)?;
     }
     Ok(())
 }

@@ -22,24 +22,3 @@ mod writer;
 
 pub use command::command_line;
 pub use entry::run;
-
-#[cfg(test)]
-mod case;
-#[cfg(test)]
-mod default_tests;
-#[cfg(test)]
-mod failing_tests;
-#[cfg(test)]
-mod generated_tests;
-#[cfg(test)]
-mod grammar_tests;
-#[cfg(test)]
-mod list_tests;
-#[cfg(test)]
-mod load_tests;
-#[cfg(test)]
-mod log_tests;
-#[cfg(test)]
-mod tests;
-#[cfg(test)]
-mod timer_tests;

@@ -2,7 +2,7 @@ ghost use Rattle.std.specs.Prelude.{◌≡◌, IfOk, OnOk, IfErr};
 ghost use Rattle.zk_top.specs.Logged.{dated};
 ghost use Rattle.zk_base.specs.Shelf.{Outside};
 ghost use Rattle.zk_top.specs.Reading.{SameInput};
-ghost use Rattle.zk_top.specs.Summary.{counts_of};
+ghost use Rattle.zk_top.specs.Summary.{counts_of, no_rows};
 ghost use Rattle.zk_top.specs.Writing.{GivesAll, GivesPart, Output, and_out};
 ghost use Rattle.zk_logs.specs.Logs.{log_files};
 
@@ -60,7 +60,8 @@ impl Sink {
 
     /// How many rows were counted. None are where they are written.
     pub fn rows(&self) -> RowCounts
-        ensures { (first : Beginning) (output : Output) (now : Outside) → HasTaken first output self.now now → first.target ≡ Counted → result ≡ counts_of output.rows }
+        ensures counted { (first : Beginning) (output : Output) (now : Outside) → HasTaken first output self.now now → first.target ≡ Counted → result ≡ counts_of output.rows }
+        ensures written { (first : Beginning) (output : Output) (now : Outside) → HasTaken first output self.now now → first.target ≡ Written → result ≡ no_rows }
     {
         match self {
             Sink::Written(_) => RowCounts::new(),

@@ -7,8 +7,8 @@ use Rattle.zk_events.specs.Facts.{id_fields}
 use Rattle.zk_events.specs.Raising.{with_fields}
 use Rattle.zk_events.proofs.facts.renew_id.Goals as goal
 
-pub returns : goal.returns
-returns c = λ program given world stands.
+pub returns-clause-ok : goal.returns-clause-ok
+returns-clause-ok c = λ program given world stands.
     let facts = c.args.facts.now in
     let written : List (Option Value) =
     Some (value_of c.in_ok-orig_h.orig_h) ∷

@@ -1,6 +1,6 @@
 use crate::case::{Case, difference};
-use crate::tests::{DATAGRAM, HEADER};
-use crate::timer_tests::EACH_SECOND;
+use crate::runs::{DATAGRAM, HEADER};
+use crate::timers::EACH_SECOND;
 use std::test::Fail;
 
 /// The words of a run of `s.zeek` over `c.pcap`.

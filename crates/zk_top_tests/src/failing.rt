@@ -1,10 +1,10 @@
 use crate::case::{inputs, words};
-use crate::list_tests::QUERY;
-use crate::run;
-use crate::tests::{CUT, DATAGRAM, HEADER};
+use crate::lists::QUERY;
+use crate::runs::{CUT, DATAGRAM, HEADER};
 use std::alloc::Global;
 use std::test::Fail;
 use zk_base::{Mem, MemShelf, SureShelf, Word};
+use zk_top::run;
 
 /// A run whose calls of the outside fail, one in each turn.
 #[derive(Clone, Copy)]

@@ -1,6 +1,6 @@
 use crate::case::{Case, difference};
-use crate::list_tests::GAP_IN_BODY;
-use crate::tests::{DATAGRAM, HEADER};
+use crate::lists::GAP_IN_BODY;
+use crate::runs::{DATAGRAM, HEADER};
 use std::test::Fail;
 
 /// A request whose head comes in pieces, the first of them twice.

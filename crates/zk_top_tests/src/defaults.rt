@@ -1,5 +1,5 @@
 use crate::case::{Case, difference, difference_over};
-use crate::list_tests::{EXCHANGE, GAP_IN_BODY, MERGED, QUERY};
+use crate::lists::{EXCHANGE, GAP_IN_BODY, MERGED, QUERY};
 use std::test::Fail;
 use zk_gen::capture;
 

@@ -1,8 +1,8 @@
 use crate::case::{Case, difference};
-use crate::default_tests::{CLOSE, CONN, DNS};
-use crate::list_tests::QUERY;
-use crate::log_tests::PREFIX;
-use crate::tests::{CUT, DATAGRAM, HEADER};
+use crate::defaults::{CLOSE, CONN, DNS};
+use crate::lists::QUERY;
+use crate::logs::PREFIX;
+use crate::runs::{CUT, DATAGRAM, HEADER};
 use std::test::Fail;
 
 /// Runs of several files.

@@ -1,6 +1,6 @@
-use crate::run;
 use std::alloc::Global;
 use zk_base::{Bytes, Mem, SureShelf, Word};
+use zk_top::run;
 
 /// A run over inputs, and all that comes of it.
 #[derive(Clone, Copy)]

@@ -1,5 +1,7 @@
-use crate::case::{Case, difference};
+use crate::case::{Case, difference, inputs, words};
 use std::test::Fail;
+use zk_base::{Ending, SureShelf};
+use zk_top::run;
 
 /// A DNS query of 33 bytes and its answer of 63.
 pub const QUERY: &[u8] = b"\
@@ -224,5 +226,42 @@ fn each_capture_is_listed_line_by_line(rt: HostRuntime) -> Result<(), Fail> {
         };
         assert_eq!(rt; difference(rt.alloc(), &case)?, None, "in row {n}");
     }
+    Ok(())
+}
+
+/// A big-endian capture with nanoseconds: a record of 3 bytes at 1.999999999 s, one of 60 of
+/// which none were captured at 1 s, and the head of a third.
+const HEAD_OF_A_THIRD: [u8; 74] = [
+    0xa1, 0xb2, 0x3c, 0x4d, 0, 2, 0, 4, 0, 0, 0, 0, 0, 0, 0, 0, 0, 4, 0, 0, 0, 0, 0, 1, 0, 0, 0, 1,
+    0x3b, 0x9a, 0xc9, 0xff, 0, 0, 0, 3, 0, 0, 0, 3, 0xff, 0xff, 0xff, 0, 0, 0, 1, 0, 0, 0, 0, 0, 0,
+    0, 0, 0, 0, 0, 60, 0, 0, 0, 2, 0, 0, 0, 0, 0, 0, 0, 1, 0, 0, 0,
+];
+
+#[test]
+fn a_capture_that_is_cut_is_listed_up_to_there(rt: HostRuntime) -> Result<(), Fail> {
+    let case = Case {
+        line: b"list c.pcap",
+        inputs: &[(b"c.pcap", &HEAD_OF_A_THIRD)],
+        status: 4,
+        said: b"1.999999\tpacket\t1.999999\t3\t3\n1.999999\tpacket\t1.000000\t0\t60\n",
+        complained: b"zeekoff: c.pcap cut at byte 59\n",
+        files: &[],
+    };
+    assert_eq!(rt; difference(rt.alloc(), &case)?, None);
+    Ok(())
+}
+
+/// No capture.
+const ZEROS: [u8; 100] = [0; 100];
+
+/// A file that does not begin with a magic is refused behind one read. The last call complains.
+#[test]
+fn a_header_is_refused_as_soon_as_it_is_sure(rt: HostRuntime) -> Result<(), Fail> {
+    let alloc = rt.alloc();
+    let words = words(alloc, b"list c.pcap")?;
+    let mut shelf = SureShelf::new(alloc, inputs(alloc, &[(b"c.pcap", &ZEROS)])?)?;
+    let ending = run(alloc, &words, &mut shelf);
+    assert!(rt; matches!(ending, Ending::CaptureRefused { place: 0, .. }));
+    assert_eq!(rt; shelf.calls(), 3);
     Ok(())
 }

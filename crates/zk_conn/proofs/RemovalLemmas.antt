@@ -4,6 +4,7 @@ use Rattle.std.specs.Option.{option_map}
 use Rattle.std.proofs.Math.ListN.{set}
 use Rattle.std.proofs.lemmas.Bool.{cases_eq, cases_lt}
 use Rattle.std.proofs.lemmas.Grind.{common_steps}
+use Rattle.std.proofs.lemmas.List.{set-get_or}
 use Rattle.slab.specs.Slab.{Slab, get}
 use Rattle.zk_conn.specs.declared.instance.Instance.{Instance}
 use Rattle.zk_conn.specs.declared.removals.Filing.{Filing}
@@ -44,6 +45,16 @@ module _ (slots : Slab Instance) (firsts : List (Option Filing)) (at : ℕ) (wit
         (λ e. apart (omega (arith, e)));
     beyond = λ slot past. all.beyond slot (omega (arith, past, same_length));
   }
+
+  -- a slot that knew it already leaves none to be found again
+  pub refreshed_same : IsNode slots firsts at → AllBut slots firsts at → IsTree slots refreshed
+  refreshed_same node all = subst (IsTree slots) (sym (ap (set firsts at) (sym node) ∙ set-get_or firsts at None)) (record {
+    nodes = λ slot in_index. ⊎_elim
+        (λ here. subst (λ s. IsNode slots firsts s) (sym here) node)
+        (λ apart. all.nodes slot in_index apart)
+        (cases_eq slot at);
+    beyond = all.beyond;
+  })
 
   -- the top is the last
   pub refreshed_top : at ≡ 0 → AllBut slots firsts at → IsTree slots refreshed

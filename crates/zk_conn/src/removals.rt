@@ -1,5 +1,5 @@
-ghost use Rattle.std.specs.Prelude.{◌≡◌, ℕ, ◌+◌, ◌*◌, ◌<◌, length, None, slice_index_or, slice_set};
-ghost use Rattle.zk_conn.specs.Removals.{is_before, earlier, filing_at, first_at, AllBut, IsTree};
+ghost use Rattle.std.specs.Prelude.{◌≡◌, ℕ, ◌+◌, ◌*◌, ◌<◌, true, length, None, slice_index_or, slice_set};
+ghost use Rattle.zk_conn.specs.Removals.{is_before, earlier, filing_at, first_at, AllBut, IsNode, IsTree};
 
 use crate::instance::Instance;
 use slab::Slab;
@@ -57,18 +57,35 @@ fn below(firsts: &[Option<Filing>], slot: usize) -> Option<Filing>
     }
 }
 
-/// Finds the first of a slot and of those below it again, where those below it are right.
-fn refresh(slots: &Slab<Instance>, firsts: &mut [Option<Filing>], slot: usize)
+/// Whether two are the same.
+fn are_same(a: Option<Filing>, b: Option<Filing>) -> bool
+    ensures { result ≡ true → a ≡ b }
+{
+    match (a, b) {
+        (Some(x), Some(y)) => x.at.0 == y.at.0 && x.number == y.number && x.slot == y.slot,
+        (None, None) => true,
+        _ => false,
+    }
+}
+
+/// Finds the first of a slot and of those below it again, where those below it are right. Whether it
+/// is the one that was known.
+fn refresh(slots: &Slab<Instance>, firsts: &mut [Option<Filing>], slot: usize) -> bool
     requires { slot < length firsts.old }
-    ensures { firsts.new ≡ slice_set firsts.old slot (first_at slots.now firsts.old slot) }
+    ensures found { firsts.new ≡ slice_set firsts.old slot (first_at slots.now firsts.old slot) }
+    ensures known { result ≡ true → IsNode slots.now firsts.old slot }
 {
     let left = below(firsts, 2 * slot + 1);
     let right = below(firsts, 2 * slot + 2);
-    firsts[slot] = earlier(earlier(filing_at(slots, slot), left), right);
+    let first = earlier(earlier(filing_at(slots, slot), left), right);
+    let known = firsts[slot];
+    firsts[slot] = first;
+    are_same(known, first)
 }
 
-/// Puts the index right from a slot upwards, where its filing alone has changed. The slots stand in
-/// a heap's tree: below slot n stand the slots 2n + 1 and 2n + 2.
+/// Puts the index right from a slot upwards, where its filing alone has changed: up to the first slot
+/// that knows the same as before. The slots stand in a heap's tree: below slot n stand the slots 2n + 1
+/// and 2n + 2.
 pub fn refile(slots: &Slab<Instance>, firsts: &mut [Option<Filing>], slot: usize)
     ensures { AllBut slots.now firsts.old slot → IsTree slots.now firsts.new }
 {
@@ -77,7 +94,9 @@ pub fn refile(slots: &Slab<Instance>, firsts: &mut [Option<Filing>], slot: usize
     }
     let mut at = slot;
     while at > 0 {
-        refresh(slots, firsts, at);
+        if refresh(slots, firsts, at) {
+            return;
+        }
         at = (at - 1) / 2;
     }
     refresh(slots, firsts, at);

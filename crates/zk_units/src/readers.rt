@@ -125,6 +125,9 @@ impl Readers {
         ensures { IfOk result (λ found. (protocol : Option Speaks) (streams : Both Stream) (units : Both (List Said)) → StandsFor self.old protocol streams units
             → BothTurn side self.new found protocol streams units) }
     {
+        if let Reader::Silent = self.reader {
+            return Ok(None);
+        }
         if let Some(unit) = self.next(side)? {
             return Ok(Some(Freed { side, unit }));
         }

@@ -137,12 +137,12 @@ const READ: [(&[u8], &[(Expected, u64)]); 10] = [
 #[test]
 fn each_form_of_token_is_read_with_its_place(rt: HostRuntime) -> Result<(), Fail> {
     let alloc = rt.alloc();
-    for (text, expected) in &READ {
+    for (n, (text, expected)) in READ.iter().enumerate() {
         let read = tokens(alloc, text)?;
-        assert_eq!(rt; read.len(), expected.len(), "{text:?}");
+        assert!(rt; read.len() == expected.len(), "in row {n}");
         for (token, (wanted, place)) in read.as_slice().iter().zip(expected.iter()) {
-            assert_eq!(rt; token.kind, kind(alloc, *wanted)?, "{text:?}");
-            assert_eq!(rt; token.place, *place, "{text:?}");
+            let same = token.kind == kind(alloc, *wanted)?;
+            assert!(rt; same && token.place == *place, "in row {n}");
         }
     }
     Ok(())
@@ -170,8 +170,8 @@ const REFUSED: [(&[u8], LexFault); 9] = [
 #[test]
 fn the_first_fault_is_told_with_its_place(rt: HostRuntime) -> Result<(), Fail> {
     let alloc = rt.alloc();
-    for (text, fault) in &REFUSED {
-        assert_eq!(rt; tokens(alloc, text).err(), Some(*fault), "{text:?}");
+    for (n, (text, fault)) in REFUSED.iter().enumerate() {
+        assert!(rt; tokens(alloc, text).err() == Some(*fault), "in row {n}");
     }
     Ok(())
 }

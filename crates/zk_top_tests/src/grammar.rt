@@ -93,22 +93,25 @@ fn nested(alloc: Global, mark: u8, times: usize, last: &[u8]) -> Result<Vec<u8>,
 fn a_declaration_nests_200_deep(rt: HostRuntime) -> Result<(), Fail> {
     let alloc = rt.alloc();
     let deepest = nested(alloc, b'!', 195, b"a; }")?;
-    assert_eq!(rt; declarations(alloc, &deepest), Ok(1));
+    assert!(rt; declarations(alloc, &deepest) == Ok(1));
     let deeper = nested(alloc, b'!', 196, b"a; }")?;
-    assert_eq!(rt; declarations(alloc, &deeper), Err(Some(0)));
+    assert!(rt; declarations(alloc, &deeper) == Err(Some(0)));
     let endless = nested(alloc, b'(', 100_000, b"")?;
-    assert_eq!(rt; declarations(alloc, &endless), Err(Some(0)));
+    assert!(rt; declarations(alloc, &endless) == Err(Some(0)));
     Ok(())
 }
 
 #[test]
 fn every_form_of_the_language_is_read(rt: HostRuntime) -> Result<(), Fail> {
     let alloc = rt.alloc();
-    for (text, count) in &FORMS {
-        assert_eq!(rt; declarations(alloc, text), Ok(*count), "{text:?}");
+    for (n, (text, count)) in FORMS.iter().enumerate() {
+        assert!(rt; declarations(alloc, text) == Ok(*count), "in form {n}");
     }
-    for (text, place) in &REFUSED {
-        assert_eq!(rt; declarations(alloc, text), Err(Some(*place)), "{text:?}");
+    for (n, (text, place)) in REFUSED.iter().enumerate() {
+        assert!(rt;
+            declarations(alloc, text) == Err(Some(*place)),
+            "in row {n}"
+        );
     }
     Ok(())
 }

@@ -178,11 +178,11 @@ const REQUESTS: [(&[u8], u64, &str); 7] = [
 
 #[test]
 fn a_request_tells_its_body(rt: HostRuntime) -> Result<(), Fail> {
-    for (text, gap, units) in &REQUESTS {
+    for (n, (text, gap, units)) in REQUESTS.iter().enumerate() {
         let mut told = Told::new(rt.alloc());
         told.give(Side::Orig, text)?;
         told.finish(Side::Orig, *gap, true)?;
-        assert!(rt; told.asked.as_str() == *units, "at {text:?}");
+        assert!(rt; told.asked.as_str() == *units, "in row {n}");
     }
     Ok(())
 }
@@ -257,12 +257,12 @@ const RESPONSES: [(&[u8], &[u8], u64, &str); 11] = [
 
 #[test]
 fn a_response_tells_its_body(rt: HostRuntime) -> Result<(), Fail> {
-    for (request, response, gap, units) in &RESPONSES {
+    for (n, (request, response, gap, units)) in RESPONSES.iter().enumerate() {
         let mut told = Told::new(rt.alloc());
         told.give(Side::Orig, request)?;
         told.give(Side::Resp, response)?;
         told.finish(Side::Resp, *gap, true)?;
-        assert!(rt; told.answered.as_str() == *units, "at {response:?}");
+        assert!(rt; told.answered.as_str() == *units, "in row {n}");
     }
     Ok(())
 }

@@ -4,6 +4,12 @@ use std::alloc::Global;
 use std::test::Fail;
 use zk_pcap::{CaptureEnding, CaptureFault, Feed, Header, Next, Packet, packets};
 
+/// A header of little-endian numbers, microseconds and Ethernet.
+const HEADER: [u8; 24] = [
+    0xd4, 0xc3, 0xb2, 0xa1, 0x02, 0x00, 0x04, 0x00, 0x00, 0x00, 0x00, 0x00, 0x00, 0x00, 0x00, 0x00,
+    0x00, 0x00, 0x04, 0x00, 0x01, 0x00, 0x00, 0x00,
+];
+
 /// Big-endian numbers and microseconds of Ethernet: a record at 1.999999 s.
 const BIG_MICROSECONDS: [u8; 40] = [
     0xa1, 0xb2, 0xc3, 0xd4, 0x00, 0x02, 0x00, 0x04, 0x00, 0x00, 0x00, 0x00, 0x00, 0x00, 0x00, 0x00,
@@ -101,6 +107,19 @@ fn each_form_of_file_is_read(rt: HostRuntime) -> Result<(), Fail> {
         assert!(rt; (packet.moment.0, packet.orig_len) == (moment, 60));
     }
     Ok(())
+}
+
+#[test]
+fn headers_are_judged_from_the_left(rt: HostRuntime) {
+    let mut bytes = HEADER;
+    assert!(rt; Header::read(&[0, 0, 0, 0]) == Err(CaptureFault::Magic));
+    assert!(rt; Header::read(&HEADER[..7]) == Err(CaptureFault::Short { place: 7 }));
+    assert!(rt; Header::read(&HEADER[..8]) == Err(CaptureFault::Short { place: 8 }));
+    bytes[20] = 113;
+    assert!(rt; Header::read(&bytes) == Err(CaptureFault::Link));
+    bytes[6] = 3;
+    assert!(rt; Header::read(&bytes[..8]) == Err(CaptureFault::Version));
+    assert!(rt; CaptureFault::Version.place() == 4 && CaptureFault::Link.place() == 20);
 }
 
 /// The packets of a file that comes in pieces of so many bytes, and where an unfinished record begins.

@@ -1,5 +1,5 @@
 -- The globals that name objects, and those that are noted.
-use Rattle.std.proofs.Common.{◌≡◌, ℕ, Bool, true, false, zero, suc, ◌-◌, ◌<◌, ◌≤◌, ⊎_elim, List, [], ◌∷◌, ◌++◌, length, get_or, slice_get, slice_set, replicate, Option, Some, None, Result, Ok, Err, refl, sym, ap, subst, ◌∙◌, arith}
+use Rattle.std.proofs.Common.{◌≡◌, ℕ, Bool, true, false, zero, suc, ◌-◌, ◌<◌, ◌≤◌, ⊎_elim, List, [], ◌∷◌, ◌++◌, length, get_or, slice_get, slice_set, replicate, Option, Some, None, Result, Ok, Err, not, refl, sym, ap, subst, ◌∙◌, arith}
 use Rattle.std.specs.Prelude.{IfSome}
 use Rattle.std.specs.List.Sorted.{IsBinarySearchResult, IsSearchInRange}
 use Rattle.std.specs.Option.{option_map}
@@ -11,7 +11,8 @@ use Rattle.zk_base.specs.declared.numbers.ObjectNo.{ObjectNo}
 use Rattle.zk_table.proofs.TurnLemmas.{slice_get-push_other, slice_get-push_same}
 use Rattle.zk_tree.specs.Value.{Value}
 use Rattle.zk_machine.specs.Entries.{object_named}
-use Rattle.zk_machine.specs.Owners.{AllExpire, AreNoted, IsNoted, IsOwner, IsSeen, NotedBelow, Rises, RisesTo, each_global, expires_in, object_of}
+use Rattle.zk_table.specs.Dues.{StaysWatchedBut, is_watched}
+use Rattle.zk_machine.specs.Owners.{AllExpire, AllNamed, AreNoted, IsNoted, IsOwner, IsSeen, NamesNothing, NotedBelow, Rises, RisesTo, each_global, expires_in, is_up_to, object_of}
 use Rattle.zk_machine.specs.declared.globals.Owner.{Owner}
 use Rattle.zk_machine.proofs.DefaultLemmas.{equal_is}
 
@@ -87,6 +88,33 @@ object_of-same : (values : List (Option Value)) (global : ℕ) (value : Option V
 object_of-same [] global value object is = cc
 object_of-same (one ∷ values) zero value object is = is
 object_of-same (one ∷ values) (suc global) value object is = object_of-same values global value object is
+
+-- what each named object passes they pass behind an assignment, where what is assigned does and the others go on to
+pub named-set : (was now : ℕ → Bool) (values : List (Option Value)) (global : ℕ) (value : Option Value) → ((number : ℕ) → was number ≡ true → now number ≡ true)
+    → ((object : ObjectNo) → object_named value ≡ Some object → now object.0 ≡ true) → AllNamed values was → AllNamed (slice_set values global value) now
+named-set was now values global value kept own all = λ other object names. ⊎_elim
+    (λ here. own object (object_of-same values global value object (subst (λ n. object_of (slice_set values global value) n ≡ Some object) here names)))
+    (λ apart. kept object.0 (all other object (sym (object_of-other values global other value apart) ∙ names)))
+    (cases_eq other global)
+
+-- where one is watched from now on
+pub stays-watched : (old new : List Bool) (one number : ℕ) → StaysWatchedBut one old new → is_watched new one ≡ true → is_watched old number ≡ true → is_watched new number ≡ true
+stays-watched old new one number stays watched is = ⊎_elim
+    (λ here. subst (λ n. is_watched new n ≡ true) (sym here) watched)
+    (λ apart. stays number apart is)
+    (cases_eq number one)
+
+-- where one is unwatched from now on that is past all that are named
+pub still-watched : (old new : List Bool) (values : List (Option Value)) (last : Option ObjectNo) (one : ℕ) → StaysWatchedBut one old new → not (is_up_to last one) ≡ true
+    → AllNamed values (is_up_to last) → AllNamed values (is_watched old) → AllNamed values (is_watched new)
+still-watched old new values last one stays above up_to watched = λ global object names. ⊎_elim
+    (λ here. absurd (no (is_up_to last one) above (subst (λ n. is_up_to last n ≡ true) here (up_to global object names))))
+    (λ apart. stays object.0 apart (watched global object names))
+    (cases_eq object.0 one)
+  where
+    no : (t : Bool) → not t ≡ true → t ≡ true → ⊥
+    no true first second = cc
+    no false first second = cc
 
 seen-kept : (owner : Owner) (owners news : List Owner) → ((one : Owner) → IsNoted one owners → IsNoted one news) → IsSeen owner owners → IsSeen owner news
 seen-kept owner owners news kept is = (is.0, is.1, kept (record { object = owner.object; global = is.0 }) is.2)
@@ -188,6 +216,9 @@ none-named : (count : ℕ) (global : ℕ) (object : ObjectNo) → object_of (rep
 none-named zero global object is = none_some refl is
 none-named (suc count) zero object is = none_some refl is
 none-named (suc count) (suc global) object is = none-named count global object is
+
+pub names-nothing : (count : ℕ) (values : List (Option Value)) → values ≡ replicate count None → NamesNothing values
+names-nothing count values is = λ global object names. none-named count global object (sym (ap (λ vs. object_of vs global) is) ∙ names)
 
 pub none-owned : (these : ℕ → Bool) (count limit : ℕ) (values : List (Option Value)) (owners : List Owner) → owners ≡ [] → values ≡ replicate count None → AreNoted these values owners limit
 none-owned these count limit values owners none is = record {

@@ -1,5 +1,5 @@
 -- The globals that name objects, as they are noted.
-use Rattle.std.specs.Prelude.{◌≡◌, ℕ, ◌<◌, ◌≤◌, Bool, true, false, List, Option, Some, slice_get, unwrap_or}
+use Rattle.std.specs.Prelude.{◌≡◌, ℕ, ◌<◌, ◌≤◌, nat_le, Bool, true, false, List, Option, None, Some, slice_get, unwrap_or}
 use Rattle.zk_base.specs.declared.numbers.ObjectNo.{ObjectNo}
 use Rattle.zk_tree.specs.Value.{Value}
 use Rattle.zk_typed.specs.Does.{named}
@@ -53,3 +53,18 @@ expires_in truths global = unwrap_or (slice_get truths global) false
 -- the entries of each of these globals expire
 abbrev pub AllExpire : List Bool → List ℕ → Type 0
 AllExpire truths globals = (place global : ℕ) → slice_get globals place ≡ Some global → expires_in truths global ≡ true
+
+-- What is watched ---------------------------------------------------------------------------------------------------
+
+-- each object that a global names passes this test of numbers
+abbrev pub AllNamed : List (Option Value) → (ℕ → Bool) → Type 0
+AllNamed values test = (global : ℕ) (object : ObjectNo) → object_of values global ≡ Some object → test object.0 ≡ true
+
+-- no global names an object
+abbrev pub NamesNothing : List (Option Value) → Type 0
+NamesNothing values = (global : ℕ) (object : ObjectNo) → object_of values global ≡ Some object → ⊥
+
+-- whether a number is at most that of the last object that was named
+abbrev pub is_up_to : Option ObjectNo → ℕ → Bool
+is_up_to None number = false
+is_up_to (Some last) number = nat_le number last.0

@@ -142,7 +142,7 @@ impl State {
     pub fn keep(&mut self, table: Table, default: &Option<DefaultValue>) -> Result<Value, Halt>
         ensures { (place : At) → Comes value_of place result (does.and_then (does.new_object (object.Table table) (state_of self.old)) (meant.keep_default default.now)) (state_of self.new) }
     {
-        let number = self.world.heap.add_table(table)?;
+        let number = self.world.add_table(table)?;
         match default {
             Some(default) => self.keep_default(number, default),
             None => Ok(Value::Object(number)),

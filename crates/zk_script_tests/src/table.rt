@@ -188,5 +188,10 @@ fn heap_finds_the_table_that_is_due_first(rt: HostRuntime) -> Result<(), Fail> {
     assert!(rt; heap.first_due() == Some((Moment(21), read)));
     heap.remove(read, &key_of(alloc, 7)?);
     assert!(rt; heap.first_due() == None);
+    let lone = heap.add_unwatched(Table::new(alloc, Some(Expiry::Create(Span(1)))))?;
+    heap.insert(lone, Moment(1), key_of(alloc, 7)?, Value::Bool(true))?;
+    assert!(rt; heap.first_due() == None, "nobody watches it");
+    heap.watch(lone);
+    assert!(rt; heap.first_due() == Some((Moment(2), lone)));
     Ok(())
 }

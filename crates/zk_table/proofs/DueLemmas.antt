@@ -1,7 +1,7 @@
 -- When the tables of a heap are due, and the heap's index where one of them changed.
 use Rattle.std.proofs.Common.{◌≡◌, ◌==◌, ℕ, zero, suc, ◌+◌, ◌<◌, ◌≤◌, Bool, true, false, cond, not, List, [], ◌∷◌, ◌++◌, length, slice_get, get_or, Option, Some, None, is_some, Result, Ok, Err, OnOk, OnErr, refl, sym, ap, subst, ◌∙◌, arith, ⊎_elim}
 use Rattle.std.specs.Global.{Vec}
-use Rattle.std.specs.Prelude.{IfNone, find, int_lt, pos, slice_set}
+use Rattle.std.specs.Prelude.{IfNone, is_none, find, int_lt, pos, slice_set}
 use Rattle.std.specs.Option.{option_map, option_and_then}
 use Rattle.std.specs.Vec.{with_items}
 use Rattle.std.proofs.lemmas.List.{with_items_is}
@@ -220,6 +220,16 @@ watched-same [] number = refl
 watched-same (one ∷ unwatched) zero = refl
 watched-same (one ∷ unwatched) (suc number) = watched-same unwatched number
 
+-- one that is set says of its number what it is
+pub watched-set : (unwatched : List Bool) (number : ℕ) (mark : Bool) → number < length unwatched → is_watched (slice_set unwatched number mark) number ≡ not mark
+watched-set [] number mark within = absurd (no_less within)
+  where
+    no_less : {n : ℕ} → n < 0 → ⊥
+    no_less lt = omega (arith, lt)
+watched-set (one ∷ unwatched) zero mark within = refl
+watched-set (one ∷ unwatched) (suc number) mark within = watched-set unwatched number mark (omega (arith, within))
+
+-- past the last mark all are watched
 pub watched-past : (unwatched : List Bool) (number : ℕ) → length unwatched ≤ number → is_watched unwatched number ≡ true
 watched-past [] number past = refl
 watched-past (one ∷ unwatched) zero past = absurd (no_less past)
@@ -435,6 +445,12 @@ marked-others unwatched shown marked number lent long others = λ other apart.
 pub marked-one : (unwatched : Vec Bool) (marked : List Bool) (number : ℕ) (watched : Bool) → length marked ≡ unwatched.len → is_watched marked number ≡ watched
     → is_watched (with_items unwatched marked).items number ≡ watched
 marked-one unwatched marked number watched long is = ap (λ marks. is_watched marks number) (with_items_is unwatched marked long) ∙ is
+
+-- that of a new table says that its entries expire
+pub marked-new : (expiry : Option Expiry) (expires : Bool) (long number : ℕ) (marked : List Bool) → expires ≡ is_some expiry → (expires ≡ true → number < long)
+    → (expires ≡ false → is_watched marked number ≡ true) → (number < long → is_watched marked number ≡ not expires) → is_watched marked number ≡ is_none expiry
+marked-new None expires long number marked is room clear set = clear is
+marked-new (Some how) expires long number marked is room clear set = set (room is) ∙ ap not is
 
 -- an object that is no table more, or nothing
 pub indexed-added : {A : Type 0} (r : Result A Mem) (unwatched : List Bool) (objects new : Store) (one : Object) (firsts : List (Option (Moment × ℕ))) → table_of one ≡ None

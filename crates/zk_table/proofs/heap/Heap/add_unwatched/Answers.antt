@@ -1,7 +1,8 @@
-use Rattle.std.proofs.Common.{◌≡◌, ◌<◌, ◌≤◌, ◌∙◌, ℕ, length, refl, sym, ap, subst, arith}
+use Rattle.std.proofs.Common.{◌≡◌, ◌<◌, ◌≤◌, ◌∙◌, ℕ, true, is_some, length, refl, sym, ap, subst, arith}
+use Rattle.std.specs.Prelude.{is_none}
 use Rattle.std.specs.Vec.{with_items}
 use Rattle.zk_table.specs.Dues.{Held, IsIndexed, StaysWatchedBut, is_watched}
-use Rattle.zk_table.proofs.DueLemmas.{indexed-longer, indexed-new, marked-others, never-beyond, stays-but}
+use Rattle.zk_table.proofs.DueLemmas.{indexed-longer, indexed-new, marked-new, marked-one, marked-others, never-beyond}
 use Rattle.zk_table.proofs.heap.Heap.add_unwatched.Goals as goal
 
 -- no room in the index
@@ -43,3 +44,28 @@ invariant_of-self-3 c =
     (λ some. subst (λ n. n < length firsts.items) last (c.in_ok-make_room.ensures.room (c.is_some-expires.ensures ∙ some)))
     (subst (λ n. length firsts.items ≤ n) last past))
     c.in_ok-number.ensures.ok c.deref_mut-2.ensures.value (omega arith) c.reorder.ensures longer
+
+pub returns-clause-others : goal.returns-clause-others
+returns-clause-others c =
+    let s = c.self.inside in
+    let marks = c.make_mark.new.unwatched in
+    let place = c.len-place.result in
+    let last : place ≡ length s.watched.objects = c.len-place.ensures in
+    subst (λ (held : Held). StaysWatchedBut (length held.objects) held.unwatched (with_items marks c.mark.new.unwatched).items) c.self.view_is
+    (λ other apart is. marked-others marks c.deref_mut.result.now c.mark.new.unwatched place c.deref_mut.ensures.value (omega arith) c.mark.ensures.others other (λ e. apart (e ∙ last))
+    ∙ (c.make_mark.ensures.same other ∙ is))
+
+pub returns-clause-unwatched : goal.returns-clause-unwatched
+returns-clause-unwatched c =
+    let s = c.self.inside in
+    let marks = c.make_mark.new.unwatched in
+    let place = c.len-place.result in
+    let expires = c.is_some-expires.result in
+    let last : place ≡ length s.watched.objects = c.len-place.ensures in
+    let room : expires ≡ true → place < length c.deref_mut.result.now = λ is. subst (λ ms. place < length ms) (sym c.deref_mut.ensures.value) (c.in_ok-make_mark.ensures.room is) in
+    let is : is_watched (with_items marks c.mark.new.unwatched).items place ≡ is_none c.args.table.expiry =
+    marked-one marks c.mark.new.unwatched place (is_none c.args.table.expiry) (omega arith)
+    (marked-new c.args.table.expiry expires (length c.deref_mut.result.now) place c.mark.new.unwatched (c.is_some-expires.ensures ∙ ap is_some c.expiry.ensures.expiry) room
+    c.mark.ensures.clear c.mark.ensures.set) in
+    subst (λ (held : Held). is_watched (with_items marks c.mark.new.unwatched).items (length held.objects) ≡ is_none c.args.table.expiry) c.self.view_is
+    (subst (λ n. is_watched (with_items marks c.mark.new.unwatched).items n ≡ is_none c.args.table.expiry) last is)

@@ -1,6 +1,6 @@
-use Rattle.std.proofs.Common.{◌≡◌, ◌∙◌, length, refl, true, sym, ap, subst, arith}
+use Rattle.std.proofs.Common.{refl, true, subst, arith}
 use Rattle.std.specs.Vec.{with_items}
-use Rattle.zk_table.specs.Dues.{Held, StaysWatchedBut, is_watched}
+use Rattle.zk_table.specs.Dues.{Held, StaysWatchedBut}
 use Rattle.zk_table.proofs.DueLemmas.{indexed-marked, marked-one, marked-others, stays-but}
 use Rattle.zk_table.proofs.heap.Heap.watch.Goals as goal
 

@@ -1,11 +1,12 @@
 -- When the tables of a heap are due, and the heap's index where one of them changed.
 use Rattle.std.proofs.Common.{◌≡◌, ◌==◌, ℕ, zero, suc, ◌+◌, ◌<◌, ◌≤◌, Bool, true, false, cond, not, List, [], ◌∷◌, ◌++◌, length, slice_get, get_or, Option, Some, None, is_some, Result, Ok, Err, OnOk, OnErr, refl, sym, ap, subst, ◌∙◌, arith, ⊎_elim}
 use Rattle.std.specs.Global.{Vec}
-use Rattle.std.specs.Prelude.{IfNone, is_none, find, int_lt, pos, slice_set}
+use Rattle.std.specs.Prelude.{IfNone, is_none, find, int_lt, pos, slice_set, unwrap_or}
 use Rattle.std.specs.Option.{option_map, option_and_then}
 use Rattle.std.specs.Vec.{with_items}
 use Rattle.std.proofs.lemmas.List.{with_items_is}
 use Rattle.std.proofs.lemmas.Bool.{cases_eq}
+use Rattle.std.proofs.lemmas.Option.{slice_get_past}
 use Rattle.zk_base.specs.declared.memory.Mem.{Mem}
 use Rattle.zk_base.specs.declared.time.Moment.{Moment}
 use Rattle.zk_base.specs.declared.time.Span.{Span}
@@ -231,12 +232,7 @@ watched-set (one ∷ unwatched) (suc number) mark within = watched-set unwatched
 
 -- past the last mark all are watched
 pub watched-past : (unwatched : List Bool) (number : ℕ) → length unwatched ≤ number → is_watched unwatched number ≡ true
-watched-past [] number past = refl
-watched-past (one ∷ unwatched) zero past = absurd (no_less past)
-  where
-    no_less : {n : ℕ} → suc n ≤ 0 → ⊥
-    no_less le = omega (arith, le)
-watched-past (one ∷ unwatched) (suc number) past = watched-past unwatched number (omega (arith, past))
+watched-past unwatched number past = ap (λ o. not (unwrap_or o false)) (slice_get_past unwatched number past)
 
 -- all that was watched but one is so still
 pub stays-but : (but : ℕ) (old new : List Bool) → ((other : ℕ) → (other ≡ but → ⊥) → is_watched new other ≡ is_watched old other) → StaysWatchedBut but old new

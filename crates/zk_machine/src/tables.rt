@@ -99,8 +99,9 @@ impl State {
     fn absent(&mut self, number: ObjectNo) -> Result<Value, Halt>
         ensures { (place : At) → Comes value_of place result (or_default place (plain.Object number) Nothing (state_of self.old)) (state_of self.new) }
     {
-        match default_named(&self.world.defaults, number) {
-            Some(default) => made(self.world.alloc, &mut self.world.heap, default),
+        let world = &mut self.world;
+        match default_named(&world.defaults, number) {
+            Some(default) => made(world.alloc, &mut world.heap, default),
             None => Err(Halt::Fault(FaultKind::NoIndex)),
         }
     }

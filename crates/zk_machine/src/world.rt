@@ -1,10 +1,9 @@
 ghost use Rattle.std.specs.Prelude.{◌≡◌, ◌++◌, ◌∷◌, [], ℕ, List, Option, length, not, slice_set, true, IfOk, OnOk};
-ghost use Rattle.zk_table.specs.Dues.{is_watched};
 ghost use Rattle.zk_tree.specs.Store as object;
 ghost use Rattle.zk_tree.specs.Value.{Value as Plain};
 ghost use Rattle.zk_typed.specs.State.{first_world, with_store};
 ghost use Rattle.zk_value.specs.Plain.{field_of};
-ghost use Rattle.zk_machine.specs.Owners.{AllNamed, NamesNothing, is_up_to};
+ghost use Rattle.zk_machine.specs.Owners.{NamesNothing, all_up_to, all_watched, is_up_to};
 
 use crate::globals::{Globals, object_in};
 use crate::queued::Queued;
@@ -44,8 +43,8 @@ pub struct World {
     pub streams: Streams,
     /// The printed lines and the rows that were not yet given out.
     pub out: VecDeque<Out>,
-    ghost watched: { AllNamed globals (is_watched heap.unwatched) },
-    ghost up_to: { AllNamed globals (is_up_to last_named) },
+    ghost watched: { all_watched globals heap.unwatched ≡ true },
+    ghost up_to: { all_up_to globals last_named ≡ true },
 }
 
 /// The greater one of the number of an object and of the last that was named.
@@ -72,16 +71,29 @@ fn is_above(last: Option<ObjectNo>, number: usize) -> bool
 /// Watches what a global is to name.
 fn watch_value(heap: &mut Heap, last: &mut Option<ObjectNo>, value: &Option<Value>)
     ensures objects { heap.new.objects ≡ heap.old.objects }
-    ensures watched { (values : List (Option Plain)) (global : ℕ) → AllNamed values (is_watched heap.old.unwatched)
-        → AllNamed (slice_set values global (field_of value.now)) (is_watched heap.new.unwatched) }
-    ensures up_to { (values : List (Option Plain)) (global : ℕ) → AllNamed values (is_up_to last.old)
-        → AllNamed (slice_set values global (field_of value.now)) (is_up_to last.new) }
+    ensures watched { (values : List (Option Plain)) (global : ℕ) → all_watched values heap.old.unwatched ≡ true
+        → all_watched (slice_set values global (field_of value.now)) heap.new.unwatched ≡ true }
+    ensures up_to { (values : List (Option Plain)) (global : ℕ) → all_up_to values last.old ≡ true
+        → all_up_to (slice_set values global (field_of value.now)) last.new ≡ true }
 {
     let Some(object) = object_in(value) else {
         return;
     };
     heap.watch(object);
     *last = later(*last, object);
+}
+
+/// Makes an object of a set or a table, which is watched where a number as high as its own was named before.
+fn add_new(heap: &mut Heap, last: Option<ObjectNo>, table: Table) -> Result<ObjectNo, Mem>
+    ensures number { IfOk result (λ number. number.0 ≡ length heap.old.objects) }
+    ensures ok { OnOk result (heap.new.objects ≡ heap.old.objects ++ object.Table table ∷ []) }
+    ensures watched { (values : List (Option Plain)) → all_up_to values last ≡ true → all_watched values heap.old.unwatched ≡ true → all_watched values heap.new.unwatched ≡ true }
+{
+    if is_above(last, heap.len()) {
+        heap.add_unwatched(table)
+    } else {
+        heap.add_table(table)
+    }
 }
 
 impl World {
@@ -121,10 +133,6 @@ impl World {
         ensures number { IfOk result (λ number. number.0 ≡ length (world_of self.old).store) }
         ensures ok { OnOk result (world_of self.new ≡ with_store ((world_of self.old).store ++ object.Table table ∷ []) (world_of self.old)) }
     {
-        if is_above(self.last_named, self.heap.len()) {
-            self.heap.add_unwatched(table)
-        } else {
-            self.heap.add_table(table)
-        }
+        add_new(&mut self.heap, self.last_named, table)
     }
 }

@@ -1,5 +1,5 @@
 -- When the tables of a heap are due, and the heap's index where one of them changed.
-use Rattle.std.proofs.Common.{◌≡◌, ◌==◌, ℕ, zero, suc, ◌+◌, ◌<◌, ◌≤◌, Bool, true, false, cond, not, List, [], ◌∷◌, ◌++◌, length, slice_get, get_or, Option, Some, None, is_some, Result, Ok, Err, OnOk, OnErr, refl, sym, ap, subst, ◌∙◌, arith, ⊎_elim}
+use Rattle.std.proofs.Common.{◌≡◌, ◌==◌, ℕ, zero, suc, ◌<◌, ◌≤◌, Bool, true, false, cond, not, List, [], ◌∷◌, ◌++◌, length, get_or, Option, Some, None, is_some, Result, Ok, Err, OnOk, OnErr, refl, sym, ap, subst, ◌∙◌, arith, ⊎_elim}
 use Rattle.std.specs.Global.{Vec}
 use Rattle.std.specs.Prelude.{IfNone, is_none, find, int_lt, pos, slice_set, unwrap_or}
 use Rattle.std.specs.Option.{option_map, option_and_then}
@@ -239,15 +239,22 @@ pub stays-but : (but : ℕ) (old new : List Bool) → ((other : ℕ) → (other 
 stays-but but old new same = λ number apart is. same number apart ∙ is
 
 -- one that is watched has its own due
-pub due-watched : (unwatched : List Bool) (objects : Store) (number : ℕ) → is_watched unwatched number ≡ true → watched_due unwatched objects number ≡ due_at objects number
+due-watched : (unwatched : List Bool) (objects : Store) (number : ℕ) → is_watched unwatched number ≡ true → watched_due unwatched objects number ≡ due_at objects number
 due-watched unwatched objects number is = ap (λ watched. cond watched (due_at objects number) None) is
 
--- and what is due of those that are watched is due
-pub due-any : (unwatched : List Bool) (objects : Store) (number : ℕ) (turn : Moment × ℕ) → watched_due unwatched objects number ≡ Some turn → due_at objects number ≡ Some turn
+-- and what is due of those that are watched is due and watched
+due-any : (unwatched : List Bool) (objects : Store) (number : ℕ) (turn : Moment × ℕ) → watched_due unwatched objects number ≡ Some turn → due_at objects number ≡ Some turn
 due-any unwatched objects number turn is = by (is_watched unwatched number) is
   where
     by : (watched : Bool) → cond watched (due_at objects number) None ≡ Some turn → due_at objects number ≡ Some turn
     by true e = e
+    by false e = cc
+
+watched-any : (unwatched : List Bool) (objects : Store) (number : ℕ) (turn : Moment × ℕ) → watched_due unwatched objects number ≡ Some turn → is_watched unwatched number ≡ true
+watched-any unwatched objects number turn is = by (is_watched unwatched number) is
+  where
+    by : (watched : Bool) → cond watched (due_at objects number) None ≡ Some turn → watched ≡ true
+    by true e = refl
     by false e = cc
 
 -- where the tables and the marks are the same

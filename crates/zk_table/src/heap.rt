@@ -4,7 +4,7 @@ ghost use Rattle.zk_tree.specs.Store as object;
 ghost use Rattle.zk_tree.specs.Table as plain;
 ghost use Rattle.zk_value.specs.Objects.{with_field, with_item, with_item_behind};
 ghost use Rattle.zk_value.specs.Plain.{value_of, key_of, field_of};
-ghost use Rattle.zk_table.specs.Dues.{due_at, is_watched, IsFirst, NoneIsFirst, StaysWatchedBut};
+ghost use Rattle.zk_table.specs.Dues.{due_at, is_watched, table_at, IsFirst, NoneIsFirst, StaysWatchedBut};
 ghost use Rattle.zk_table.specs.Heap.{changed, in_table};
 
 use crate::index::{Turn, below, make_room, reorder};
@@ -83,7 +83,8 @@ impl Heap {
 
     /// What is above the number of each table whose entries expire.
     pub fn expiring_end(&self) -> ObjectNo
-        ensures { (number : ℕ) → result.0 ≤ number → due_at self.now.objects number ≡ Nothing }
+        ensures dues { (number : ℕ) → result.0 ≤ number → due_at self.now.objects number ≡ Nothing }
+        ensures expiry { (number : ℕ) (table : plain.Table) → result.0 ≤ number → table_at self.now.objects number ≡ Some table → table.expiry ≡ Nothing }
     {
         ObjectNo(self.firsts.len() as u64)
     }

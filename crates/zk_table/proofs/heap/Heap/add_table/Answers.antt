@@ -1,4 +1,4 @@
-use Rattle.std.proofs.Common.{◌≡◌, ◌<◌, ◌≤◌, ℕ, length, refl, sym, subst, ◌∙◌, arith}
+use Rattle.std.proofs.Common.{◌≡◌, ◌<◌, ◌≤◌, length, refl, sym, subst, ◌∙◌, arith}
 use Rattle.zk_table.specs.Dues.{IsIndexed}
 use Rattle.zk_table.proofs.DueLemmas.{indexed-longer, indexed-new, never-beyond}
 use Rattle.zk_table.proofs.heap.Heap.add_table.Goals as goal

@@ -13,8 +13,8 @@ invariant_of-self c =
     indexed-longer marks marks s.watched.objects s.firsts.items c.make_room.new.firsts.items (λ number. refl) c.make_room.ensures.tree c.make_room.ensures.long c.self.invariant
 
 -- no room for a mark
-pub invariant_of-self-2 : goal.invariant_of-self-2
-invariant_of-self-2 c =
+pub invariant_of-self-in_err-make_mark : goal.invariant_of-self-in_err-make_mark
+invariant_of-self-in_err-make_mark c =
     let s = c.self.inside in
     indexed-longer s.watched.unwatched.items c.make_mark.new.unwatched.items s.watched.objects s.firsts.items c.make_room.new.firsts.items
     c.make_mark.ensures.same c.make_room.ensures.tree c.make_room.ensures.long c.self.invariant
@@ -28,8 +28,8 @@ invariant_of-self-in_err-number c =
     c.make_mark.ensures.same c.make_room.ensures.tree c.make_room.ensures.long c.self.invariant)
 
 -- the table is there
-pub invariant_of-self-3 : goal.invariant_of-self-3
-invariant_of-self-3 c =
+pub invariant_of-self-2 : goal.invariant_of-self-2
+invariant_of-self-2 c =
     let s = c.self.inside in
     let was = s.watched.unwatched.items in
     let marks = c.make_mark.new.unwatched in

@@ -75,7 +75,7 @@ all_named [] test = true
 all_named (value ∷ values) test = passes test (object_named value) && all_named values test
 
 -- whether a heap watches each object that a global names
-pub all_watched : List (Option Value) → List Bool → Bool
+unfoldable pub all_watched : List (Option Value) → List Bool → Bool
 all_watched values unwatched = all_named values (is_watched unwatched)
 
 -- whether a number is at most that of the last object that was named
@@ -84,5 +84,5 @@ is_up_to None number = false
 is_up_to (Some last) number = nat_le number last.0
 
 -- whether that of each object that a global names is
-pub all_up_to : List (Option Value) → Option ObjectNo → Bool
+unfoldable pub all_up_to : List (Option Value) → Option ObjectNo → Bool
 all_up_to values last = all_named values (is_up_to last)

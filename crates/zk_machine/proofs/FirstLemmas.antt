@@ -9,7 +9,6 @@ use Rattle.zk_base.specs.declared.numbers.ObjectNo.{ObjectNo}
 use Rattle.zk_base.specs.declared.time.Moment.{Moment}
 use Rattle.zk_tree.specs.Store as object
 use Rattle.zk_tree.specs.Store.{Object, Store}
-use Rattle.zk_tree.specs.Table as table
 use Rattle.zk_typed.specs.Does.{named}
 use Rattle.zk_typed.specs.Running as typed
 use Rattle.zk_typed.specs.State.{World}

@@ -9,15 +9,14 @@ use Rattle.zk_base.specs.declared.numbers.ObjectNo.{ObjectNo}
 use Rattle.zk_base.specs.declared.time.Moment.{Moment}
 use Rattle.zk_tree.specs.Store as object
 use Rattle.zk_tree.specs.Store.{Object, Store}
-use Rattle.zk_tree.specs.Table as table
 use Rattle.zk_typed.specs.Does.{named}
 use Rattle.zk_typed.specs.Running as typed
 use Rattle.zk_typed.specs.State.{World}
 use Rattle.zk_table.specs.Dues as dues
-use Rattle.zk_table.specs.Dues.{IsFirst, due_at, due_of}
+use Rattle.zk_table.specs.Dues.{Held, IsFirst, NoneIsFirst, due_at, due_of, is_watched}
 use Rattle.zk_machine.specs.Agenda.{Leads, due_in, earlier, entry_due, entry_dues, event_dues, first_of, is_before, kind_before}
 use Rattle.zk_machine.specs.Entries.{object_named, turn_in, turn_of}
-use Rattle.zk_machine.specs.Owners.{object_of}
+use Rattle.zk_machine.specs.Owners.{AllNamed, object_of}
 use Rattle.zk_machine.specs.Schedule.{Each}
 use Rattle.zk_machine.specs.declared.due.Due.{Due}
 use Rattle.zk_machine.specs.declared.due.DueKind.{DueKind}
@@ -181,19 +180,24 @@ due_in-ending world globals ends = ap (λ ends. first_of (cond ends [] (entry_du
 pub due_in-going : (world : World) (globals : List ℕ) → world.is_ending ≡ false → due_in world globals ≡ first_of (entry_dues world globals ++ event_dues world)
 due_in-going world globals goes = ap (λ ends. first_of (cond ends [] (entry_dues world globals) ++ event_dues world)) goes
 
--- what no index has a due for is no entry
-pub no_entries : (world : World) (globals : List ℕ) → ((number : ℕ) → due_at world.store number ≡ None) → entry_dues world globals ≡ []
-no_entries world [] none = refl
-no_entries world (global ∷ globals) none =
-    ap (λ first. first ++ entry_dues world globals) (by (object_named (named world.globals global))) ∙ no_entries world globals none
+-- the heap of a world, where these tables are unwatched
+abbrev pub held_in : World → List Bool → Held
+held_in world unwatched = record { objects = world.store; unwatched = unwatched }
+
+-- where none is due of those that globals name there is no entry
+pub no_entries : (world : World) (unwatched : List Bool) (globals : List ℕ) → AllNamed world.globals (is_watched unwatched) → NoneIsFirst (held_in world unwatched)
+    → entry_dues world globals ≡ []
+no_entries world unwatched [] watched none = refl
+no_entries world unwatched (global ∷ globals) watched none =
+    ap (λ first. first ++ entry_dues world globals) (by (object_named (named world.globals global)) refl) ∙ no_entries world unwatched globals watched none
   where
     no_turn : (o : Option (Moment × ℕ)) (number : ℕ) → option_map (λ (turn : Moment × ℕ). let t : Moment × ℕ = (turn.0, number) in t) o ≡ None → entry_due global o ≡ []
     no_turn None number e = refl
     no_turn (Some turn) number e = cc
 
-    by : (o : Option ObjectNo) → entry_due global (turn_in world.store o) ≡ []
-    by None = refl
-    by (Some number) = no_turn (turn_in world.store (Some number)) number.0 (sym (due-turn world.store number) ∙ none number.0)
+    by : (o : Option ObjectNo) → object_named (named world.globals global) ≡ o → entry_due global (turn_in world.store o) ≡ []
+    by None e = refl
+    by (Some number) e = no_turn (turn_in world.store (Some number)) number.0 (sym (due-turn world.store number) ∙ none number.0 (watched global number e))
 
 -- the one of a global is not before the first
 not_before : (a b : ℤ) (l o g h k n : ℕ) → (int_lt a b || (int_le a b && ltb l o)) ≡ false → (o ≤ l → h ≤ g) → (g ≡ h → k ≡ n)
@@ -216,8 +220,8 @@ not_before a b l o g h k n least rises same = ⊎_elim
     behind above apart = let over : h < g = omega (arith, above, apart) in grind (arith, ints, nat_tests, over, least)
 
 -- the turn that the first due of all tables is
-first-turn : (store : Store) (at : Moment) (number : ObjectNo) → IsFirst store at number.0 → (order : ℕ) × (turn_in store (Some number) ≡ Some (at, order))
-first-turn store at number first = by (turn_in store (Some number)) refl (sym (due-turn store number) ∙ first.due)
+first-turn : (store : Store) (at : Moment) (number : ObjectNo) → due_at store number.0 ≡ Some (at, number.0) → (order : ℕ) × (turn_in store (Some number) ≡ Some (at, order))
+first-turn store at number first = by (turn_in store (Some number)) refl (sym (due-turn store number) ∙ first)
   where
     same : (a b : Moment × ℕ) → Some a ≡ Some b → a ≡ b
     same a b e = cc
@@ -229,7 +233,8 @@ first-turn store at number first = by (turn_in store (Some number)) refl (sym (d
         let moment : turn.0 ≡ at = ap (λ (t : Moment × ℕ). t.0) (same (turn.0, number.0) (at, number.0) is) in
         (turn.1, e ∙ ap (λ (m : Moment). let t : Moment × ℕ = (m, turn.1) in Some t) moment)
 
-module _ (world : World) (at : Moment) (object : ObjectNo) (global order : ℕ) (first : IsFirst world.store at object.0)
+module _ (world : World) (unwatched : List Bool) (at : Moment) (object : ObjectNo) (global order : ℕ) (watched : AllNamed world.globals (is_watched unwatched))
+    (first : IsFirst (held_in world unwatched) at object.0)
     (names : object_of world.globals global ≡ Some object) (turn_is : turn_in world.store (Some object) ≡ Some (at, order)) where
   -- where another global names a later table that is due, it is a later one
   abbrev Rising : ℕ → Type 0
@@ -267,7 +272,7 @@ module _ (world : World) (at : Moment) (object : ObjectNo) (global order : ℕ) 
       let due : due_at world.store number.0 ≡ Some (turn.0, number.0) =
       due-turn world.store number ∙ ap (option_map (λ (turn : Moment × ℕ). let t : Moment × ℕ = (turn.0, number.0) in t)) there in
       not_before turn.0.0 at.0 number.0 object.0 other global turn.1 order
-      (first.least number.0 (turn.0, number.0) due)
+      (first.least number.0 (turn.0, number.0) (watched other number is) due)
       (λ above. rises number (turn.0, number.0) is above due)
       (λ here. ap (λ (turn : Moment × ℕ). turn.1) (same_turn turn (turn_in world.store (Some number)) there
       (ap (λ n. turn_in world.store (Some n)) (same_object number object (object_named (named world.globals other)) is (ap (λ n. object_named (named world.globals n)) here ∙ names))
@@ -293,8 +298,9 @@ module _ (world : World) (at : Moment) (object : ObjectNo) (global order : ℕ) 
       ap (λ turn. first_of (entry_due global turn ++ more)) own ∙ sym (first_of-least one (entry_dues world globals) more (within globals place among) (past globals all))
 
 -- Where the index leads to a global, its entry is the first of all entries.
-pub led : (world : World) (globals : List ℕ) (more : List Due) (at : Moment) (object : ObjectNo) (global : ℕ) → IsFirst world.store at object.0 → Leads world globals global object.0
+pub led : (world : World) (unwatched : List Bool) (globals : List ℕ) (more : List Due) (at : Moment) (object : ObjectNo) (global : ℕ) → AllNamed world.globals (is_watched unwatched)
+    → IsFirst (held_in world unwatched) at object.0 → Leads world globals global object.0
     → first_of (entry_due global (turn_in world.store (object_named (named world.globals global))) ++ more) ≡ first_of (entry_dues world globals ++ more)
-led world globals more at object global first leads =
-    let turn = first-turn world.store at object first in
-    first_is world at object global turn.0 first leads.names turn.1 globals more leads.among.0 leads.first leads.among.1
+led world unwatched globals more at object global watched first leads =
+    let turn = first-turn world.store at object first.due in
+    first_is world unwatched at object global turn.0 watched first leads.names turn.1 globals more leads.among.0 leads.first leads.among.1

@@ -1,5 +1,5 @@
 -- The globals that name objects, and those that are noted.
-use Rattle.std.proofs.Common.{◌≡◌, ℕ, Bool, true, false, zero, suc, ◌-◌, ◌<◌, ◌≤◌, ⊎_elim, List, [], ◌∷◌, ◌++◌, length, get_or, slice_get, slice_set, replicate, Option, Some, None, Result, Ok, Err, refl, sym, ap, subst, ◌∙◌, arith}
+use Rattle.std.proofs.Common.{◌≡◌, ℕ, Bool, true, false, ◌&&◌, zero, suc, ◌-◌, ◌<◌, ◌≤◌, ⊎_elim, List, [], ◌∷◌, ◌++◌, length, get_or, slice_get, slice_set, replicate, Option, Some, None, Result, Ok, Err, not, refl, sym, ap, subst, ◌∙◌, arith}
 use Rattle.std.specs.Prelude.{IfSome}
 use Rattle.std.specs.List.Sorted.{IsBinarySearchResult, IsSearchInRange}
 use Rattle.std.specs.Option.{option_map}
@@ -11,7 +11,8 @@ use Rattle.zk_base.specs.declared.numbers.ObjectNo.{ObjectNo}
 use Rattle.zk_table.proofs.TurnLemmas.{slice_get-push_other, slice_get-push_same}
 use Rattle.zk_tree.specs.Value.{Value}
 use Rattle.zk_machine.specs.Entries.{object_named}
-use Rattle.zk_machine.specs.Owners.{AllExpire, AreNoted, IsNoted, IsOwner, IsSeen, NotedBelow, Rises, RisesTo, each_global, expires_in, object_of}
+use Rattle.zk_table.specs.Dues.{StaysWatchedBut, is_watched}
+use Rattle.zk_machine.specs.Owners.{AllExpire, AllNamed, AreNoted, IsNoted, IsOwner, IsSeen, NamesNothing, NotedBelow, Rises, RisesTo, all_named, all_up_to, all_watched, each_global, expires_in, is_up_to, object_of, passes}
 use Rattle.zk_machine.specs.declared.globals.Owner.{Owner}
 use Rattle.zk_machine.proofs.DefaultLemmas.{equal_is}
 
@@ -87,6 +88,111 @@ object_of-same : (values : List (Option Value)) (global : ℕ) (value : Option V
 object_of-same [] global value object is = cc
 object_of-same (one ∷ values) zero value object is = is
 object_of-same (one ∷ values) (suc global) value object is = object_of-same values global value object is
+
+-- What is watched ---------------------------------------------------------------------------------------------------
+
+-- a test that says so of all is one of each
+pub all-each : (values : List (Option Value)) (test : ℕ → Bool) → all_named values test ≡ true → AllNamed values test
+all-each [] test all global object names = absurd (none_some refl names)
+all-each (value ∷ values) test all zero object names = by (object_named value) names all
+  where
+    by : (o : Option ObjectNo) → o ≡ Some object → (passes test o && all_named values test) ≡ true → test object.0 ≡ true
+    by None is both = absurd (none_some refl is)
+    by (Some one) is both = subst (λ (it : ObjectNo). test it.0 ≡ true) (same_object one object is) (first (test one.0) both)
+      where
+        first : (t : Bool) → (t && all_named values test) ≡ true → t ≡ true
+        first true is = refl
+        first false is = is
+all-each (value ∷ values) test all (suc global) object names = all-each values test (rest (passes test (object_named value)) all) global object names
+  where
+    rest : (t : Bool) → (t && all_named values test) ≡ true → all_named values test ≡ true
+    rest true is = is
+    rest false is = cc
+
+pub each-all : (values : List (Option Value)) (test : ℕ → Bool) → AllNamed values test → all_named values test ≡ true
+each-all [] test each = refl
+each-all (value ∷ values) test each = both (passes test (object_named value)) (by (object_named value) refl) (each-all values test (λ global. each (suc global)))
+  where
+    by : (o : Option ObjectNo) → object_named value ≡ o → passes test o ≡ true
+    by None is = refl
+    by (Some object) is = each 0 object is
+
+    both : (t : Bool) → t ≡ true → all_named values test ≡ true → (t && all_named values test) ≡ true
+    both true is all = all
+    both false is all = is
+
+pub watched-each : (values : List (Option Value)) (unwatched : List Bool) → all_watched values unwatched ≡ true → AllNamed values (is_watched unwatched)
+unfolding all_watched
+watched-each values unwatched all = all-each values (is_watched unwatched) all
+
+each-watched : (values : List (Option Value)) (unwatched : List Bool) → AllNamed values (is_watched unwatched) → all_watched values unwatched ≡ true
+unfolding all_watched
+each-watched values unwatched each = each-all values (is_watched unwatched) each
+
+up_to-each : (values : List (Option Value)) (last : Option ObjectNo) → all_up_to values last ≡ true → AllNamed values (is_up_to last)
+unfolding all_up_to
+up_to-each values last all = all-each values (is_up_to last) all
+
+each-up_to : (values : List (Option Value)) (last : Option ObjectNo) → AllNamed values (is_up_to last) → all_up_to values last ≡ true
+unfolding all_up_to
+each-up_to values last each = each-all values (is_up_to last) each
+
+-- where no global names an object
+pub nothing-watched : (values : List (Option Value)) (unwatched : List Bool) → NamesNothing values → all_watched values unwatched ≡ true
+nothing-watched values unwatched nothing = each-watched values unwatched (λ global object names. absurd (nothing global object names))
+
+pub nothing-up_to : (values : List (Option Value)) (last : Option ObjectNo) → NamesNothing values → all_up_to values last ≡ true
+nothing-up_to values last nothing = each-up_to values last (λ global object names. absurd (nothing global object names))
+
+-- what each named object passes they pass behind an assignment, where what is assigned does and the others go on to
+named-set : (was now : ℕ → Bool) (values : List (Option Value)) (global : ℕ) (value : Option Value) → ((number : ℕ) → was number ≡ true → now number ≡ true)
+    → ((object : ObjectNo) → object_named value ≡ Some object → now object.0 ≡ true) → AllNamed values was → AllNamed (slice_set values global value) now
+named-set was now values global value kept own all = λ other object names. ⊎_elim
+    (λ here. own object (object_of-same values global value object (subst (λ n. object_of (slice_set values global value) n ≡ Some object) here names)))
+    (λ apart. kept object.0 (all other object (sym (object_of-other values global other value apart) ∙ names)))
+    (cases_eq other global)
+
+-- where one is watched from now on
+stays-watched : (old new : List Bool) (one number : ℕ) → StaysWatchedBut one old new → is_watched new one ≡ true → is_watched old number ≡ true → is_watched new number ≡ true
+stays-watched old new one number stays watched is = ⊎_elim
+    (λ here. subst (λ n. is_watched new n ≡ true) (sym here) watched)
+    (λ apart. stays number apart is)
+    (cases_eq number one)
+
+pub watched-set : (old new : List Bool) (values : List (Option Value)) (global : ℕ) (value : Option Value) (one : ObjectNo) → object_named value ≡ Some one
+    → StaysWatchedBut one.0 old new → is_watched new one.0 ≡ true → all_watched values old ≡ true → all_watched (slice_set values global value) new ≡ true
+watched-set old new values global value one is stays watched all = each-watched (slice_set values global value) new
+    (named-set (is_watched old) (is_watched new) values global value (λ number was. stays-watched old new one.0 number stays watched was)
+    (λ object names. subst (λ (it : ObjectNo). is_watched new it.0 ≡ true) (same_object one object (sym is ∙ names)) watched) (watched-each values old all))
+
+pub up_to-set : (old new : Option ObjectNo) (values : List (Option Value)) (global : ℕ) (value : Option Value) (one : ObjectNo) → object_named value ≡ Some one
+    → ((number : ℕ) → is_up_to old number ≡ true → is_up_to new number ≡ true) → is_up_to new one.0 ≡ true → all_up_to values old ≡ true → all_up_to (slice_set values global value) new ≡ true
+up_to-set old new values global value one is kept own all = each-up_to (slice_set values global value) new
+    (named-set (is_up_to old) (is_up_to new) values global value kept
+    (λ object names. subst (λ (it : ObjectNo). is_up_to new it.0 ≡ true) (same_object one object (sym is ∙ names)) own) (up_to-each values old all))
+
+-- where it is to name no object
+pub watched-unset : (unwatched : List Bool) (values : List (Option Value)) (global : ℕ) (value : Option Value) → object_named value ≡ None → all_watched values unwatched ≡ true
+    → all_watched (slice_set values global value) unwatched ≡ true
+watched-unset unwatched values global value none all = each-watched (slice_set values global value) unwatched
+    (named-set (is_watched unwatched) (is_watched unwatched) values global value (λ number is. is) (λ object names. absurd (none_some none names)) (watched-each values unwatched all))
+
+pub up_to-unset : (last : Option ObjectNo) (values : List (Option Value)) (global : ℕ) (value : Option Value) → object_named value ≡ None → all_up_to values last ≡ true
+    → all_up_to (slice_set values global value) last ≡ true
+up_to-unset last values global value none all = each-up_to (slice_set values global value) last
+    (named-set (is_up_to last) (is_up_to last) values global value (λ number is. is) (λ object names. absurd (none_some none names)) (up_to-each values last all))
+
+-- where one is unwatched from now on that is past all that are named
+pub still-watched : (old new : List Bool) (values : List (Option Value)) (last : Option ObjectNo) (one : ℕ) → StaysWatchedBut one old new → not (is_up_to last one) ≡ true
+    → all_up_to values last ≡ true → all_watched values old ≡ true → all_watched values new ≡ true
+still-watched old new values last one stays above up_to watched = each-watched values new (λ global object names. ⊎_elim
+    (λ here. absurd (no (is_up_to last one) above (subst (λ n. is_up_to last n ≡ true) here (up_to-each values last up_to global object names))))
+    (λ apart. stays object.0 apart (watched-each values old watched global object names))
+    (cases_eq object.0 one))
+  where
+    no : (t : Bool) → not t ≡ true → t ≡ true → ⊥
+    no true first second = cc
+    no false first second = cc
 
 seen-kept : (owner : Owner) (owners news : List Owner) → ((one : Owner) → IsNoted one owners → IsNoted one news) → IsSeen owner owners → IsSeen owner news
 seen-kept owner owners news kept is = (is.0, is.1, kept (record { object = owner.object; global = is.0 }) is.2)
@@ -188,6 +294,9 @@ none-named : (count : ℕ) (global : ℕ) (object : ObjectNo) → object_of (rep
 none-named zero global object is = none_some refl is
 none-named (suc count) zero object is = none_some refl is
 none-named (suc count) (suc global) object is = none-named count global object is
+
+pub names-nothing : (count : ℕ) (values : List (Option Value)) → values ≡ replicate count None → NamesNothing values
+names-nothing count values is = λ global object names. none-named count global object (sym (ap (λ vs. object_of vs global) is) ∙ names)
 
 pub none-owned : (these : ℕ → Bool) (count limit : ℕ) (values : List (Option Value)) (owners : List Owner) → owners ≡ [] → values ≡ replicate count None → AreNoted these values owners limit
 none-owned these count limit values owners none is = record {

@@ -1,7 +1,8 @@
 -- The globals that name objects, as they are noted.
-use Rattle.std.specs.Prelude.{◌≡◌, ℕ, ◌<◌, ◌≤◌, Bool, true, false, List, Option, Some, slice_get, unwrap_or}
+use Rattle.std.specs.Prelude.{◌≡◌, ℕ, ◌<◌, ◌≤◌, nat_le, Bool, true, false, ◌&&◌, List, [], ◌∷◌, Option, None, Some, slice_get, unwrap_or}
 use Rattle.zk_base.specs.declared.numbers.ObjectNo.{ObjectNo}
 use Rattle.zk_tree.specs.Value.{Value}
+use Rattle.zk_table.specs.Dues.{is_watched}
 use Rattle.zk_typed.specs.Does.{named}
 use Rattle.zk_machine.specs.Entries.{object_named}
 use Rattle.zk_machine.specs.declared.globals.Owner.{Owner}
@@ -53,3 +54,35 @@ expires_in truths global = unwrap_or (slice_get truths global) false
 -- the entries of each of these globals expire
 abbrev pub AllExpire : List Bool → List ℕ → Type 0
 AllExpire truths globals = (place global : ℕ) → slice_get globals place ≡ Some global → expires_in truths global ≡ true
+
+-- What is watched ---------------------------------------------------------------------------------------------------
+
+-- no global names an object
+abbrev pub NamesNothing : List (Option Value) → Type 0
+NamesNothing values = (global : ℕ) (object : ObjectNo) → object_of values global ≡ Some object → ⊥
+
+-- each object that a global names passes a test of numbers
+abbrev pub AllNamed : List (Option Value) → (ℕ → Bool) → Type 0
+AllNamed values test = (global : ℕ) (object : ObjectNo) → object_of values global ≡ Some object → test object.0 ≡ true
+
+-- whether that is so
+abbrev pub passes : (ℕ → Bool) → Option ObjectNo → Bool
+passes test None = true
+passes test (Some object) = test object.0
+
+abbrev pub all_named : List (Option Value) → (ℕ → Bool) → Bool
+all_named [] test = true
+all_named (value ∷ values) test = passes test (object_named value) && all_named values test
+
+-- whether a heap watches each object that a global names
+unfoldable pub all_watched : List (Option Value) → List Bool → Bool
+all_watched values unwatched = all_named values (is_watched unwatched)
+
+-- whether a number is at most that of the last object that was named
+abbrev pub is_up_to : Option ObjectNo → ℕ → Bool
+is_up_to None number = false
+is_up_to (Some last) number = nat_le number last.0
+
+-- whether that of each object that a global names is
+unfoldable pub all_up_to : List (Option Value) → Option ObjectNo → Bool
+all_up_to values last = all_named values (is_up_to last)

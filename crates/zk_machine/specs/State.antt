@@ -45,7 +45,7 @@ abbrev pub world_of : World → typed.World
 world_of world = record {
   time = world.time;
   is_ending = world.is_ending;
-  store = world.heap;
+  store = world.heap.objects;
   defaults = map default_of world.defaults;
   globals = world.globals;
   queue = map queued_of world.queue.items;

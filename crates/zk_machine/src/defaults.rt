@@ -28,7 +28,8 @@ fn signed(sign: Sign, value: Value) -> Result<Value, OperatorFault>
 
 /// The value of a `&default`, for which an object may be made (Zeek manual, Attributes, &default).
 pub fn made(alloc: Global, heap: &mut Heap, default: &DefaultValue) -> Result<Value, Halt>
-    ensures { (place : At) (state : typed.State) → state.world.store ≡ heap.old → Comes value_of place result (meant.default_value place default.now state) (storing heap.new state) }
+    ensures made { (place : At) (state : typed.State) → state.world.store ≡ heap.old.objects → Comes value_of place result (meant.default_value place default.now state) (storing heap.new.objects state) }
+    ensures unwatched { heap.new.unwatched ≡ heap.old.unwatched }
 {
     match default {
         DefaultValue::Literal { literal, sign } => {

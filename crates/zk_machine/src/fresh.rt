@@ -34,7 +34,8 @@ fn given_at(number: usize, given: &[(u32, Value)]) -> Option<&Value>
 
 /// What a field begins with that isn't given: nothing where its `&default` is at fault.
 fn default_in(alloc: Global, heap: &mut Heap, default: &DefaultValue) -> Result<Option<Value>, Mem>
-    ensures { IfOk result (λ value. (world : PlainWorld) → world.store ≡ heap.old → plain.begins world Nothing (Some default.now) ≡ (field_of value, with_store heap.new world)) }
+    ensures begins { IfOk result (λ value. (world : PlainWorld) → world.store ≡ heap.old.objects → plain.begins world Nothing (Some default.now) ≡ (field_of value, with_store heap.new.objects world)) }
+    ensures unwatched { heap.new.unwatched ≡ heap.old.unwatched }
 {
     match made(alloc, heap, default) {
         Ok(value) => Ok(Some(value)),
@@ -51,8 +52,9 @@ fn begins(
     given: Option<&Value>,
     default: &Option<DefaultValue>,
 ) -> Result<Option<Value>, Mem>
-    ensures { IfOk result (λ value. (world : PlainWorld) → world.store ≡ heap.old
-        → plain.begins world (option_map (λ value. value_of value.now) given.entry) default.now ≡ (field_of value, with_store heap.new world)) }
+    ensures begins { IfOk result (λ value. (world : PlainWorld) → world.store ≡ heap.old.objects
+        → plain.begins world (option_map (λ value. value_of value.now) given.entry) default.now ≡ (field_of value, with_store heap.new.objects world)) }
+    ensures unwatched { heap.new.unwatched ≡ heap.old.unwatched }
 {
     match given {
         Some(value) => Ok(Some(value.clone()?)),
@@ -70,8 +72,9 @@ fn fields_begin(
     fields: &[Field],
     given: &[(u32, Value)],
 ) -> Result<Vec<Option<Value>>, Mem>
-    ensures { IfOk result (λ values. (world : PlainWorld) → world.store ≡ heap.old
-        → plain.fields_begin (given_of given.now) 0 (map plain_field fields.now) world ≡ (map field_of values.items, with_store heap.new world)) }
+    ensures begins { IfOk result (λ values. (world : PlainWorld) → world.store ≡ heap.old.objects
+        → plain.fields_begin (given_of given.now) 0 (map plain_field fields.now) world ≡ (map field_of values.items, with_store heap.new.objects world)) }
+    ensures unwatched { heap.new.unwatched ≡ heap.old.unwatched }
 {
     let mut values = Vec::with_capacity(alloc, fields.len())?;
     for (number, field) in fields.iter().enumerate() {
@@ -89,8 +92,9 @@ pub fn fresh(
     kind: RecordNo,
     given: &[(u32, Value)],
 ) -> Result<ObjectNo, Mem>
-    ensures { IfOk result (λ number. (world : PlainWorld) → world.store ≡ heap.old
-        → plain.fresh (types_in (code_of code.now)) kind (given_of given.now) world ≡ record { number = number; world = with_store heap.new world }) }
+    ensures fresh { IfOk result (λ number. (world : PlainWorld) → world.store ≡ heap.old.objects
+        → plain.fresh (types_in (code_of code.now)) kind (given_of given.now) world ≡ record { number = number; world = with_store heap.new.objects world }) }
+    ensures unwatched { heap.new.unwatched ≡ heap.old.unwatched }
 {
     let values = fields_begin(alloc, heap, fields_in(code, kind), given)?;
     heap.add_record(kind, values)

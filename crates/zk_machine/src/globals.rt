@@ -4,7 +4,7 @@ ghost use Rattle.zk_typed.specs.Does as does;
 ghost use Rattle.zk_value.specs.Plain.{field_of};
 ghost use Rattle.zk_machine.specs.Entries.{object_named};
 ghost use Rattle.zk_lower.specs.View.{global_of};
-ghost use Rattle.zk_machine.specs.Owners.{AllExpire, AreNoted, IsNoted, IsSeen, NotedBelow, Rises, RisesTo, expires_in, object_of};
+ghost use Rattle.zk_machine.specs.Owners.{AllExpire, AreNoted, IsNoted, IsSeen, NamesNothing, NotedBelow, Rises, RisesTo, expires_in, object_of};
 ghost use Rattle.zk_machine.specs.declared.globals.Owner.{Owner as Rust};
 
 use crate::calls::add_locals;
@@ -64,7 +64,7 @@ impl Model for Globals {
 }
 
 /// The object that a value names.
-fn object_in(value: &Option<Value>) -> Option<ObjectNo>
+pub fn object_in(value: &Option<Value>) -> Option<ObjectNo>
     ensures { result ≡ object_named (field_of value.now) }
 {
     match value {
@@ -246,7 +246,8 @@ impl Globals {
 
     /// Globals of this code, without a value.
     pub fn new(alloc: Global, code: &[GlobalCode]) -> Result<Globals, Mem>
-        ensures { IfOk result (λ globals. globals ≡ replicate (length code.now) Nothing) }
+        ensures values { IfOk result (λ globals. globals ≡ replicate (length code.now) Nothing) }
+        ensures nothing { IfOk result (λ globals. NamesNothing globals) }
     {
         let mut values = Vec::new(alloc);
         add_locals(&mut values, code.len())?;

@@ -17,6 +17,7 @@ ghost use Rattle.zk_machine.specs.Handling.{numbers_for};
 ghost use Rattle.zk_machine.specs.Leads.{ran_of};
 ghost use Rattle.zk_machine.specs.Made as made;
 ghost use Rattle.zk_machine.specs.Made.{given_of, renewed, with_object};
+ghost use Rattle.zk_machine.specs.Owners.{NamesNothing};
 ghost use Rattle.zk_machine.specs.Queued.{queued_of};
 ghost use Rattle.zk_machine.specs.Schedule.{event_numbered};
 ghost use Rattle.zk_machine.specs.State.{state_of, world_of};
@@ -57,6 +58,7 @@ pub struct Waited {
 impl Running {
     /// What runs in a world of so many globals and constants, at its beginning.
     fn new(alloc: Global, globals: Globals) -> Running
+        requires { NamesNothing globals }
         ensures { world_of result.state.world ≡ first_world globals }
     {
         Running {

@@ -127,7 +127,7 @@ fn object_cell(alloc: Global, object: Option<Lent<'_>>) -> Result<Cell, Mem>
 
 /// The cell of a field that may have a value.
 fn value_cell(alloc: Global, heap: &Heap, value: Option<&Value>) -> Result<Cell, Mem>
-    ensures { IfOk result (λ cell. cell_of cell ≡ columns.value_cell heap.now (option_map (λ one. value_of one.now) value.entry)) }
+    ensures { IfOk result (λ cell. cell_of cell ≡ columns.value_cell heap.now.objects (option_map (λ one. value_of one.now) value.entry)) }
 {
     match value {
         Some(value) => match value {
@@ -140,7 +140,7 @@ fn value_cell(alloc: Global, heap: &Heap, value: Option<&Value>) -> Result<Cell,
 
 /// A field of what a value names, where both are there.
 fn field_behind<'a>(heap: &'a Heap, value: Option<&'a Value>, number: u32) -> Option<&'a Value>
-    ensures { option_map (λ one. value_of one.now) result ≡ objects.in_field number (columns.fields_behind heap.now (option_map (λ one. value_of one.now) value.entry)) }
+    ensures { option_map (λ one. value_of one.now) result ≡ objects.in_field number (columns.fields_behind heap.now.objects (option_map (λ one. value_of one.now) value.entry)) }
 {
     let Value::Object(object) = value? else {
         return None;
@@ -154,7 +154,7 @@ fn field_behind<'a>(heap: &'a Heap, value: Option<&'a Value>, number: u32) -> Op
 
 /// The value that fields lead to from a record, where each of them has one.
 fn value_at<'a>(heap: &'a Heap, path: &[u32], from: &'a Value) -> Option<&'a Value>
-    ensures { option_map (λ one. value_of one.now) result ≡ columns.value_at heap.now path.now (Some (value_of from.now)) }
+    ensures { option_map (λ one. value_of one.now) result ≡ columns.value_at heap.now.objects path.now (Some (value_of from.now)) }
 {
     let mut value = Some(from);
     for number in path {
@@ -165,7 +165,7 @@ fn value_at<'a>(heap: &'a Heap, path: &[u32], from: &'a Value) -> Option<&'a Val
 
 /// The cells of a record.
 fn cells(alloc: Global, heap: &Heap, leaves: &[&Leaf], row: &Value) -> Result<Vec<Cell>, Mem>
-    ensures { IfOk result (λ cells. map cell_of cells.items ≡ map (λ leaf. columns.value_cell heap.now (columns.value_at heap.now leaf.now.path.items (Some (value_of row.now)))) leaves.now) }
+    ensures { IfOk result (λ cells. map cell_of cells.items ≡ map (λ leaf. columns.value_cell heap.now.objects (columns.value_at heap.now.objects leaf.now.path.items (Some (value_of row.now)))) leaves.now) }
 {
     let mut cells = Vec::with_capacity(alloc, leaves.len())?;
     for leaf in leaves {

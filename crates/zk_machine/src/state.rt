@@ -110,7 +110,7 @@ impl State {
     pub fn set_global(&mut self, number: u32, value: Option<Value>)
         ensures { does.set_global number (field_of value) (state_of self.old) ≡ does.Gives tt (state_of self.new) }
     {
-        self.world.globals.set(number, value);
+        self.world.set_global(number, value);
     }
 
     /// `print a, b;` (Zeek manual, Statements, print).

@@ -99,8 +99,9 @@ impl State {
     fn absent(&mut self, number: ObjectNo) -> Result<Value, Halt>
         ensures { (place : At) → Comes value_of place result (or_default place (plain.Object number) Nothing (state_of self.old)) (state_of self.new) }
     {
-        match default_named(&self.world.defaults, number) {
-            Some(default) => made(self.world.alloc, &mut self.world.heap, default),
+        let world = &mut self.world;
+        match default_named(&world.defaults, number) {
+            Some(default) => made(world.alloc, &mut world.heap, default),
             None => Err(Halt::Fault(FaultKind::NoIndex)),
         }
     }
@@ -142,7 +143,7 @@ impl State {
     pub fn keep(&mut self, table: Table, default: &Option<DefaultValue>) -> Result<Value, Halt>
         ensures { (place : At) → Comes value_of place result (does.and_then (does.new_object (object.Table table) (state_of self.old)) (meant.keep_default default.now)) (state_of self.new) }
     {
-        let number = self.world.heap.add_table(table)?;
+        let number = self.world.add_table(table)?;
         match default {
             Some(default) => self.keep_default(number, default),
             None => Ok(Value::Object(number)),

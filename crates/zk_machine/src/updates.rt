@@ -37,7 +37,8 @@ pub fn computed(given: Result<Value, OperatorFault>) -> Result<Value, Halt>
 
 /// Adds members to a set, one after another.
 fn insert_all(heap: &mut Heap, number: ObjectNo, now: Moment, keys: &[Key]) -> Result<(), Mem>
-    ensures { OnOk result (heap.new ≡ changed (in_table (λ members. fold (meant.add_member now) members (map key_of keys.now))) number.0 heap.old) }
+    ensures objects { OnOk result (heap.new.objects ≡ changed (in_table (λ members. fold (meant.add_member now) members (map key_of keys.now))) number.0 heap.old.objects) }
+    ensures unwatched { heap.new.unwatched ≡ heap.old.unwatched }
 {
     for key in keys {
         heap.insert(number, now, key.clone()?, Value::Bool(true))?;
@@ -47,7 +48,8 @@ fn insert_all(heap: &mut Heap, number: ObjectNo, now: Moment, keys: &[Key]) -> R
 
 /// Takes members away from a set, one after another.
 fn remove_all(heap: &mut Heap, number: ObjectNo, keys: &[Key])
-    ensures { heap.new ≡ changed (in_table (λ members. fold (λ left key. table.remove key left) members (map key_of keys.now))) number.0 heap.old }
+    ensures objects { heap.new.objects ≡ changed (in_table (λ members. fold (λ left key. table.remove key left) members (map key_of keys.now))) number.0 heap.old.objects }
+    ensures unwatched { heap.new.unwatched ≡ heap.old.unwatched }
 {
     for key in keys {
         heap.remove(number, key);

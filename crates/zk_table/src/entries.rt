@@ -133,8 +133,8 @@ impl Entries {
         }
     }
 
-    /// The place of a key's entry, where it is the one that was found last or the one behind it. A key that has
-    /// another costs a comparison or two.
+    /// The place of a key's entry, where it is the one that was found last or the one behind it. One that
+    /// stands elsewhere costs a comparison or two.
     fn find_recent(&self, key: &Key) -> Option<usize>
         ensures { IfSome result (λ place. Found self.now key.now place) }
     {

@@ -8,6 +8,7 @@ mod index;
 mod objects;
 mod slot;
 mod table;
+mod watched;
 
 pub use heap::Heap;
 pub use objects::Lent;

@@ -7,7 +7,7 @@ ghost use Rattle.zk_value.specs.Plain.{value_of, key_of, field_of};
 ghost use Rattle.zk_table.specs.Dues.{due_at, due_of};
 ghost use Rattle.zk_table.specs.Heap.{changed, in_table, HasNoTable};
 
-use crate::index::{Places, Turn};
+use crate::index::Turn;
 use crate::table::Table;
 use std::alloc::Global;
 use std::marker::Model;
@@ -84,6 +84,18 @@ impl Objects {
                 },
             },
             None => None,
+        }
+    }
+
+    /// When the first entry of the table of a number is due, with the number.
+    pub fn turn(&self, place: usize) -> Option<Turn>
+        ensures { result ≡ due_at self.now place }
+    {
+        let number = place as u64;
+        match self.object(ObjectNo(number))? {
+            Lent::Record { .. } => None,
+            Lent::Vector(_) => None,
+            Lent::Table(table) => turn_of(table, number),
         }
     }
 
@@ -197,19 +209,6 @@ fn turn_of(table: &Table, number: u64) -> Option<Turn>
 {
     let (due, _) = table.due()?;
     Some((due, number))
-}
-
-impl Places for Objects {
-    ghost turns = { due_at };
-
-    fn turn(&self, place: usize) -> Option<Turn> {
-        let number = place as u64;
-        match self.object(ObjectNo(number))? {
-            Lent::Record { .. } => None,
-            Lent::Vector(_) => None,
-            Lent::Table(table) => turn_of(table, number),
-        }
-    }
 }
 
 /// The place of a set or a table among them.

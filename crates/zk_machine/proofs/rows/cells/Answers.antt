@@ -12,7 +12,7 @@ pub loop-leaf-preserved : goal.loop-leaf-preserved
 loop-leaf-preserved c =
     let i = c.loop-leaf.leaf-index in
     let leaves = c.args.leaves.now in
-    let heap = c.args.heap.now in
+    let heap = c.args.heap.now.objects in
     let row = Some (value_of c.args.row.now) in
     let cell : Bor Leaf → log.Cell = λ leaf. value_cell heap (value_at heap leaf.now.path.items row) in
     ap (map cell_of) c.in_ok-push.ensures.items

@@ -16,7 +16,7 @@ plain_leaf leaf = leaf_of leaf.now
 
 pub returns-clause-row : goal.returns-clause-row
 returns-clause-row c = λ types is.
-    let heap = c.args.world.now.heap in
+    let heap = c.args.world.now.heap.objects in
     let write = c.args.write.now in
     let filter = c.args.filter.now in
     let row = Some (value_of write.row) in

@@ -76,9 +76,9 @@ returns-clause-stands c = λ program given world stands.
       code = after.code;
       comes = ap (λ (world : World). expire_of program budget c.args.table order world (slice_get program.globals c.args.table)) stands.comes
           ∙ (ap (expire_of program budget c.args.table order (behind given before)) of.1
-          ∙ expired_behind program budget order of.0 given before now (named before.globals c.args.table) entry.table (key_of entry.key) (key_of c.deref.result.now) waited.wait c.expire.new.self
+          ∙ expired_behind program budget order of.0 given before now (named before.globals c.args.table) entry.table (key_of entry.key) (key_of c.deref.result.now) waited.wait c.expire.new.self.objects
           found asked after.comes
           (c.in_ok-waited.ensures.wait program given (behind given before) of.0 (record { code = stands.code; comes = refl; works = refl }) of.1)
-          (c.expire.ensures ∙ ap (λ (store : Store). changed (in_table (plain.expire order waited.wait)) entry.table.0 store) c.renew.ensures));
+          (c.expire.ensures.objects ∙ ap (λ (store : Store). changed (in_table (plain.expire order waited.wait)) entry.table.0 store) c.renew.ensures.objects));
       works = after.works;
     }

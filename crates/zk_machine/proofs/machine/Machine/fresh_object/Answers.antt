@@ -13,7 +13,7 @@ returns-clause-number c = λ program given world stands.
     let fields = c.deref.result.now in
     let lent : fields ≡ c.args.fields.items = search rules in
     let typed : lower.code_of c.code.result.now ≡ lowered program = c.code.ensures ∙ stands.code in
-    let made = ap (λ (fields : List (ℕ × rust.Value)). fresh program kind (given_of fields) world) (sym lent) ∙ (ap (λ (code : Code). fresh (types_in code) kind (given_of fields) world) (sym typed) ∙ c.in_ok-number.ensures world (ap (λ (world : World). world.store) stands.comes)) in
+    let made = ap (λ (fields : List (ℕ × rust.Value)). fresh program kind (given_of fields) world) (sym lent) ∙ (ap (λ (code : Code). fresh (types_in code) kind (given_of fields) world) (sym typed) ∙ c.in_ok-number.ensures.fresh world (ap (λ (world : World). world.store) stands.comes)) in
     ap (λ (one : Fresh). one.number) (sym made)
 
 pub returns-clause-stands : goal.returns-clause-stands
@@ -22,9 +22,9 @@ returns-clause-stands c = λ program given world stands.
     let fields = c.deref.result.now in
     let lent : fields ≡ c.args.fields.items = search rules in
     let typed : lower.code_of c.code.result.now ≡ lowered program = c.code.ensures ∙ stands.code in
-    let made = ap (λ (fields : List (ℕ × rust.Value)). fresh program kind (given_of fields) world) (sym lent) ∙ (ap (λ (code : Code). fresh (types_in code) kind (given_of fields) world) (sym typed) ∙ c.in_ok-number.ensures world (ap (λ (world : World). world.store) stands.comes)) in
+    let made = ap (λ (fields : List (ℕ × rust.Value)). fresh program kind (given_of fields) world) (sym lent) ∙ (ap (λ (code : Code). fresh (types_in code) kind (given_of fields) world) (sym typed) ∙ c.in_ok-number.ensures.fresh world (ap (λ (world : World). world.store) stands.comes)) in
     record {
       code = stands.code;
-      comes = ap (λ (one : Fresh). one.world) made ∙ ap (with_store c.fresh.new.heap) stands.comes;
+      comes = ap (λ (one : Fresh). one.world) made ∙ ap (with_store c.fresh.new.heap.objects) stands.comes;
       works = refl;
     }

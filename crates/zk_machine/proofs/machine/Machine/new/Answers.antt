@@ -11,6 +11,6 @@ returns-clause-stands c = λ program is.
     let count : length c.as_slice.result.now ≡ length program.globals = ap length c.as_slice.ensures ∙ (sym (length-map code.globals lower.global_of) ∙ globals_in (lower.code_of code) program is) in
     record {
       code = c.in_ok-indexed.ensures ∙ is;
-      comes = ap first_world (ap (λ n. replicate n None) (sym count) ∙ sym c.in_ok-globals.ensures) ∙ sym c.new-running.ensures;
+      comes = ap first_world (ap (λ n. replicate n None) (sym count) ∙ sym c.in_ok-globals.ensures.values) ∙ sym c.new-running.ensures;
       works = refl;
     }

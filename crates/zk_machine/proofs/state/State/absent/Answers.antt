@@ -8,4 +8,4 @@ use Rattle.zk_machine.proofs.state.State.absent.Goals as goal
 pub returns-in-Some : goal.returns-in-Some
 returns-in-Some c = λ place.
     let state = state_of c.args.self.now in
-    comes_as value_of place c.made.result (default_value place c.in-Some.default.now state) _ _ (ap (λ d. absent place d state) (sym c.in-Some.ensures)) (c.made.ensures place state refl)
+    comes_as value_of place c.made.result (default_value place c.in-Some.default.now state) _ _ (ap (λ d. absent place d state) (sym c.in-Some.ensures)) (c.made.ensures.made place state refl)

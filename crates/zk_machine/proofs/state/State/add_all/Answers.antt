@@ -20,4 +20,4 @@ returns c = λ place members there.
     ap (λ (v : rust.Value). into_object place Plus (plain.Object number) (value_of v) (object.Table members) state) c.in-Object.is
     ∙ (plus_gives place number c.in-Object.others members c.in-Table.table.now state there (rw c.in-Table.is at c.in-Some.ensures)
     ∙ (ap (λ (keys : List (List Value)). Gives (plain.Object number) (storing (changed (in_table (λ table. fold (add_member state.world.time) table keys)) number.0 state.world.store) state)) (sym (ap (map key_of) c.deref.ensures.value ∙ c.in_ok-keys-in-Table.ensures))
-    ∙ ap (λ store. Gives (plain.Object number) (storing store state)) (sym c.in_ok-insert_all.ensures)))
+    ∙ ap (λ store. Gives (plain.Object number) (storing store state)) (sym c.in_ok-insert_all.ensures.objects)))

@@ -17,4 +17,4 @@ returns-in_ok-key-in-Table c = λ place.
     ap (λ (v : Value). meant.delete_key place (value_of v) (key_of c.args.key.now) state) c.in-Object.is
     ∙ (change_table-there (λ moment. remove (key_of c.args.key.now)) place c.in-Object.object state _ (rw c.in-Table.is at c.in-Some.ensures)
     ∙ ap (λ (store : Store). does.Gives tt (storing store state))
-    (ap (λ (key : List Value). changed (in_table (remove (key_of key))) c.in-Object.object.0 state.world.store) (sym c.in_ok-key-in-Table.ensures) ∙ sym c.remove.ensures))
+    (ap (λ (key : List Value). changed (in_table (remove (key_of key))) c.in-Object.object.0 state.world.store) (sym c.in_ok-key-in-Table.ensures) ∙ sym c.remove.ensures.objects))

@@ -20,4 +20,4 @@ returns c = λ place.
     let renews : finds_renew c.in_ok-table.table.now.expiry ≡ true = sym (c.finds_renew.ensures ∙ ap finds_renew c.expiry.ensures.expiry) ∙ c.if-not-finds_renew.false in
     find-renews place c.args.number (key_of c.args.key.now) state c.in_ok-table.table.now c.in_ok-table.ensures.there renews
     ∙ (ap (λ v. Gives v (storing (changed (in_table (renew state.world.time (key_of c.args.key.now))) c.args.number.0 state.world.store) state)) (sym c.in_ok-value.ensures)
-    ∙ ap (λ store. Gives (field_of c.in_ok-value.value) (storing store state)) (sym c.renew.ensures))
+    ∙ ap (λ store. Gives (field_of c.in_ok-value.value) (storing store state)) (sym c.renew.ensures.objects))

@@ -14,7 +14,7 @@ use Rattle.zk_machine.proofs.state.State.into_vector.Goals as goal
 pub returns-in_ok-push_item-in-Plus : goal.returns-in_ok-push_item-in-Plus
 returns-in_ok-push_item-in-Plus c = λ place items there.
     let state = state_of c.args.self.now in
-    let store = c.args.self.now.world.heap in
+    let store = c.args.self.now.world.heap.objects in
     let number = c.args.number in
     ap (λ by. into_object place by (plain.Object number) (value_of c.args.other.now) (object.Vector items) state) c.in-Plus.is
     ∙ ap (λ store. Gives (plain.Object number) (storing store state)) (sym (c.in_ok-push_item-in-Plus.ensures.ok

@@ -14,4 +14,4 @@ returns-in-Some c = λ place.
     let state = state_of c.args.self.now in
     ap (λ (v : Value). meant.set_field place (value_of v) c.args.number (value_of c.args.value) state) c.in-Object.is
     ∙ (set_field-there place c.in-Object.object c.args.number (value_of c.args.value) state _ c.in-Some.ensures
-    ∙ ap (λ (store : Store). does.Gives tt (storing store state)) (sym c.set_field.ensures))
+    ∙ ap (λ (store : Store). does.Gives tt (storing store state)) (sym c.set_field.ensures.objects))

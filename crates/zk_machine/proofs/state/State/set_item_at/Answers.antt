@@ -11,7 +11,7 @@ returns-then-index-count c = λ place.
     let items = c.in_ok-count.field-0.now in
     let within : c.args.index < length (key_of items) = let same = length-map items value_of in omega (arith, same, c.if-index-count.true) in
     item-set place c.args.number c.args.index (value_of c.args.item) (state_of c.args.self.now) (key_of items) c.in_ok-count.ensures.there within
-    ∙ ap (λ store. Gives tt (storing store (state_of c.args.self.now))) (sym c.set_item.ensures)
+    ∙ ap (λ store. Gives tt (storing store (state_of c.args.self.now))) (sym c.set_item.ensures.objects)
 
 pub returns : goal.returns
 returns c = λ place.

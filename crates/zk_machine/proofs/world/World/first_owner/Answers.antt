@@ -9,6 +9,6 @@ returns-then-is_among c = record {
   names = c.in_ok-global.ensures.names;
   first = λ place other here later turn is above due. ⊎_elim
       (λ below. c.in_ok-global.ensures.first place other here later is above below)
-      (λ past. absurd (none_some (c.expiring_end.ensures later.0 past) due))
+      (λ past. absurd (none_some (c.expiring_end.ensures.dues later.0 past) due))
       (cases_lt later.0 c.expiring_end.result.0);
 }

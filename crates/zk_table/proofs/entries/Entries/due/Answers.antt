@@ -1,6 +1,5 @@
-use Rattle.std.proofs.Common.{◌∙◌, rules}
+use Rattle.std.proofs.Common.{◌∙◌}
 use Rattle.zk_table.proofs.TurnLemmas.{top-first_due}
-use Rattle.zk_table.proofs.KeptLemmas.{rewritten}
 use Rattle.zk_table.proofs.entries.Entries.due.Goals as goal
 
 pub returns : goal.returns

@@ -5,5 +5,7 @@ use Rattle.zk_table.proofs.heap.Heap.new.Goals as goal
 
 pub invariant_of-result : goal.invariant_of-result
 invariant_of-result c =
-    let items : c.new-2.result.items ≡ [] = search rules in
-    subst (λ os. IsIndexed os c.new-2.result.items) (sym c.new.ensures) (subst (λ fs. IsIndexed [] fs) (sym items) indexed-none)
+    let marks : c.new-2.result.items ≡ [] = search rules in
+    let items : c.new-3.result.items ≡ [] = search rules in
+    subst (λ os. IsIndexed os c.new-2.result.items c.new-3.result.items) (sym c.new.ensures)
+    (subst (λ ms. IsIndexed [] ms c.new-3.result.items) (sym marks) (subst (λ fs. IsIndexed [] [] fs) (sym items) indexed-none))

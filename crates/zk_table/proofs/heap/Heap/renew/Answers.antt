@@ -7,5 +7,5 @@ use Rattle.zk_table.proofs.heap.Heap.renew.Goals as goal
 pub invariant_of-self : goal.invariant_of-self
 invariant_of-self c =
     let s = c.self.inside in
-    indexed-reordered (plain.renew c.args.now (key_of c.args.key.now)) s.objects c.renew.new.self s.firsts c.deref_mut.result.now c.reorder.new.firsts c.args.number.0
+    indexed-reordered (plain.renew c.args.now (key_of c.args.key.now)) s.watched.unwatched.items s.watched.objects c.renew.new.self s.firsts c.deref_mut.result.now c.reorder.new.firsts c.args.number.0
     (never-renew c.args.now (key_of c.args.key.now)) c.renew.ensures c.deref_mut.ensures.value (omega arith) c.reorder.ensures c.self.invariant

@@ -7,4 +7,4 @@ pub invariant_of-self : goal.invariant_of-self
 invariant_of-self c =
     let s = c.self.inside in
     let value = field_of c.args.value in
-    rw c.set_field.ensures (indexed-kept (with_field c.args.field value) s.objects c.args.number.0 s.firsts.items (with_field-keeps c.args.field value) c.self.invariant)
+    rw c.set_field.ensures (indexed-kept (with_field c.args.field value) s.watched.unwatched.items s.watched.objects c.args.number.0 s.firsts.items (with_field-keeps c.args.field value) c.self.invariant)

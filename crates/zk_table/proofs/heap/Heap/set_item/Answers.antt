@@ -7,4 +7,4 @@ pub invariant_of-self : goal.invariant_of-self
 invariant_of-self c =
     let s = c.self.inside in
     let item = value_of c.args.item in
-    rw c.set_item.ensures (indexed-kept (with_item c.args.index item) s.objects c.args.number.0 s.firsts.items (with_item-keeps c.args.index item) c.self.invariant)
+    rw c.set_item.ensures (indexed-kept (with_item c.args.index item) s.watched.unwatched.items s.watched.objects c.args.number.0 s.firsts.items (with_item-keeps c.args.index item) c.self.invariant)

@@ -3,6 +3,7 @@ pub mod Gathering
 pub mod Given
 pub mod Indexing
 pub mod Keys
+pub mod Grouping
 pub mod Leading
 pub mod Kinds
 pub mod Lent

@@ -15,6 +15,8 @@ mod fields;
 mod first_places;
 mod gathering;
 mod given;
+mod grouping;
+mod groups;
 mod home;
 mod index;
 mod inner;

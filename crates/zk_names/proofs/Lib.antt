@@ -21,6 +21,7 @@ pub mod PlaceLaws
 pub mod WayLaws
 pub mod CountLaws
 pub mod GroupLaws
+pub mod EndLaws
 pub mod CircleLaws
 pub mod PassingLaws
 pub mod FieldPlaceLaws

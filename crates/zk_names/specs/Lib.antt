@@ -7,6 +7,7 @@ pub mod Grouping
 pub mod Leading
 pub mod Kinds
 pub mod Lent
+pub mod Ends
 pub mod Numbering
 pub mod Same
 pub mod Scripted

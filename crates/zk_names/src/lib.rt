@@ -8,6 +8,7 @@ mod circles;
 mod copying;
 mod created;
 mod declared;
+mod ends;
 mod field;
 mod field_places;
 mod fielding;

@@ -1,25 +1,17 @@
 -- Names that lead back to themselves.
 use Rattle.std.proofs.Common.{◌≡◌, ℕ, zero, suc, ◌+◌, ◌≤◌, Bool, true, false, List, [], ◌∷◌, ◌++◌, length, Option, Some, None, slice_get, refl, ap, sym, ◌∙◌, subst, arith}
-use Rattle.std.specs.List.{list_all, list_any}
+use Rattle.std.specs.List.{list_any}
 use Rattle.std.specs.Option.{option_map}
 use Rattle.zk_typed.specs.Names.{Declared, Meant, KnownType, WrittenType, Word, Variable, Event, Hook, Function, BuiltInFunction, Log}
 use Rattle.zk_typed.specs.Resolving.{Scripts}
 use Rattle.zk_typed.specs.Within.{mentions}
 use Rattle.zk_names.specs.declared.declared.Declared.{Declared as LentDeclared}
-use Rattle.zk_names.specs.declared.ways.Ways.{Ways}
 use Rattle.zk_names.specs.Indexing.{is_marked, mark_at}
-use Rattle.zk_names.specs.Leading.{AreCircles, HasWays, declared_steps, first_or_end, is_circle, is_target, led, meant_circle, meant_steps, settled, steps}
+use Rattle.zk_names.specs.Leading.{AreCircles, declared_steps, is_circle, led, meant_circle, meant_steps, steps}
 use Rattle.zk_names.specs.Lent.{declared_lent, declared_of}
 use Rattle.zk_names.proofs.IndexLaws.{get_of_map}
-use Rattle.zk_names.proofs.LeadLaws.{laws_of, leads_up, lent_length}
-use Rattle.zk_names.proofs.WayLaws.{all_more, longer, none_before, none_past, past_end, settled_none}
-
--- names that are settled before the first of a name don't lead to it
-pub settled_apart : (scripts : Scripts) (names : List Declared) (ways : Ways) (target starts : List ℕ) → scripts.names ≡ names → HasWays ways names →
-    list_all (settled ways.backward.items (first_or_end names target)) starts ≡ true → list_any (led scripts target (length scripts.names)) starts ≡ false
-settled_apart scripts names ways target starts e has before =
-    settled_none (λ m v. led scripts target m v) (is_target names target) (steps names) (laws_of scripts names target e) ways.backward.items (first_or_end names target) (none_before names target)
-    (λ v marked. ap (list_all (settled ways.backward.items v)) (sym (has.0 v)) ∙ has.1 v marked) (length scripts.names) starts before
+use Rattle.zk_names.proofs.LeadLaws.{leads_up, lent_length}
+use Rattle.zk_names.proofs.WayLaws.{all_more, longer, none_past, past_end}
 
 circle_by : (scripts : Scripts) (target : List ℕ) (meant : Meant) → list_any (led scripts target (length scripts.names)) (meant_steps scripts.names meant) ≡ meant_circle scripts target meant
 circle_by scripts target (WrittenType home tree) = sym (leads_up scripts target (length scripts.names) home (mentions tree))

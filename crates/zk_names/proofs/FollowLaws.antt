@@ -14,10 +14,10 @@ use Rattle.zk_typed.specs.Within.{maybe_one, mentions}
 use Rattle.zk_names.specs.Leading.{Text, declared_steps, next_of, place_up, places, steps, text_at, text_in, text_of}
 use Rattle.zk_names.proofs.LeadLaws.{up_found}
 
-by_one : (scripts : Scripts) (home : Home) (tree : «Type») (left : ℕ) (next : Text) → next_text scripts home tree ≡ Some next → followed_to (suc left) scripts home tree ≡ followed_to left scripts next.0 next.1
+pub by_one : (scripts : Scripts) (home : Home) (tree : «Type») (left : ℕ) (next : Text) → next_text scripts home tree ≡ Some next → followed_to (suc left) scripts home tree ≡ followed_to left scripts next.0 next.1
 by_one scripts home tree left next is = rw is refl
 
-at_end : (scripts : Scripts) (home : Home) (tree : «Type») (left : ℕ) → next_text scripts home tree ≡ None → followed_to (suc left) scripts home tree ≡ Some (home, tree)
+pub at_end : (scripts : Scripts) (home : Home) (tree : «Type») (left : ℕ) → next_text scripts home tree ≡ None → followed_to (suc left) scripts home tree ≡ Some (home, tree)
 at_end scripts home tree left is = rw is refl
 
 -- a name that stands for another is followed to it

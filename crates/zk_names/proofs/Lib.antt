@@ -19,6 +19,9 @@ pub mod StreamLaws
 pub mod TypeNameLaws
 pub mod PlaceLaws
 pub mod WayLaws
+pub mod CountLaws
+pub mod GroupLaws
+pub mod EndLaws
 pub mod CircleLaws
 pub mod PassingLaws
 pub mod FieldPlaceLaws

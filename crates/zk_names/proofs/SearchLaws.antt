@@ -98,7 +98,7 @@ any_mem p (x ∷ xs) w h e = elim (or_cases (nat_eq w x) (mem w xs) h) [
   | inr m ↦ or_right _ _ (any_mem p xs w m e)
 ]
 
-any_more : (p q : ℕ → Bool) → ((w : ℕ) → p w ≡ true → q w ≡ true) → (xs : List ℕ) → list_any p xs ≡ true → list_any q xs ≡ true
+pub any_more : (p q : ℕ → Bool) → ((w : ℕ) → p w ≡ true → q w ≡ true) → (xs : List ℕ) → list_any p xs ≡ true → list_any q xs ≡ true
 any_more p q e [] h = h
 any_more p q e (x ∷ xs) h = elim (or_cases (p x) (list_any p xs) h) [ inl m ↦ or_left _ _ (e x m) | inr m ↦ or_right _ _ (any_more p q e xs m) ]
 
@@ -143,14 +143,14 @@ closed_on is_target steps found at v within is other closed i h =
     nat_cases a b h = grind arith
 
 module _ (led : ℕ → ℕ → Bool) (is_target : ℕ → Bool) (steps : ℕ → List ℕ) (laws : Leading led is_target steps) where
-  target_led : (m v : ℕ) → is_target v ≡ true → led m v ≡ true
+  pub target_led : (m v : ℕ) → is_target v ≡ true → led m v ≡ true
   target_led zero v h = laws.at_once v ∙ h
   target_led (suc m) v h = laws.by_step m v ∙ or_left _ _ h
 
-  step_led : (m v w : ℕ) → mem w (steps v) ≡ true → led m w ≡ true → led (suc m) v ≡ true
+  pub step_led : (m v w : ℕ) → mem w (steps v) ≡ true → led m w ≡ true → led (suc m) v ≡ true
   step_led m v w h e = laws.by_step m v ∙ or_right _ _ (any_mem (led m) (steps v) w h e)
 
-  led_more : (m v : ℕ) → led m v ≡ true → led (suc m) v ≡ true
+  pub led_more : (m v : ℕ) → led m v ≡ true → led (suc m) v ≡ true
   led_more zero v h = target_led 1 v (sym (laws.at_once v) ∙ h)
   led_more (suc m) v h = elim (or_cases (is_target v) (list_any (led m) (steps v)) (sym (laws.by_step m v) ∙ h)) [
     | inl e ↦ target_led (suc (suc m)) v e

@@ -1,8 +1,8 @@
 -- Where names lead by way of the types that they are declared as, with each declared name by its place.
-use Rattle.std.specs.Prelude.{◌≡◌, ℕ, Bool, true, false, ◌&&◌, ◌||◌, List, [], length, flat_map, Option, Some, None, slice_get, nat_lt, unwrap_or}
+use Rattle.std.specs.Prelude.{◌≡◌, ℕ, Bool, true, false, ◌&&◌, ◌||◌, List, [], length, flat_map, Option, Some, None, slice_get}
 use Rattle.std.specs.declared.alloc.Global.{Global}
 use Rattle.std.specs.declared.vec.Vec.{Vec}
-use Rattle.std.specs.List.{list_all, list_any}
+use Rattle.std.specs.List.{list_any}
 use Rattle.std.specs.Str.{bytes_eq}
 use Rattle.zk_tree.specs.declared.name.Name.{Name}
 use Rattle.zk_tree.specs.declared.types.Type.{«Type»}
@@ -11,6 +11,7 @@ use Rattle.zk_typed.specs.Names.{Declared, Meant, WrittenType, is_open, whole_na
 use Rattle.zk_typed.specs.Resolving.{Scripts, leads, leads_by, leads_to, next_text}
 use Rattle.zk_typed.specs.Within.{maybe_one, mention, mentions}
 use Rattle.zk_names.specs.declared.ways.Ways.{Ways}
+use Rattle.zk_names.specs.Grouping.{IsGrouped}
 use Rattle.zk_names.specs.Indexing.{first_place, items_at, mark_at, or_else}
 
 -- where the first stands that a whole name means
@@ -56,20 +57,8 @@ led scripts target most place = leads_by (leads_to most scripts target) target (
 abbrev pub AreSteps : List (Vec ℕ Global) → List Declared → Type 0
 AreSteps found names = (place : ℕ) (more : Vec ℕ Global) → slice_get found place ≡ Some more → more.items ≡ steps names place
 
--- a name stands before a place, and is marked: it leads to names before it alone, and these too
-abbrev pub settled : List Bool → ℕ → ℕ → Bool
-settled backward before place = nat_lt place before && mark_at backward place
-
--- each that is marked leads to names before it alone, and these too
-abbrev pub IsBackward : List Bool → List (Vec ℕ Global) → Type 0
-IsBackward backward steps = (place : ℕ) → mark_at backward place ≡ true → list_all (settled backward place) (items_at steps place) ≡ true
-
 abbrev pub HasWays : Ways → List Declared → Type 0
-HasWays ways names = ((place : ℕ) → items_at ways.steps.items place ≡ steps names place) × IsBackward ways.backward.items ways.steps.items
-
--- where a name stands first, or how many names there are
-abbrev pub first_or_end : List Declared → List ℕ → ℕ
-first_or_end names name = unwrap_or (first_place (λ one. bytes_eq one.name name) names) (length names)
+HasWays ways names = ((place : ℕ) → items_at ways.steps.items place ≡ steps names place) × IsGrouped ways.groups ways.steps.items names
 
 -- what a name means leads back to the name
 abbrev pub meant_circle : Scripts → List ℕ → Meant → Bool

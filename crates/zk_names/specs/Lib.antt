@@ -3,9 +3,11 @@ pub mod Gathering
 pub mod Given
 pub mod Indexing
 pub mod Keys
+pub mod Grouping
 pub mod Leading
 pub mod Kinds
 pub mod Lent
+pub mod Ends
 pub mod Numbering
 pub mod Same
 pub mod Scripted

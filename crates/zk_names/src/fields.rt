@@ -75,7 +75,7 @@ fn all_own(alloc: Global, names: &Names<'_>) -> Result<Vec<RecordFields>, Mem>
     Ok(all)
 }
 
-/// The number of the record type that a name names.
+/// The number of the record type that a name names, if it names one.
 pub fn named_record(
     alloc: Global,
     names: &Names<'_>,

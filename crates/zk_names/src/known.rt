@@ -1,10 +1,12 @@
 ghost use Rattle.std.specs.Prelude.{◌≡◌};
 ghost use Rattle.zk_typed.specs.Names.{is_record};
+ghost use Rattle.zk_names.specs.Ends.{AreEnds};
 ghost use Rattle.zk_names.specs.Indexing.{passing};
 ghost use Rattle.zk_names.specs.Leading.{AreCircles, HasWays};
-ghost use Rattle.zk_names.specs.Lent.{declared_lent, nodes_lent};
+ghost use Rattle.zk_names.specs.Lent.{declared_lent, nodes_lent, stated_lent};
 ghost use Rattle.zk_names.specs.Numbering.{IsNumbered};
 
+use crate::ends::End;
 use crate::home::Stated;
 use crate::node::Node;
 use crate::numbers::Numbers;
@@ -23,8 +25,11 @@ pub struct Names<'a> {
     pub(crate) ways: Ways,
     /// Whether names are those of declared types that lead back to them, by their places.
     pub(crate) circles: Vec<bool>,
+    /// Where the texts stand that declared types stand for, by their places.
+    pub(crate) ends: Vec<End>,
     ghost recorded: { records.items ≡ passing is_record (nodes_lent nodes.items) },
     ghost numbered: { IsNumbered numbers (nodes_lent nodes.items) (declared_lent table.names.items) },
     ghost led: { HasWays ways (declared_lent table.names.items) },
     ghost circled: { AreCircles circles.items (declared_lent table.names.items) },
+    ghost ended: { AreEnds ends.items (record { stated = stated_lent stated.items; nodes = nodes_lent nodes.items; names = declared_lent table.names.items }) },
 }

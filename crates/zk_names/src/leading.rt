@@ -1,10 +1,10 @@
-ghost use Rattle.std.specs.Prelude.{◌≡◌, List, [], ◌++◌, flat_map, length, fold, nat_eq, slice_get, OnOk, IfOk};
-ghost use Rattle.std.specs.List.{list_all, list_any};
+ghost use Rattle.std.specs.Prelude.{◌≡◌, Bool, List, Some, [], ◌++◌, flat_map, length, fold, nat_eq, slice_get, OnOk, IfOk};
+ghost use Rattle.std.specs.List.{list_any};
 ghost use Rattle.indexmap.specs.IndexSet.{insert_key};
 ghost use Rattle.zk_typed.specs.Names.{Declared};
 ghost use Rattle.zk_typed.specs.Resolving.{Scripts};
 ghost use Rattle.zk_typed.specs.Within.{maybe_one, mentions};
-ghost use Rattle.zk_names.specs.Leading.{HasWays, first_or_end, is_target, led, meant_steps, mention_places, place_up, places, settled, steps};
+ghost use Rattle.zk_names.specs.Leading.{HasWays, is_target, led, meant_steps, mention_places, place_up, places, steps};
 ghost use Rattle.zk_names.specs.Lent.{declared_lent, meant_of, types_lent};
 
 use crate::declared::Meant;
@@ -201,18 +201,26 @@ fn searched(
     }
 }
 
-/// Whether names at places are settled before the first of a name, so that they can't lead to it.
-fn are_before(
+/// Whether some places lead to a name, as far as the groups of names tell it.
+fn told(
     alloc: Global,
     table: &Table<'_>,
     ways: &Ways,
     target: &[u8],
-    places: &[usize],
-) -> Result<bool, Mem>
-    ensures { IfOk result (λ before. before ≡ list_all (settled ways.now.backward.items (first_or_end (declared_lent table.now.names.items) target.now)) places.now) }
+    starts: &[usize],
+) -> Result<Option<bool>, Mem>
+    requires { HasWays ways.now (declared_lent table.now.names.items) }
+    ensures { IfOk result (λ told. (leads : Bool) → told ≡ Some leads → (scripts : Scripts) → scripts.names ≡ declared_lent table.now.names.items → leads ≡ list_any (led scripts target.now (length scripts.names)) starts.now) }
 {
     let whole = Whole::copy_of(alloc, target)?;
-    Ok(ways.are_settled(table.first_named(&whole), places))
+    let first = table.first_named(&whole);
+    if ways.groups.are_below(first, starts) {
+        return Ok(Some(false));
+    }
+    if is_at(table, first, target) && ways.groups.are_together(first, starts) {
+        return Ok(Some(true));
+    }
+    Ok(None)
 }
 
 /// Whether some places lead to a name.
@@ -226,10 +234,11 @@ pub fn search(
     requires { HasWays ways.now (declared_lent table.now.names.items) }
     ensures { IfOk result (λ leads. (scripts : Scripts) → scripts.names ≡ declared_lent table.now.names.items → leads ≡ list_any (led scripts target.now (length scripts.names)) starts.now) }
 {
-    let before = are_before(alloc, table, ways, target, starts)?;
-    if before {
-        return Ok(false);
+    match told(alloc, table, ways, target, starts)? {
+        Some(leads) => Ok(leads),
+        None => {
+            let found = searched(alloc, table, ways, target, starts)?;
+            Ok(found)
+        }
     }
-    let found = searched(alloc, table, ways, target, starts)?;
-    Ok(found)
 }

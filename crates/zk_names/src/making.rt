@@ -1,12 +1,14 @@
 ghost use Rattle.std.specs.Prelude.{◌≡◌, ◌++◌, fold, flat_map, IfOk};
 ghost use Rattle.zk_typed.specs.Declaring.{predefined_names, scripts_of, with_words};
 ghost use Rattle.zk_typed.specs.LoadOrder.{load_order};
+ghost use Rattle.zk_names.specs.Ends.{AreEnds};
 ghost use Rattle.zk_names.specs.Lent.{declared_lent, files_of, nodes_lent, stated_lent};
 ghost use Rattle.zk_names.specs.Scripted.{scripts_in};
 ghost use Rattle.zk_names.specs.Words.{known_scripts, with_body};
 
 use crate::bodies::add_bodies;
 use crate::circles::all_circles;
+use crate::ends::{End, all_ends, unknown_ends};
 use crate::given::add_predefined;
 use crate::home::Stated;
 use crate::known::Names;
@@ -20,9 +22,10 @@ use std::alloc::Global;
 use zk_base::{Bytes, Mem};
 use zk_tree::Tree;
 
-/// What scripts declare by their declarations, their record types and enums, and their names.
+/// What scripts declare by their declarations, their record types and enums, and their names, with the ends of names
+/// not found yet.
 #[tactic(auto, unfolding(crate::specs::Scripted::scripts_in))]
-fn made<'a>(
+fn begun<'a>(
     alloc: Global,
     stated: Vec<Stated<'a>>,
     nodes: Vec<Node<'a>>,
@@ -36,6 +39,7 @@ fn made<'a>(
     let numbers = Numbers::of(alloc, &nodes, &table.names)?;
     let ways = Ways::of(alloc, &table)?;
     let circles = all_circles(alloc, &table, &ways)?;
+    let ends = unknown_ends(alloc);
     Ok(Names {
         stated,
         nodes,
@@ -44,7 +48,38 @@ fn made<'a>(
         numbers,
         ways,
         circles,
+        ends,
     })
+}
+
+/// The same names, with the ends of names found.
+#[tactic(auto, unfolding(crate::specs::Scripted::scripts_in))]
+fn ended<'a>(names: Names<'a>, ends: Vec<End>) -> Names<'a>
+    requires { AreEnds ends.items (scripts_in names) }
+    ensures stated { (scripts_in result).stated ≡ (scripts_in names.entry).stated }
+    ensures nodes { (scripts_in result).nodes ≡ (scripts_in names.entry).nodes }
+    ensures names { (scripts_in result).names ≡ (scripts_in names.entry).names }
+{
+    let mut names = names;
+    names.ends = ends;
+    names
+}
+
+/// What scripts declare by their declarations, their record types and enums, and their names.
+#[tactic(auto, unfolding(crate::specs::Scripted::scripts_in))]
+fn made<'a>(
+    alloc: Global,
+    stated: Vec<Stated<'a>>,
+    nodes: Vec<Node<'a>>,
+    table: Table<'a>,
+) -> Result<Names<'a>, Mem>
+    ensures stated { IfOk result (λ names. (scripts_in names).stated ≡ stated_lent stated.entry.items) }
+    ensures nodes { IfOk result (λ names. (scripts_in names).nodes ≡ nodes_lent nodes.entry.items) }
+    ensures names { IfOk result (λ names. (scripts_in names).names ≡ declared_lent table.entry.names.items) }
+{
+    let names = begun(alloc, stated, nodes, table)?;
+    let ends = all_ends(alloc, &names)?;
+    Ok(ended(names, ends))
 }
 
 /// The names that are predefined or declared outright.

@@ -4,8 +4,9 @@ ghost use Rattle.std.specs.Option.{option_map};
 ghost use Rattle.std.specs.Str.{bytes_eq};
 ghost use Rattle.zk_typed.specs.Names.{find_whole, look_up};
 ghost use Rattle.zk_names.specs.Lent.{declared_lent, declared_of};
+ghost use Rattle.zk_names.specs.Grouping.{first_or_end};
 ghost use Rattle.zk_names.specs.Indexing.{Indexes};
-ghost use Rattle.zk_names.specs.Leading.{first_or_end, place_up, place_whole};
+ghost use Rattle.zk_names.specs.Leading.{place_up, place_whole};
 
 use crate::declared::Declared;
 use crate::index::Index;

@@ -11,12 +11,13 @@ ghost use Rattle.zk_typed.specs.Tells.{Tells};
 ghost use Rattle.zk_typed.specs.Types as typed;
 ghost use Rattle.zk_typed.specs.View.{type_of};
 ghost use Rattle.zk_names.specs.Keys.{keyed, keys_to, tabled};
-ghost use Rattle.zk_names.specs.Leading.{Text, next_of, text_at};
+ghost use Rattle.zk_names.specs.Leading.{Text, next_of, steps, text_at};
 ghost use Rattle.zk_names.specs.Lent.{home_of, text_lent};
 ghost use Rattle.zk_names.specs.Scripted.{scripts_in};
 
 use crate::copying::copied_type;
 use crate::declared::Meant;
+use crate::ends::end_of;
 use crate::gathering::appended;
 use crate::home::Home;
 use crate::known::Names;
@@ -165,6 +166,7 @@ fn unless_deep(
 fn first_text(names: &Names<'_>, places: &[usize]) -> Option<usize>
     ensures is { option_and_then (text_at (scripts_in names.now).names) result ≡ option_and_then (text_at (scripts_in names.now).names) (slice_get places.now 0) }
     ensures text { IfSome result (λ place. is_some (text_at (scripts_in names.now).names place) ≡ true) }
+    ensures first { IfSome result (λ place. slice_get places.now 0 ≡ Some place) }
 {
     let place = *at(places, 0)?;
     match names.text_at(place) {
@@ -174,9 +176,10 @@ fn first_text(names: &Names<'_>, places: &[usize]) -> Option<usize>
 }
 
 /// Where the text stands that the text of the declared type at a place stands for, if that is a name.
-fn next_place(names: &Names<'_>, place: usize) -> Option<usize>
+pub fn next_place(names: &Names<'_>, place: usize) -> Option<usize>
     ensures is { option_and_then (text_at (scripts_in names.now).names) result ≡ next_of (scripts_in names.now) (text_at (scripts_in names.now).names place) }
     ensures text { IfSome result (λ next. is_some (text_at (scripts_in names.now).names next) ≡ true) }
+    ensures first { IfSome result (λ next. slice_get (steps (scripts_in names.now).names place) 0 ≡ Some next) }
 {
     let Some((_home, tree)) = names.text_at(place) else {
         return None;
@@ -198,7 +201,7 @@ fn next_place(names: &Names<'_>, place: usize) -> Option<usize>
 
 /// Where the text stands of the declared type at a place, with the names followed that stand for others. There
 /// is none where names stand for each other.
-fn end_place(names: &Names<'_>, place: usize) -> Option<usize>
+fn walked_end(names: &Names<'_>, place: usize) -> Option<usize>
     ensures { (text : Text) → text_at (scripts_in names.now).names place ≡ Some text → option_and_then (text_at (scripts_in names.now).names) result ≡ spec.followed (scripts_in names.now) text.0 text.1 }
 {
     let most = names.declared().len();
@@ -210,6 +213,16 @@ fn end_place(names: &Names<'_>, place: usize) -> Option<usize>
         }
     }
     None
+}
+
+/// The same, by what is known of all names.
+fn end_place(names: &Names<'_>, place: usize) -> Option<usize>
+    ensures { (text : Text) → text_at (scripts_in names.now).names place ≡ Some text → option_and_then (text_at (scripts_in names.now).names) result ≡ spec.followed (scripts_in names.now) text.0 text.1 }
+{
+    match at(&names.ends, place) {
+        Some(end) => end_of(end),
+        None => walked_end(names, place),
+    }
 }
 
 /// The text of the declared type at a place, with the names followed that stand for others.

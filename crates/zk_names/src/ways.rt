@@ -1,11 +1,15 @@
-ghost use Rattle.std.specs.Prelude.{◌≡◌, ℕ, IfOk};
-ghost use Rattle.std.specs.List.{list_all};
+ghost use Rattle.std.specs.Prelude.{◌≡◌, ℕ, List, slice_get, IfOk};
+ghost use Rattle.zk_typed.specs.Names.{Declared};
+ghost use Rattle.zk_names.specs.Grouping.{AreFirsts, IsGrouped, first_of};
 ghost use Rattle.zk_names.specs.Indexing.{items_at};
-ghost use Rattle.zk_names.specs.Leading.{IsBackward, settled, steps};
+ghost use Rattle.zk_names.specs.Leading.{steps};
 ghost use Rattle.zk_names.specs.Lent.{declared_lent};
 
+use crate::grouping::grouped;
+use crate::groups::Groups;
 use crate::leading::steps;
 use crate::table::Table;
+use crate::whole::Whole;
 use sqlite_items::at;
 use std::alloc::Global;
 use zk_base::Mem;
@@ -15,30 +19,8 @@ use zk_base::Mem;
 pub struct Ways {
     /// Where each name leads.
     pub steps: Vec<Vec<usize>>,
-    /// Whether each name leads to names before it alone, and these too.
-    pub backward: Vec<bool>,
-}
-
-/// Whether a name stands before a place, and it and all that it leads to lead to names before them alone.
-fn is_settled(backward: &[bool], before: usize, place: usize) -> bool
-    ensures { result ≡ settled backward.now before place }
-{
-    if place >= before {
-        return false;
-    }
-    match at(backward, place) {
-        Some(back) => *back,
-        None => false,
-    }
-}
-
-/// Whether names at places are settled before a place.
-fn are_settled(backward: &[bool], before: usize, places: &[usize]) -> bool
-    ensures { result ≡ list_all (settled backward.now before) places.now }
-{
-    places
-        .iter()
-        .all(|place| is_settled(backward, before, *place))
+    /// Names that lead to each other.
+    pub groups: Groups,
 }
 
 /// Where each name leads.
@@ -53,16 +35,40 @@ fn all_steps(alloc: Global, table: &Table<'_>) -> Result<Vec<Vec<usize>>, Mem>
     Ok(all)
 }
 
-/// Whether each name leads to names before it alone, and these too.
-fn all_backward(alloc: Global, steps: &[Vec<usize>]) -> Result<Vec<bool>, Mem>
-    ensures { IfOk result (λ backward. IsBackward backward.items steps.now) }
+/// Where the name at a place stands first.
+fn first_of(alloc: Global, table: &Table<'_>, place: usize) -> Result<usize, Mem>
+    ensures { IfOk result (λ first. first ≡ first_of (declared_lent table.now.names.items) (slice_get (declared_lent table.now.names.items) place)) }
 {
-    let mut backward = Vec::new(alloc);
-    for (place, more) in steps.iter().enumerate() {
-        let back = are_settled(&backward, place, more);
-        backward.push(back)?;
+    match at(&table.names, place) {
+        Some(one) => {
+            let whole = Whole::copy_of(alloc, one.name.as_slice())?;
+            Ok(table.first_named(&whole))
+        }
+        None => Ok(table.names.len()),
     }
-    Ok(backward)
+}
+
+/// Where each name stands first.
+fn all_firsts(alloc: Global, table: &Table<'_>) -> Result<Vec<usize>, Mem>
+    ensures { IfOk result (λ all. AreFirsts all.items (declared_lent table.now.names.items)) }
+{
+    let mut all = Vec::new(alloc);
+    for place in 0..table.names.len() {
+        let first = first_of(alloc, table, place)?;
+        all.push(first)?;
+    }
+    Ok(all)
+}
+
+/// The groups of names that lead to each other: those that were found, if all that they tell is so, which it is.
+fn all_groups(alloc: Global, steps: &[Vec<usize>], firsts: &[usize]) -> Result<Groups, Mem>
+    ensures { IfOk result (λ groups. (names : List Declared) → AreFirsts firsts.now names → IsGrouped groups steps.now names) }
+{
+    let groups = grouped(alloc, steps, firsts)?;
+    if groups.are_told(steps, firsts) {
+        return Ok(groups);
+    }
+    Ok(Groups::none(alloc))
 }
 
 impl Ways {
@@ -73,8 +79,9 @@ impl Ways {
         ensures { IfOk result (λ ways. HasWays ways (declared_lent table.now.names.items)) }
     {
         let steps = all_steps(alloc, table)?;
-        let backward = all_backward(alloc, &steps)?;
-        Ok(Ways { steps, backward })
+        let firsts = all_firsts(alloc, table)?;
+        let groups = all_groups(alloc, &steps, &firsts)?;
+        Ok(Ways { steps, groups })
     }
 
     /// Where the name at a place leads.
@@ -85,13 +92,5 @@ impl Ways {
             Some(more) => more,
             None => &[],
         }
-    }
-
-    /// Whether names at places are settled before a place: they stand before it, and they and all that they
-    /// lead to lead to names before them alone.
-    pub fn are_settled(&self, before: usize, places: &[usize]) -> bool
-        ensures { result ≡ list_all (settled self.now.backward.items before) places.now }
-    {
-        are_settled(&self.backward, before, places)
     }
 }

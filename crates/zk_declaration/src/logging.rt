@@ -4,7 +4,7 @@ ghost use Rattle.zk_typed.specs.Errors as spec;
 ghost use Rattle.zk_typed.specs.LogCalls as log_spec;
 ghost use Rattle.zk_typed.specs.Logs as logs_spec;
 ghost use Rattle.zk_typed.specs.View.{expr_of};
-ghost use Rattle.zk_names.specs.Calls.{call_of, calls_lent};
+ghost use Rattle.zk_names.specs.Calls.{call_of};
 ghost use Rattle.zk_names.specs.Leaves.{leaves_lent};
 ghost use Rattle.zk_names.specs.Lent.{declared_of, stated_lent, stated_of};
 ghost use Rattle.zk_declaration.specs.Sources.{IsSource, scripts_from};

@@ -7,7 +7,7 @@ ghost use Rattle.zk_typed.specs.Tells.{Tells};
 ghost use Rattle.zk_typed.specs.Types as typed;
 ghost use Rattle.zk_typed.specs.Typing as typing;
 ghost use Rattle.zk_typed.specs.View.{type_of};
-ghost use Rattle.zk_names.specs.Lent.{declared_of, home_of, meant_of, signature_of};
+ghost use Rattle.zk_names.specs.Lent.{declared_of, home_of, signature_of};
 ghost use Rattle.zk_names.specs.Scripted.{scripts_in};
 ghost use Rattle.zk_operator.specs.Views.{typed_of, wanted_in};
 ghost use Rattle.zk_declaration.specs.Valued.{IsValued, global_rules, inferred, place_of_init, variable_rules, written, written_with};

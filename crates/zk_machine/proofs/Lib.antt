@@ -2,6 +2,7 @@ pub mod ObjectLemmas
 pub mod LineLemmas
 pub mod Stack
 pub mod Steps
+pub mod JoinedLemmas
 pub mod ThenLemmas
 pub mod TableLemmas
 pub mod SetLemmas

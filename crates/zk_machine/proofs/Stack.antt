@@ -17,6 +17,10 @@ module _ {A B : Type 0} (f : A → B) where
   parted : (a b : List A) → map f (reverse (a ++ b)) ≡ map f (reverse b) ++ map f (reverse a)
   parted a b = ap (map f) (reverse-append a b) ∙ map-append f (reverse b) (reverse a)
 
+  -- the last operand is the plain stack's first
+  pub last_is : (all others : List A) (one : A) → all ≡ others ++ one ∷ [] → map f (reverse all) ≡ f one ∷ map f (reverse others)
+  last_is all others one is = ap (λ l. map f (reverse l)) is ∙ parted others (one ∷ [])
+
   size : (b : List A) → length (map f (reverse b)) ≡ length b
   size b = length-map (reverse b) f ∙ length-reverse b
 

@@ -20,5 +20,6 @@ pub mod Reports
 pub mod Rows
 pub mod Running
 pub mod Schedule
+pub mod Soon
 pub mod Standing
 pub mod State

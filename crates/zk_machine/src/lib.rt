@@ -17,6 +17,7 @@ mod globals;
 mod halt;
 mod hooks;
 mod indexed;
+mod joined;
 mod loops;
 mod machine;
 mod make;

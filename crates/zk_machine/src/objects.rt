@@ -162,15 +162,22 @@ impl State {
         let Value::Object(object) = table else {
             return Err(UNFIT);
         };
-        match self.world.heap.object(*object) {
+        let key = Key::copy_of(self.world.alloc, key)?;
+        self.insert(*object, key, element)
+    }
+
+    /// Gives the entry at a key of a table or a set a value.
+    pub fn insert(&mut self, number: ObjectNo, key: Key, element: Value) -> Result<(), Halt>
+        ensures { (place : At) → Comes (λ _. tt) place result (meant.set_element place (plain.Object number) (key_of key) (value_of element) (state_of self.old)) (state_of self.new) }
+    {
+        match self.world.heap.object(number) {
             Some(lent) => match lent {
                 Lent::Record { .. } => Err(UNFIT),
                 Lent::Vector(_) => Err(UNFIT),
                 Lent::Table(_) => {
-                    let key = Key::copy_of(self.world.alloc, key)?;
                     self.world
                         .heap
-                        .insert(*object, self.world.time, key, element)?;
+                        .insert(number, self.world.time, key, element)?;
                     Ok(())
                 }
             },

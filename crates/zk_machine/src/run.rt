@@ -2,11 +2,12 @@ ghost use Rattle.std.specs.Prelude.{◌≡◌, IfOk};
 ghost use Rattle.zk_lower.specs.Run as run;
 ghost use Rattle.zk_lower.specs.Steps as steps;
 ghost use Rattle.zk_lower.specs.View.{code_of, op_of};
-ghost use Rattle.zk_machine.specs.Leads.{Leads, ran_of};
+ghost use Rattle.zk_machine.specs.Leads.{Leads, LeadsOn, ran_of};
 ghost use Rattle.zk_machine.specs.Running.{held_of, machine_of};
 ghost use Rattle.zk_machine.specs.State.{state_of};
 
 use crate::ends::{Ending, Next, placed};
+use crate::joined::op_at;
 use crate::running::Running;
 use std::mem;
 use zk_base::Mem;
@@ -78,12 +79,15 @@ impl Running {
         }
     }
 
-    /// Does the operation that is next. Past its end the code is done.
+    /// Does the operation that is next, or several that are done at once. Past its end the code is done.
     fn step(&mut self, code: &Code) -> Result<Next, Mem>
-        ensures { Leads result (steps.step (code_of code.now) (machine_of self.old)) self.new }
+        ensures { LeadsOn result (code_of code.now) (machine_of self.old) self.new }
     {
-        match code.ops.as_slice().get(self.at) {
-            Some(op) => self.operate(code, op),
+        match op_at(code, self.at) {
+            Some(op) => match self.joined(code, op) {
+                Some(next) => next,
+                None => self.operate(code, op),
+            },
             None => {
                 self.ending = Ending::Done(None);
                 Ok(Next::Ends)

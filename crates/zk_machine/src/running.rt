@@ -239,15 +239,22 @@ impl Running {
         ensures { (place : At) → Moves place result (steps.with_top place (held_of self.old) (state_of self.old.state) (steps.unless place over self.old.at (state_of self.old.state))) (machine_of self.new) }
     {
         match self.stack.pop() {
-            Some(Value::Bool(true)) => {
-                self.advance()?;
-                Ok(())
-            }
-            Some(Value::Bool(false)) => {
-                self.jump(over)?;
+            Some(Value::Bool(truth)) => {
+                self.unless_true(truth, over)?;
                 Ok(())
             }
             _ => Err(UNFIT),
+        }
+    }
+
+    /// Goes on behind so many operations where a truth value is `F`.
+    pub fn unless_true(&mut self, truth: bool, over: usize) -> Result<(), Mem>
+        ensures { (place : At) → OnOk result (steps.unless place over self.old.at (state_of self.old.state) (plain.Bool truth) (held_of self.old) ≡ steps.Goes (machine_of self.new)) }
+    {
+        if truth {
+            self.advance()
+        } else {
+            self.jump(over)
         }
     }
 
@@ -256,17 +263,25 @@ impl Running {
         ensures { (place : At) → Moves place result (steps.with_top place (held_of self.old) (state_of self.old.state) (steps.turn place back self.old.at (state_of self.old.state))) (machine_of self.new) }
     {
         match self.stack.pop() {
-            Some(Value::Bool(true)) => {
-                self.state.tick()?;
-                self.at = self.at.saturating_sub(back);
-                Ok(())
-            }
-            Some(Value::Bool(false)) => {
-                self.advance()?;
+            Some(Value::Bool(truth)) => {
+                self.turn_if(truth, back)?;
                 Ok(())
             }
             _ => Err(UNFIT),
         }
+    }
+
+    /// Begins another turn so many operations before where a truth value is `T`.
+    pub fn turn_if(&mut self, truth: bool, back: usize) -> Result<(), Halt>
+        ensures { (place : At) → Moves place result (steps.turn place back self.old.at (state_of self.old.state) (plain.Bool truth) (held_of self.old)) (machine_of self.new) }
+    {
+        if truth {
+            self.state.tick()?;
+            self.at = self.at.saturating_sub(back);
+            return Ok(());
+        }
+        self.advance()?;
+        Ok(())
     }
 }
 

@@ -118,7 +118,7 @@ impl State {
     }
 
     /// The value at a key of a table.
-    fn element_at(&mut self, number: ObjectNo, key: &Key) -> Result<Value, Halt>
+    pub fn element_at(&mut self, number: ObjectNo, key: &Key) -> Result<Value, Halt>
         ensures { (place : At) → Comes value_of place result (meant.element place (plain.Object number) (key_of key.now) (state_of self.old)) (state_of self.new) }
     {
         match self.find(number, key)? {
@@ -135,8 +135,16 @@ impl State {
             return Err(UNFIT);
         };
         let key = Key::copy_of(self.world.alloc, key)?;
-        let value = self.find(*number, &key)?;
-        Ok(Value::Bool(value.is_some()))
+        let there = self.is_there(*number, &key)?;
+        Ok(Value::Bool(there))
+    }
+
+    /// Whether a table or a set has an entry at a key.
+    pub fn is_there(&mut self, number: ObjectNo, key: &Key) -> Result<bool, Halt>
+        ensures { (place : At) → Comes plain.Bool place result (meant.has_key place (plain.Object number) (key_of key.now) (state_of self.old)) (state_of self.new) }
+    {
+        let value = self.find(number, key)?;
+        Ok(value.is_some())
     }
 
     /// Makes an object of a set or a table, which keeps its `&default`.

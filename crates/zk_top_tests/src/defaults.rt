@@ -1,5 +1,5 @@
 use crate::case::{Case, difference, difference_over};
-use crate::lists::{GAP_IN_BODY, MERGED};
+use crate::lists::{EXCHANGE, GAP_IN_BODY, MERGED, QUERY};
 use std::test::Fail;
 use zk_gen::capture;
 
@@ -28,6 +28,59 @@ pub const CLOSE: &[u8] = b"#close\t2023-11-14-22-13-20\n";
 
 /// Captures, and the three logs of each; one without a row has no file.
 const CASES: &[Case] = &[
+    Case {
+        line: b"run -r c.pcap",
+        inputs: &[(b"c.pcap", QUERY)],
+        status: 0,
+        said: b"",
+        complained: b"",
+        files: &[
+            (
+                b"conn.log",
+                &[
+                    CONN,
+                    b"1700000000.000000\tC1\t10.0.0.1\t40000\t10.0.0.53\t53\tudp\t0.020000\t33\t63\tSF\t0\tDd\t1\t61\t1\t91\n",
+                    CLOSE,
+                ],
+            ),
+            (
+                b"dns.log",
+                &[
+                    DNS,
+                    b"1700000000.000000\tC1\t10.0.0.1\t40000\t10.0.0.53\t53\tudp\t4660\twww.example.com\t1\t1\t0\tF\tF\tT\tT\t\
+              example.com,93.184.216.34\t300.000000,300.000000\n",
+                    CLOSE,
+                ],
+            ),
+            (b"http.log", &[]),
+        ],
+    },
+    Case {
+        line: b"run -r c.pcap",
+        inputs: &[(b"c.pcap", EXCHANGE)],
+        status: 0,
+        said: b"",
+        complained: b"",
+        files: &[
+            (
+                b"conn.log",
+                &[
+                    CONN,
+                    b"1700000000.000000\tC1\t10.0.0.1\t40001\t10.0.0.80\t80\ttcp\t0.060000\t32\t40\tSF\t0\tShDdFfA\t4\t192\t3\t160\n",
+                    CLOSE,
+                ],
+            ),
+            (b"dns.log", &[]),
+            (
+                b"http.log",
+                &[
+                    HTTP,
+                    b"1700000000.020000\tC1\t10.0.0.1\t40001\t10.0.0.80\t80\t1\tGET\ta.test\t/\t1.1\t-\t0\t2\t200\tOK\n",
+                    CLOSE,
+                ],
+            ),
+        ],
+    },
     Case {
         line: b"run -r c.pcap",
         inputs: &[(b"c.pcap", MERGED)],

@@ -16,6 +16,18 @@ const ROWS: &[(&[u8], u8, &[u8], &[u8])] = &[
         b"",
     ),
     (
+        b"gen 2 1",
+        0,
+        b"packets 147\nbytes 10456\nconn 1\ndns 0\nhttp 1\n",
+        b"",
+    ),
+    (
+        b"gen 4294967295 3",
+        0,
+        b"packets 156\nbytes 11230\nconn 3\ndns 1\nhttp 2\n",
+        b"",
+    ),
+    (
         b"gen 0 3000",
         0,
         b"packets 156000\nbytes 11206024\nconn 3000\ndns 1000\nhttp 2000\n",
@@ -33,7 +45,11 @@ const ROWS: &[(&[u8], u8, &[u8], &[u8])] = &[
         b"",
         b"zeekoff: word 1 is not understood\n",
     ),
+    (b"gen 00 3", 1, b"", b"zeekoff: word 1 is not understood\n"),
     (b"gen 0 +3", 1, b"", b"zeekoff: word 2 is not understood\n"),
+    (b"gen 0 3 4", 1, b"", b"zeekoff: word 3 is not understood\n"),
+    (b"gen 0", 1, b"", b"zeekoff: word 2 is not understood\n"),
+    (b"gen", 1, b"", b"zeekoff: word 1 is not understood\n"),
 ];
 
 #[test]

@@ -70,12 +70,15 @@ const FORMS: [(&[u8], usize); 12] = [
 ];
 
 /// Texts, and the byte of the first declaration that does not read.
-const REFUSED: [(&[u8], u64); 5] = [
+const REFUSED: [(&[u8], u64); 8] = [
     (b"global x: count; 5;", 17),
     (b"function f() { a == b == c; }", 0),
+    (b"function f() { 5 sec sec; }", 0),
     (b"function f() { a[]; }", 0),
     (b"function f() { local if; }", 0),
+    (b"type E: enum {};", 0),
     (b"event e() {} event e() {", 13),
+    (b"export { 5 }", 0),
 ];
 
 /// A function whose body is a mark, so many times, and what stands behind. The function, the statement, the
@@ -93,25 +96,22 @@ fn nested(alloc: Global, mark: u8, times: usize, last: &[u8]) -> Result<Vec<u8>,
 fn a_declaration_nests_200_deep(rt: HostRuntime) -> Result<(), Fail> {
     let alloc = rt.alloc();
     let deepest = nested(alloc, b'!', 195, b"a; }")?;
-    assert!(rt; declarations(alloc, &deepest) == Ok(1));
+    assert_eq!(rt; declarations(alloc, &deepest), Ok(1));
     let deeper = nested(alloc, b'!', 196, b"a; }")?;
-    assert!(rt; declarations(alloc, &deeper) == Err(Some(0)));
+    assert_eq!(rt; declarations(alloc, &deeper), Err(Some(0)));
     let endless = nested(alloc, b'(', 100_000, b"")?;
-    assert!(rt; declarations(alloc, &endless) == Err(Some(0)));
+    assert_eq!(rt; declarations(alloc, &endless), Err(Some(0)));
     Ok(())
 }
 
 #[test]
 fn every_form_of_the_language_is_read(rt: HostRuntime) -> Result<(), Fail> {
     let alloc = rt.alloc();
-    for (n, (text, count)) in FORMS.iter().enumerate() {
-        assert!(rt; declarations(alloc, text) == Ok(*count), "in form {n}");
+    for (text, count) in &FORMS {
+        assert_eq!(rt; declarations(alloc, text), Ok(*count), "{text:?}");
     }
-    for (n, (text, place)) in REFUSED.iter().enumerate() {
-        assert!(rt;
-            declarations(alloc, text) == Err(Some(*place)),
-            "in row {n}"
-        );
+    for (text, place) in &REFUSED {
+        assert_eq!(rt; declarations(alloc, text), Err(Some(*place)), "{text:?}");
     }
     Ok(())
 }

@@ -9,7 +9,18 @@ pub const QUERY: &[u8] = b"\
     \0\xf1Se\0\0\0\0K\0\0\0K\0\0\0\0\0\0\0\0\0\0\0\0\0\0\0\x08\0E\0\0=\0\0\0\0\0\x11\xa6{\n\0\0\x01\n\0\05\x9c@\05\0)\xf2`\x124\x01\0\0\x01\0\0\0\0\0\0\x03www\x07example\x03com\0\0\x01\0\x01\
     \0\xf1Se N\0\0i\0\0\0i\0\0\0\0\0\0\0\0\0\0\0\0\0\0\0\x08\0E\0\0[\0\0\0\0\0\x11\xa6]\n\0\05\n\0\0\x01\05\x9c@\0G\x02*\x124\x81\x80\0\x01\0\x02\0\0\0\0\x03www\x07example\x03com\0\0\x01\0\x01\xc0\x0c\0\x05\0\x01\0\0\x01,\0\x02\xc0\x10\xc0\x10\0\x01\0\x01\0\0\x01,\0\x04]\xb8\xd8\"";
 
-/// `QUERY` and an exchange of HTTP merged by time. The datagrams have a VLAN tag, short frames are padded to 60
+/// A GET, the answer with a body of 2 bytes, and the end of both sides.
+pub const EXCHANGE: &[u8] = b"\
+    \xd4\xc3\xb2\xa1\x02\0\x04\0\0\0\0\0\0\0\0\0\0\0\x04\0\x01\0\0\0\
+    \0\xf1Se\0\0\0\06\0\0\06\0\0\0\0\0\0\0\0\0\0\0\0\0\0\0\x08\0E\0\0(\0\0\0\0\0\x06\xa6\x80\n\0\0\x01\n\0\0P\x9cA\0P\0\0\0d\0\0\0\0P\x02\0\0\xfe\x9c\0\0\
+    \0\xf1Se\x10'\0\06\0\0\06\0\0\0\0\0\0\0\0\0\0\0\0\0\0\0\x08\0E\0\0(\0\0\0\0\0\x06\xa6\x80\n\0\0P\n\0\0\x01\0P\x9cA\0\0\x01\xf4\0\0\0eP\x12\0\0\xfc\x97\0\0\
+    \0\xf1Se N\0\0V\0\0\0V\0\0\0\0\0\0\0\0\0\0\0\0\0\0\0\x08\0E\0\0H\0\0\0\0\0\x06\xa6`\n\0\0\x01\n\0\0P\x9cA\0P\0\0\0e\0\0\x01\xf5P\x10\0\0\xd1\xc1\0\0GET / HTTP/1.1\r\nHost: a.test\r\n\r\n\
+    \0\xf1Se0u\0\0^\0\0\0^\0\0\0\0\0\0\0\0\0\0\0\0\0\0\0\x08\0E\0\0P\0\0\0\0\0\x06\xa6X\n\0\0P\n\0\0\x01\0P\x9cA\0\0\x01\xf5\0\0\0\x85P\x10\0\0\xe4\xe6\0\0HTTP/1.1 200 OK\r\nContent-Length: 2\r\n\r\nhi\
+    \0\xf1Se@\x9c\0\06\0\0\06\0\0\0\0\0\0\0\0\0\0\0\0\0\0\0\x08\0E\0\0(\0\0\0\0\0\x06\xa6\x80\n\0\0\x01\n\0\0P\x9cA\0P\0\0\0\x85\0\0\x02\x1dP\x11\0\0\xfcO\0\0\
+    \0\xf1SeP\xc3\0\06\0\0\06\0\0\0\0\0\0\0\0\0\0\0\0\0\0\0\x08\0E\0\0(\0\0\0\0\0\x06\xa6\x80\n\0\0P\n\0\0\x01\0P\x9cA\0\0\x02\x1d\0\0\0\x86P\x11\0\0\xfcN\0\0\
+    \0\xf1Se`\xea\0\06\0\0\06\0\0\0\0\0\0\0\0\0\0\0\0\0\0\0\x08\0E\0\0(\0\0\0\0\0\x06\xa6\x80\n\0\0\x01\n\0\0P\x9cA\0P\0\0\0\x86\0\0\x02\x1eP\x10\0\0\xfcN\0\0";
+
+/// `QUERY` and `EXCHANGE` merged by time. The datagrams have a VLAN tag, short frames are padded to 60
 /// bytes, the packet of the answer has total length 0, and ARP and IPv6 stand between.
 pub const MERGED: &[u8] = b"\
     \xd4\xc3\xb2\xa1\x02\0\x04\0\0\0\0\0\0\0\0\0\0\0\x04\0\x01\0\0\0\
@@ -66,6 +77,34 @@ const GAP_PAST_BODY: &[u8] = b"\
 
 /// A capture, and its lines.
 const ROWS: &[(&[u8], &[u8])] = &[
+    (
+        QUERY,
+        b"1700000000.000000\tpacket\t1700000000.000000\t75\t75\n\
+         1700000000.000000\topened\t1\tudp\t10.0.0.1\t40000\t10.0.0.53\t53\n\
+         1700000000.000000\tdns\t1\torig\t4660\t33\n\
+         1700000000.020000\tpacket\t1700000000.020000\t105\t105\n\
+         1700000000.020000\tdns\t1\tresp\t4660\t63\n\
+         1700000000.020000\tremoved\t1\tSF\n",
+    ),
+    (
+        EXCHANGE,
+        b"1700000000.000000\tpacket\t1700000000.000000\t54\t54\n\
+         1700000000.000000\topened\t1\ttcp\t10.0.0.1\t40001\t10.0.0.80\t80\n\
+         1700000000.010000\tpacket\t1700000000.010000\t54\t54\n\
+         1700000000.010000\testablished\t1\n\
+         1700000000.020000\tpacket\t1700000000.020000\t86\t86\n\
+         1700000000.020000\thttp\t1\torig\thead\t32\n\
+         1700000000.020000\thttp\t1\torig\tdone\t32\t0\n\
+         1700000000.030000\tpacket\t1700000000.030000\t94\t94\n\
+         1700000000.030000\thttp\t1\tresp\thead\t38\n\
+         1700000000.030000\thttp\t1\tresp\tdone\t40\t2\n\
+         1700000000.040000\tpacket\t1700000000.040000\t54\t54\n\
+         1700000000.040000\tended\t1\torig\n\
+         1700000000.050000\tpacket\t1700000000.050000\t54\t54\n\
+         1700000000.050000\tended\t1\tresp\n\
+         1700000000.060000\tpacket\t1700000000.060000\t54\t54\n\
+         1700000000.060000\tremoved\t1\tSF\n",
+    ),
     (
         MERGED,
         b"1700000000.000000\tpacket\t1700000000.000000\t79\t79\n\
@@ -187,6 +226,28 @@ fn each_capture_is_listed_line_by_line(rt: HostRuntime) -> Result<(), Fail> {
         };
         assert_eq!(rt; difference(rt.alloc(), &case)?, None, "in row {n}");
     }
+    Ok(())
+}
+
+/// A big-endian capture with nanoseconds: a record of 3 bytes at 1.999999999 s, one of 60 of
+/// which none were captured at 1 s, and the head of a third.
+const HEAD_OF_A_THIRD: [u8; 74] = [
+    0xa1, 0xb2, 0x3c, 0x4d, 0, 2, 0, 4, 0, 0, 0, 0, 0, 0, 0, 0, 0, 4, 0, 0, 0, 0, 0, 1, 0, 0, 0, 1,
+    0x3b, 0x9a, 0xc9, 0xff, 0, 0, 0, 3, 0, 0, 0, 3, 0xff, 0xff, 0xff, 0, 0, 0, 1, 0, 0, 0, 0, 0, 0,
+    0, 0, 0, 0, 0, 60, 0, 0, 0, 2, 0, 0, 0, 0, 0, 0, 0, 1, 0, 0, 0,
+];
+
+#[test]
+fn a_capture_that_is_cut_is_listed_up_to_there(rt: HostRuntime) -> Result<(), Fail> {
+    let case = Case {
+        line: b"list c.pcap",
+        inputs: &[(b"c.pcap", &HEAD_OF_A_THIRD)],
+        status: 4,
+        said: b"1.999999\tpacket\t1.999999\t3\t3\n1.999999\tpacket\t1.000000\t0\t60\n",
+        complained: b"zeekoff: c.pcap cut at byte 59\n",
+        files: &[],
+    };
+    assert_eq!(rt; difference(rt.alloc(), &case)?, None);
     Ok(())
 }
 

@@ -53,6 +53,26 @@ const CASES: &[Case] = &[
         complained: b"",
         files: &[],
     },
+    Case {
+        line: b"run -b -r c.pcap s.zeek lib.zeek s.zeek",
+        inputs: &[
+            (b"c.pcap", &HEADER),
+            (
+                b"lib.zeek",
+                b"global x = 7;\nevent zeek_init() { print \"lib\"; }\n",
+            ),
+            (
+                b"s.zeek",
+                b"# A name that was read already isn't read again, as a script either. Blanks and a \
+              comment after the name are passed over.\n@load lib.zeek\n@load   lib.zeek\t # again\n\
+              \t@load lib.zeek\nevent zeek_init() { print x, \"s\"; }\n",
+            ),
+        ],
+        status: 0,
+        said: b"lib\n7, s\n",
+        complained: b"",
+        files: &[],
+    },
     // What is loaded in an `export` is exported, in the modules that its file names.
     Case {
         line: b"run -b -r c.pcap s.zeek",
@@ -134,6 +154,23 @@ const CASES: &[Case] = &[
         complained: b"zeekoff: s.zeek, byte 41: Unknown\n",
         files: &[],
     },
+    // Twice in one module, in two files.
+    Case {
+        line: b"run -b -r c.pcap s.zeek",
+        inputs: &[
+            (b"c.pcap", &HEADER),
+            (
+                b"a.zeek",
+                b"module A;\nexport { global x = 1; }\nmodule B;\nglobal x = 2;\n",
+            ),
+            (b"b.zeek", b"module B;\nglobal x = 3;\n"),
+            (b"s.zeek", b"@load a.zeek\n@load b.zeek\n"),
+        ],
+        status: 2,
+        said: b"",
+        complained: b"zeekoff: b.zeek, byte 10: Twice\n",
+        files: &[],
+    },
     // A fault is told with the file of its statement, also that of an initial value.
     Case {
         line: b"run -b -r c.pcap s.zeek",
@@ -169,6 +206,23 @@ const CASES: &[Case] = &[
             ],
         )],
     },
+    // The first rule that is broken is told, in the order of the declarations.
+    Case {
+        line: b"run -b -r c.pcap s.zeek t.zeek",
+        inputs: &[
+            (b"c.pcap", &HEADER),
+            (b"a.zeek", b"global c = 2;\nglobal d: count = \"d\";\n"),
+            (
+                b"s.zeek",
+                b"global a = 1;\n@load a.zeek\nglobal b: count = \"b\";\n",
+            ),
+            (b"t.zeek", b"global e = f;\n"),
+        ],
+        status: 2,
+        said: b"",
+        complained: b"zeekoff: a.zeek, byte 32: WrongType\n",
+        files: &[],
+    },
     // A file that is not there ends the run before anything is checked or runs.
     Case {
         line: b"run -b -r c.pcap s.zeek",
@@ -184,6 +238,19 @@ const CASES: &[Case] = &[
         complained: b"zeekoff: no file missing.zeek\n",
         files: &[],
     },
+    Case {
+        line: b"run -b -r c.pcap s.zeek t.zeek",
+        inputs: &[
+            (b"c.pcap", &HEADER),
+            (b"a.zeek", b"global x: count = \"typed wrong\";\n"),
+            (b"s.zeek", b"@load a.zeek\n@load missing\n"),
+            (b"t.zeek", b"no tree\n"),
+        ],
+        status: 9,
+        said: b"",
+        complained: b"zeekoff: no file missing\n",
+        files: &[],
+    },
     // The tokens and the tree of a file are judged before those that it loads are asked for.
     Case {
         line: b"run -b -r c.pcap s.zeek",
@@ -195,6 +262,37 @@ const CASES: &[Case] = &[
         status: 2,
         said: b"",
         complained: b"zeekoff: s.zeek, byte 13: NoTree\n",
+        files: &[],
+    },
+    Case {
+        line: b"run -b -r c.pcap s.zeek t.zeek missing.zeek",
+        inputs: &[
+            (b"c.pcap", &HEADER),
+            (b"a.zeek", b"event zeek_init() { }\n\"open\n"),
+            (
+                b"s.zeek",
+                b"global x: count = \"typed wrong\";\n@load a.zeek\n",
+            ),
+            (b"t.zeek", b".\n"),
+        ],
+        status: 2,
+        said: b"",
+        complained: b"zeekoff: a.zeek, byte 22: OpenString\n",
+        files: &[],
+    },
+    // Names under `base/` are passed over.
+    Case {
+        line: b"run -b -r c.pcap s.zeek",
+        inputs: &[
+            (b"c.pcap", &HEADER),
+            (
+                b"s.zeek",
+                b"@load base/conn.zeek\n@load base/nothing/there\nevent zeek_init() { print \"s\"; }\n",
+            ),
+        ],
+        status: 0,
+        said: b"s\n",
+        complained: b"",
         files: &[],
     },
     // The logs of a capture that is cut are closed behind its whole records.

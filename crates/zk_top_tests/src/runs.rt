@@ -74,7 +74,31 @@ const ROWS: &[(&[u8], &[u8], &[u8], u8, &[u8], &[u8])] = &[
         b"zeekoff: c.pcap refused at byte 0\n",
     ),
     (
+        b"list x.pcap",
+        b"",
+        b"",
+        9,
+        b"",
+        b"zeekoff: no file x.pcap\n",
+    ),
+    (
         b"list",
+        b"",
+        b"",
+        1,
+        b"",
+        b"zeekoff: word 1 is not understood\n",
+    ),
+    (
+        b"list a b",
+        b"",
+        b"",
+        1,
+        b"",
+        b"zeekoff: word 2 is not understood\n",
+    ),
+    (
+        b"list -x",
         b"",
         b"",
         1,
@@ -83,6 +107,14 @@ const ROWS: &[(&[u8], &[u8], &[u8], u8, &[u8], &[u8])] = &[
     ),
     // A script without handlers says nothing, and one may be empty.
     (RUN, &HEADER, b"", 0, b"", b""),
+    (
+        RUN,
+        &HEADER,
+        b"event zeek_init() { print network_time(); }\nevent zeek_done() { print network_time(); }\n",
+        0,
+        b"0.000000\n0.000000\n",
+        b"",
+    ),
     (
         RUN,
         &CUT,
@@ -128,6 +160,22 @@ const ROWS: &[(&[u8], &[u8], &[u8], u8, &[u8], &[u8])] = &[
         b"",
         b"zeekoff: s.zeek, byte 31: NoTree\n",
     ),
+    (
+        RUN,
+        &HEADER,
+        b"print 1;",
+        2,
+        b"",
+        b"zeekoff: s.zeek, byte 0: NoTree\n",
+    ),
+    (
+        RUN,
+        &HEADER,
+        b"\n  event zeek_init() { print 1; } event zeek_done() { print 1",
+        2,
+        b"",
+        b"zeekoff: s.zeek, byte 34: NoTree\n",
+    ),
     // The tree is judged before names and types, and these before the capture is asked for.
     (
         RUN,
@@ -145,6 +193,14 @@ const ROWS: &[(&[u8], &[u8], &[u8], u8, &[u8], &[u8])] = &[
         b"",
         b"zeekoff: s.zeek, byte 18: WrongType\n",
     ),
+    (
+        RUN,
+        &HEADER,
+        b"&log event zeek_init() { print 1; }",
+        2,
+        b"",
+        b"zeekoff: s.zeek, byte 0: NoTree\n",
+    ),
     // Tokens are judged before the tree, at the first fault.
     (
         RUN,
@@ -153,6 +209,22 @@ const ROWS: &[(&[u8], &[u8], &[u8], u8, &[u8], &[u8])] = &[
         2,
         b"",
         b"zeekoff: s.zeek, byte 39: BadByte\n",
+    ),
+    (
+        RUN,
+        &HEADER,
+        b"event zeek_init() { print \"fine\\n\", \"a\\q\"; }",
+        2,
+        b"",
+        b"zeekoff: s.zeek, byte 38: BadByte\n",
+    ),
+    (
+        RUN,
+        &HEADER,
+        b"global x: count = \"a",
+        2,
+        b"",
+        b"zeekoff: s.zeek, byte 18: OpenString\n",
     ),
     (
         RUN,
@@ -172,6 +244,14 @@ const ROWS: &[(&[u8], &[u8], &[u8], u8, &[u8], &[u8])] = &[
         b"zeekoff: s.zeek, byte 0: NoTree\n",
     ),
     (
+        b"run -b -r x.pcap x.zeek",
+        &HEADER,
+        b"",
+        9,
+        b"",
+        b"zeekoff: no file x.zeek\n",
+    ),
+    (
         b"run -b -r x.pcap s.zeek",
         &HEADER,
         b"",
@@ -182,10 +262,26 @@ const ROWS: &[(&[u8], &[u8], &[u8], u8, &[u8], &[u8])] = &[
     (
         RUN,
         &HEADER,
+        b"global x: count = y;",
+        2,
+        b"",
+        b"zeekoff: s.zeek, byte 18: Unknown\n",
+    ),
+    (
+        RUN,
+        &HEADER,
         b"global x = \"a",
         2,
         b"",
         b"zeekoff: s.zeek, byte 11: OpenString\n",
+    ),
+    (
+        b"run -r c.pcap",
+        b"",
+        b"",
+        3,
+        b"",
+        b"zeekoff: c.pcap refused at byte 0\n",
     ),
     // A header that is refused is judged before anything runs.
     (
@@ -214,6 +310,30 @@ const ROWS: &[(&[u8], &[u8], &[u8], u8, &[u8], &[u8])] = &[
         9,
         b"",
         b"zeekoff: no file base/x.zeek\n",
+    ),
+    (
+        b"run -b -r c.pcap base/dns.zeek",
+        &HEADER,
+        b"",
+        9,
+        b"",
+        b"zeekoff: no file base/dns.zeek\n",
+    ),
+    (
+        b"run -r c -C",
+        &HEADER,
+        b"",
+        9,
+        b"",
+        b"zeekoff: no file c\n",
+    ),
+    (
+        b"run -r",
+        &HEADER,
+        b"",
+        1,
+        b"",
+        b"zeekoff: word 2 is not understood\n",
     ),
     (
         b"run -r c.pcap s.zeek -C",
@@ -248,6 +368,22 @@ const ROWS: &[(&[u8], &[u8], &[u8], u8, &[u8], &[u8])] = &[
         b"",
     ),
     (b"--version", b"", b"", 0, b"zeekoff 0.1.0\n", b""),
+    (
+        b"--help x",
+        b"",
+        b"",
+        1,
+        b"",
+        b"zeekoff: word 1 is not understood\n",
+    ),
+    (
+        b"list --help",
+        b"",
+        b"",
+        1,
+        b"",
+        b"zeekoff: word 1 is not understood\n",
+    ),
     // Scripts are read in order, each followed by what it loads.
     (
         b"run -b -r c.pcap s.zeek t.zeek",
@@ -296,6 +432,12 @@ const PROGRAMS: &[(&[u8], &[u8], &[u8])] = &[
           event zeek_init() &priority=5 { print \"a\", hook h(1); } event zeek_init() { print \"c\"; }",
         b"h1\na, F\nb\nc\nd\n",
     ),
+    // A fault ends its body alone, which keeps what it did.
+    (
+        RUN,
+        b"global t: table[count] of count; event zeek_init() { t[1] = 2; print t[5]; } event zeek_init() { print t[1]; }",
+        b"2\n",
+    ),
     (
         RUN,
         b"global t: table[count] of count; function f(t: table[count] of count) { t[2] = 5; } \
@@ -306,6 +448,11 @@ const PROGRAMS: &[(&[u8], &[u8], &[u8])] = &[
         b"run -b --budget 9 -r c.pcap s.zeek",
         b"event zeek_init() { local i = 0; while ( i < 3 ) ++i; print i; }",
         b"3\n",
+    ),
+    (
+        b"run -b --budget 8 -r c.pcap s.zeek",
+        b"event zeek_init() { local i = 0; while ( i < 3 ) ++i; print i; }",
+        b"",
     ),
     // A scheduled event has its own moment; what still waits at the end comes before it.
     (
@@ -344,6 +491,28 @@ fn programs_print_what_they_mean(rt: HostRuntime) -> Result<(), Fail> {
             files: &[],
         };
         assert_eq!(rt; difference(rt.alloc(), &case)?, None, "in row {n}");
+    }
+    Ok(())
+}
+
+#[test]
+fn a_script_may_have_a_mebibyte_and_no_byte_more(rt: HostRuntime) -> Result<(), Fail> {
+    let alloc = rt.alloc();
+    let rows: [(usize, u8, &[u8]); 2] = [
+        (1_048_576, 0, b""),
+        (1_048_577, 2, b"zeekoff: s.zeek, byte 1048576: TooLarge\n"),
+    ];
+    for (len, status, complained) in rows {
+        let blanks = vec![in alloc; b' '; len]?;
+        let case = Case {
+            line: RUN,
+            inputs: &[(b"c.pcap", &HEADER), (b"s.zeek", &blanks)],
+            status,
+            said: b"",
+            complained,
+            files: &[],
+        };
+        assert_eq!(rt; difference(alloc, &case)?, None, "at {len} bytes");
     }
     Ok(())
 }

@@ -36,6 +36,8 @@ const SILENT: &[u8] = b"\
 /// The words of a run of `s.zeek` over `c.pcap`, with the default budget, a small one and a large one.
 const RUN: &[u8] = b"run -b -r c.pcap s.zeek";
 
+const SMALL: &[u8] = b"run -b --budget 9 -r c.pcap s.zeek";
+
 const LARGE: &[u8] = b"run -b --budget 3000000 -r c.pcap s.zeek";
 
 /// The capture of a row.
@@ -95,6 +97,16 @@ const AGENDA: &[Row] = &[
           c, 3.000000\nd, 3.000000\nC3, 3.000000\nbefore the last record, 12.000000\nC12, 12.000000\n\
           late, 12.000000\n",
     ),
+    // A scheduled event schedules the next, which still runs before an item that isn't earlier.
+    (
+        RUN,
+        Over::EachSecond,
+        b"global n = 0; event again() { ++n; print n, network_time(); if ( n < 6 ) schedule 400 msec { \
+          again() }; } event zeek_init() { schedule 1 sec { again() }; } event new_connection(c: connection) { \
+          if ( n < 6 ) print c$uid; else if ( n == 6 ) { print c$uid; schedule 0 sec { again() }; } }",
+        b"1, 1.000000\nC1\n2, 1.400000\n3, 1.800000\nC2\n4, 2.200000\n5, 2.600000\n6, 3.000000\nC3\n\
+          7, 3.000000\n",
+    ),
     // What waits at the end is dispatched there, and the queue is drained after each; what is scheduled then is dropped.
     (
         RUN,
@@ -108,6 +120,24 @@ const AGENDA: &[Row] = &[
         b"early, 20.000000\nremoved, 25.000000\nlate, 0, 25.000000\nsoon, 0, 25.000000\n\
           late, 1, 25.000000\nsoon, 1, 25.000000\nlate, 2, 25.000000\nsoon, 2, 25.000000\n\
           late, 3, 25.000000\nsoon, 3, 25.000000\ndone, 25.000000\nsoon, 7, 25.000000\n",
+    ),
+    // A due past the last moment stands there, so the order of scheduling decides.
+    (
+        RUN,
+        Over::Datagram,
+        b"event e(n: count) { print n, network_time(); } event zeek_init() { schedule 9223372036854775807 \
+          usecs { e(1) }; } event new_connection(c: connection) { schedule 9223372036854775807 usecs { e(2) }; \
+          schedule 9223372036854775806 usecs { e(3) }; schedule 1 day { e(4) }; }",
+        b"4, 25.000000\n1, 25.000000\n2, 25.000000\n3, 25.000000\n",
+    ),
+    // Arguments are computed where the event is queued or scheduled; a record is passed by reference.
+    (
+        RUN,
+        Over::Header,
+        b"type R: record { n: count; }; global r = R($n=1); global k = 1; event e(a: count, x: R) { print a, \
+          x$n; } event zeek_init() { schedule 1 sec { e(k, r) }; event e(k, r); k = 2; r$n = 5; event e(k, r); \
+          print \"init\"; }",
+        b"init\n1, 5\n2, 5\n1, 5\n",
     ),
     // What initial values queue comes before zeek_init; what they schedule counts from time 0.
     (
@@ -209,6 +239,16 @@ const EXPIRY: &[Row] = &[
           zeek_done() { print |t|; }",
         b"a, 0, 2.000000\nb, 1, 2.000000\na, 1, 3.500000\nb, 2, 3.500000\na, 2, 5.000000\n0\n",
     ),
+    // An entry that its function assigned is still that very entry.
+    (
+        RUN,
+        Over::EachSecond,
+        b"global t: table[count] of count &write_expire=2 sec &expire_func=gone; function gone(t: \
+          table[count] of count, k: count): interval { t[k] += 10; print k, t[k], network_time(); if ( k == 2 \
+          && t[k] < 20 ) return 1 sec; return 0 sec; } event zeek_init() { t[1] = 0; t[2] = 0; } event \
+          zeek_done() { print |t|; }",
+        b"1, 10, 2.000000\n2, 10, 2.000000\n2, 20, 3.000000\n0\n",
+    ),
     // An entry that its function deleted isn't kept by an interval; another that it deleted has no turn.
     (
         RUN,
@@ -218,6 +258,35 @@ const EXPIRY: &[Row] = &[
           t[1]; delete t[2]; return 5 sec; } return 0 sec; } event zeek_init() { t[1] = 0; t[2] = 0; t[3] = 0; \
           } event zeek_done() { print |t|; }",
         b"1, 3, 2.000000\n3, 1, 2.000000\n0\n",
+    ),
+    // One that is deleted and inserted again is another one: last in order, and due by its own insertion.
+    (
+        RUN,
+        Over::EachSecond,
+        b"global t: table[count] of count &create_expire=2 sec &expire_func=gone; function gone(t: \
+          table[count] of count, k: count): interval { print k, t[k], network_time(); if ( t[k] == 0 && k == 1 \
+          ) { delete t[k]; t[k] = 7; return 1 sec; } for ( x, y in t ) print \"there\", x, y; return 0 sec; } \
+          event zeek_init() { t[1] = 0; t[2] = 0; }",
+        b"1, 0, 2.000000\n2, 0, 2.000000\nthere, 2, 0\nthere, 1, 7\n1, 7, 4.000000\nthere, 1, 7\n",
+    ),
+    // After a fault in its function the entry goes all the same.
+    (
+        RUN,
+        Over::EachSecond,
+        b"global t: table[string] of count &create_expire=2 sec &expire_func=gone; global u: table[count] of \
+          count; function gone(t: table[string] of count, k: string): interval { print k; if ( k == \"b\" ) \
+          print u[5]; if ( k == \"c\" ) print 1 / |u|; return 0 sec; } event zeek_init() { t[\"a\"] = 1; \
+          t[\"b\"] = 1; t[\"c\"] = 1; t[\"d\"] = 1; } event zeek_done() { print |t|; }",
+        b"a\nb\nc\nd\n0\n",
+    ),
+    // The function has the whole budget at each turn; where it is spent the entry goes.
+    (
+        SMALL,
+        Over::EachSecond,
+        b"global t: table[count] of count &create_expire=2 sec &expire_func=gone; function gone(t: \
+          table[count] of count, k: count): interval { local i = 0; while ( i < k ) ++i; print k; return 3 sec; \
+          } event zeek_init() { t[1] = 0; t[2] = 0; t[3] = 0; } event zeek_done() { print |t|; }",
+        b"1\n2\n3\n1\n2\n1\n2\n1\n2\n2\n",
     ),
     // An expiry below 0 counts as 0: entries go before the next item, those of the end stay.
     (
@@ -231,6 +300,17 @@ const EXPIRY: &[Row] = &[
           \"removed\", |t|, |s|; t[3] = 3; add s[3]; schedule 1 sec { later() }; }",
         b"1, 1\nlater, 1, 1\ngone, 1, 0.000000\nnew, 0, 0\ngone, 2, 25.000000\nremoved, 0, 0\n\
           later, 1, 1\n",
+    ),
+    // A due past the last moment stands there.
+    (
+        RUN,
+        Over::Datagram,
+        b"global t: table[count] of count &create_expire=9223372036854775807 usecs &expire_func=gone; global \
+          u: table[count] of count &create_expire=5 sec &expire_func=gone; function gone(t: table[count] of \
+          count, k: count): interval { print k, network_time(); return 9223372036854775807 usecs; } event \
+          new_connection(c: connection) { t[1] = 1; u[3] = 3; } event zeek_init() { u[2] = 2; } event \
+          zeek_done() { print |t|, |u|; }",
+        b"2, 5.000000\n1, 2\n",
     ),
     // The function gets the table or set and each of its keys.
     (
@@ -258,6 +338,7 @@ const EXPIRY: &[Row] = &[
     ),
     // 900,000 entries that are due at one moment go one by one; without an item nothing expires.
     (LARGE, Over::Datagram, MANY, b"900000, 0\n"),
+    (LARGE, Over::Header, MANY, b"0, 900000\n"),
 ];
 
 #[test]

@@ -86,7 +86,8 @@ impl Running {
     pub fn global(&mut self, number: u32) -> Result<(), Halt>
         ensures { (place : At) → Moves place result (steps.by (does.global place number (state_of self.old.state)) (steps.push self.old.at (held_of self.old))) (machine_of self.new) }
     {
-        let value = named(self.state.world.globals.as_slice(), number)?;
+        let world = &self.state.world;
+        let value = named(world.globals.as_slice(), number)?;
         push_handle(&mut self.stack, value)?;
         self.advance()?;
         Ok(())

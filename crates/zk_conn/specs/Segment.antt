@@ -75,3 +75,7 @@ has_fin p = has p FIN
 
 abbrev pub has_rst : L4View → Bool
 has_rst p = has p RST
+
+-- a packet that opens and closes no end
+abbrev pub is_plain : L4View → Bool
+is_plain p = not (has_syn p || has_fin p || has_rst p)

@@ -4,7 +4,7 @@ use Rattle.std.specs.Prelude.{◌==◌, if◌then◌else◌, IsSome, IfSome, min
 use Rattle.std.specs.Option.{option_map}
 use Rattle.std.proofs.lemmas.Bool.Decides.{nat_tests}
 use Rattle.std.proofs.lemmas.List.{drop-append-le, drop-drop}
-use Rattle.zk_base.specs.ByteQueue.{bytes_of}
+use Rattle.zk_pcap.specs.Held.{bytes_of}
 use Rattle.zk_pcap.specs.declared.feed.Feed.{Feed}
 use Rattle.zk_pcap.specs.declared.feed.Next.{Next}
 use Rattle.zk_pcap.specs.declared.feed.Next.TheVariants as next
@@ -13,7 +13,7 @@ use Rattle.zk_pcap.specs.declared.records.Packet.{Packet}
 use Rattle.zk_pcap.specs.Capture.{StandBetween, end_from}
 use Rattle.zk_pcap.specs.Header.{number_of}
 use Rattle.zk_pcap.specs.Record.{record_by, record_at, is_too_long_by, is_too_long, end_of}
-use Rattle.zk_pcap.specs.Standing.{StandsFor, IsNext, IsFirst, RestIs, first_record, is_packet, placed}
+use Rattle.zk_pcap.specs.Standing.{StandsFor, GoesOn, IsNext, IsFirst, RestIs, first_record, is_packet, placed}
 use Rattle.zk_pcap.specs.View.{packet_of}
 use Rattle.zk_pcap.proofs.FeedLemmas.{front_len, record_stays, record_in_part, record_place, record_within, too_long_in_part, stand_in_part}
 use Rattle.zk_pcap.proofs.RecordLemmas.{end_from-stand, stand_alone, stand_more}
@@ -27,10 +27,10 @@ stand_along read again each from (packet ∷ packets) to stand =
 
 -- ---- more bytes
 
-pub stands_pushed : (old new : Feed) (header : Header) (file piece : List ℕ) (packets : List Packet) → StandsFor old header file packets
-    → length (file ++ piece) < 2 ^ 64 → new.big ≡ old.big → new.nano ≡ old.nano → new.place ≡ old.place → bytes_of new.held ≡ bytes_of old.held ++ piece
-    → StandsFor new header (file ++ piece) packets
-stands_pushed old new header file piece packets stands short big nano place held = record {
+-- a piece is held behind what was held
+pub goes_on : (old new : Feed) (piece : List ℕ) → new.big ≡ old.big → new.nano ≡ old.nano → new.place ≡ old.place
+    → bytes_of new.held ≡ bytes_of old.held ++ piece → GoesOn old new piece
+goes_on old new piece big nano place held header file packets stands short = record {
   big = big ∙ stands.big;
   nano = nano ∙ stands.nano;
   stand = subst (StandBetween (record_at header (file ++ piece)) 24 packets) (sym place)
@@ -40,7 +40,7 @@ stands_pushed old new header file piece packets stands short big nano place held
   short = short;
 }
 
--- the same bytes are held, in another queue
+-- the same bytes are held, in another room
 pub stands_same : (old new : Feed) (header : Header) (file : List ℕ) (packets : List Packet) → StandsFor old header file packets
     → new.big ≡ old.big → new.nano ≡ old.nano → new.place ≡ old.place → bytes_of new.held ≡ bytes_of old.held → StandsFor new header file packets
 stands_same old new header file packets stands big nano place held = record {

@@ -6,3 +6,5 @@ pub mod Capture
 pub mod NetworkTime
 pub mod Feed
 pub mod Standing
+pub mod Held
+pub mod Fetching

@@ -1,7 +1,7 @@
 -- What a value of `Feed` stands for.
-use Rattle.std.specs.Prelude.{◌≡◌, ℕ, ◌<◌, ◌≤◌, ◌^◌, Bool, true, false, ◌==◌, if◌then◌else◌, List, length, drop, Option, Some, None}
+use Rattle.std.specs.Prelude.{◌≡◌, ℕ, ◌<◌, ◌≤◌, ◌^◌, Bool, true, false, ◌==◌, if◌then◌else◌, List, ◌++◌, length, drop, Option, Some, None}
 use Rattle.std.specs.Option.{option_map}
-use Rattle.zk_base.specs.ByteQueue.{bytes_of}
+use Rattle.zk_pcap.specs.Held.{bytes_of}
 use Rattle.zk_pcap.specs.declared.feed.Feed.{Feed}
 use Rattle.zk_pcap.specs.declared.feed.Next.{Next}
 use Rattle.zk_pcap.specs.declared.feed.Next.TheVariants as next
@@ -21,6 +21,12 @@ pub record StandsFor (feed : Feed) (header : Header) (file : List ℕ) (packets 
   pub held : bytes_of feed.held ≡ drop feed.place file
   pub within : feed.place ≤ length file
   pub short : length file < 2 ^ 64
+
+-- the feed has taken a piece more of whatever file it is one of
+abbrev pub GoesOn : Feed → Feed → List ℕ → Type 0
+GoesOn old new piece =
+    (header : Header) (file : List ℕ) (packets : List Packet) → StandsFor old header file packets → length (file ++ piece) < 2 ^ 64
+    → StandsFor new header (file ++ piece) packets
 
 -- the record at the front of what is held, if it is whole
 unfoldable pub first_record : Feed → Option Packet

@@ -1,4 +1,4 @@
-ghost use Rattle.std.specs.Prelude.{◌≡◌, ℕ, ◌+◌, ◌<◌, ◌≤◌, ◌^◌, ◌++◌, ◌∷◌, [], List, length, None, Some, IsSome, IfSome, true, IfOk, OnOk, OnErr, ◌↔◌, drop};
+ghost use Rattle.std.specs.Prelude.{◌≡◌, ℕ, ◌+◌, ◌<◌, ◌≤◌, ◌^◌, ◌++◌, ◌∷◌, [], List, length, None, Some, IsSome, IfSome, IsTrue, true, IfOk, OnOk, OnErr, ◌↔◌, drop};
 ghost use Rattle.std.specs.Option.{option_map};
 ghost use Rattle.zk_pcap.specs.Header.{number_of};
 ghost use Rattle.zk_pcap.specs.Capture.{end_from, StandBetween};
@@ -8,11 +8,12 @@ ghost use Rattle.zk_pcap.specs.declared.headers.Header.{Header as HeaderData};
 ghost use Rattle.zk_pcap.specs.declared.records.Packet.{Packet as PacketData};
 
 use crate::headers::HEADER_LEN;
+use crate::held::Held;
 use crate::records::{RECORD_HEADER_LEN, captured_len, is_too_long};
 use crate::{Header, PacketView};
 use byteorder::{BigEndian, ByteOrder, LittleEndian};
 use std::alloc::Global;
-use zk_base::{ByteQueue, Mem};
+use zk_base::{Got, Mem, Shelf};
 
 /// What stands next in a capture that comes in pieces.
 #[derive(Clone, Copy, Debug)]
@@ -44,12 +45,14 @@ pub struct Feed {
     big: bool,
     nano: bool,
     place: u64,
-    held: ByteQueue,
+    held: Held,
 }
 
 impl Feed {
-    ghost use Rattle.zk_base.specs.ByteQueue.{bytes_of};
-    ghost use Rattle.zk_pcap.specs.Standing.{StandsFor, IsNext, NextIsBounded, first_record, is_packet, RestIs};
+    ghost use Rattle.zk_pcap.specs.Held.{bytes_of};
+    ghost use Rattle.zk_base.specs.Shelf.{is_open};
+    ghost use Rattle.zk_pcap.specs.Fetching.{Fetches};
+    ghost use Rattle.zk_pcap.specs.Standing.{StandsFor, GoesOn, IsNext, NextIsBounded, first_record, is_packet, RestIs};
 
     /// The records of a file with this header, of which no byte behind the header has come yet. No
     /// memory is taken.
@@ -60,7 +63,7 @@ impl Feed {
             big: header.big,
             nano: header.nano,
             place: HEADER_LEN as u64,
-            held: ByteQueue::new(alloc),
+            held: Held::new(alloc),
         })
     }
 
@@ -71,9 +74,21 @@ impl Feed {
         ensures err { OnErr result ((header : HeaderData) (file : List ℕ) (packets : List PacketData) → StandsFor self.old header file packets
             → StandsFor self.new header file packets) }
     {
-        self.held.reserve(piece.len())?;
-        self.held.append(piece);
-        Ok(())
+        self.held.append(piece)
+    }
+
+    /// Takes the next bytes of the file from the open input of a shelf, so many at most, which are read
+    /// straight to where they are held. At `Mem` nothing was read, and the feed stands for what it
+    /// stood for.
+    pub fn read_from<S: Shelf>(&mut self, shelf: &mut S, most: usize) -> Result<Got, Mem>
+        requires most { 0 < most }
+        requires input { IsTrue (is_open (S.outside shelf.old).reading) }
+        ensures read { IfOk result (λ given. Fetches (S.outside shelf.old) most given (S.outside shelf.new) (GoesOn self.old self.new)) }
+        ensures unread { OnErr result (S.outside shelf.new ≡ S.outside shelf.old) }
+        ensures err { OnErr result ((header : HeaderData) (file : List ℕ) (packets : List PacketData) → StandsFor self.old header file packets
+            → StandsFor self.new header file packets) }
+    {
+        self.held.read_from(shelf, most)
     }
 
     /// What stands next. A packet's bytes are the very slice that is held.
@@ -116,7 +131,7 @@ impl Feed {
 }
 
 impl Feed {
-    ghost use Rattle.zk_base.specs.ByteQueue.{bytes_of};
+    ghost use Rattle.zk_pcap.specs.Held.{bytes_of};
     ghost use Rattle.zk_pcap.specs.Standing.{first_record, IsFirst, NextIsBounded};
 
     /// What stands next where the numbers of the file stand in the order `T`.

@@ -5,6 +5,7 @@ mod captures;
 mod faults;
 mod feed;
 mod headers;
+mod held;
 mod records;
 
 pub use captures::{CAPTURE_MAX, Capture, CaptureEnding, packets};

@@ -11,11 +11,12 @@ use Rattle.zk_load.specs.Loading.{Scripts, loading}
 use Rattle.zk_load.specs.declared.found.Found.{Found}
 use Rattle.zk_load.specs.declared.found.Found.TheVariants.{Accepted, Refused}
 use Rattle.zk_load.specs.declared.stop.Stop.{Stop}
-use Rattle.zk_top.specs.Command.{Command, ListItems, RunScripts, Generate, Help, Version, understand}
+use Rattle.zk_command.specs.Command.{Command, ListItems, RunScripts, Generate, Help, Version, understand}
 use Rattle.zk_top.specs.Compiling.{program_by}
-use Rattle.zk_top.specs.Complaint.{complaint_of}
-use Rattle.zk_top.specs.declared.command.Settings.{Settings}
-use Rattle.zk_top.specs.Outcome.{Report, no_files, ending_so, opened, over_capture, list_report, link_in, run_report, running, run_behind, run_of, generated, generated_name, summary_report, summing_up, outcome_of, outcome}
+use Rattle.zk_command.specs.Complaint.{complaint_of}
+use Rattle.zk_command.specs.declared.command.Settings.{Settings}
+use Rattle.zk_io.specs.Opened.{opened, link_in}
+use Rattle.zk_top.specs.Outcome.{Report, no_files, ending_so, over_capture, list_report, run_report, running, run_behind, run_of, generated, generated_name, summary_report, summing_up, outcome_of, outcome}
 use Rattle.zk_top.specs.Script.{default_scripts, program_of, scripts_before}
 use Rattle.zk_load.specs.Parts.{DoesAll, DoesPart, IsPrefix}
 use Rattle.zk_top.specs.Parts.{Fulfils, BreaksOff, but_outputs}

@@ -18,14 +18,13 @@ use Rattle.zk_load.specs.declared.stop.Stop.TheVariants.{ReadFault, WriteFault, 
 use Rattle.zk_load.specs.Parts.{Does, DoesAll, DoesPart, DoesWithoutFault, HasCause, IsPrefix}
 use Rattle.zk_load.proofs.Doing.{none_appended, out_of_memory, prefix_all, prefix_none, prefix_trans, does_part_of}
 use Rattle.zk_top.specs.declared.writer.Writer.{Writer}
-use Rattle.zk_top.specs.Line.{line_end}
-use Rattle.zk_top.specs.Listing.{HasSaid}
+use Rattle.zk_io.specs.Said.{line_end, HasSaid, HandsOver}
 use Rattle.zk_top.specs.Outcome.{no_files}
-use Rattle.zk_top.specs.Parts.{HandsOver, but_outputs}
-use Rattle.zk_top.specs.Reading.{SameInput}
+use Rattle.zk_top.specs.Parts.{but_outputs}
+use Rattle.zk_io.specs.Reading.{SameInput}
 use Rattle.zk_top.specs.Logged.{dated}
 use Rattle.zk_top.specs.Writing.{Output, HasGiven, GivesSome, GivesAll, GivesPart, AreBegun, Begins, IsReady, and_out, no_output, stopped_by}
-use Rattle.zk_top.proofs.Said.{said_nothing, said_over, said_more, said_on, said_part_of, said_all_of, stopped_after, memory_after, memory_behind}
+use Rattle.zk_io.proofs.Said.{said_nothing, said_over, said_more, said_on, said_part_of, said_all_of, stopped_after, memory_after, memory_behind}
 
 -- But for outputs ------------------------------------------------------------------------------------------------------
 

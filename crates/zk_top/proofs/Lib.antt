@@ -1,12 +1,9 @@
-mod CaptureReading
-mod CommandLaws
 mod CompileLaws
 mod EntryLemmas
 mod Giving
 mod Taking
 mod ItemLemmas
 mod ListingLemmas
-mod OpenCapture
 mod OverCapture
 mod OverDefaults
 mod OverGenerated
@@ -15,4 +12,3 @@ mod Playing
 mod Replaying
 mod Rows
 mod RunLemmas
-mod Said

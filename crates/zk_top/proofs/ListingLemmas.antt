@@ -8,7 +8,7 @@ use Rattle.zk_top.specs.declared.listing.Listing.{Listing}
 use Rattle.zk_top.specs.Line.{line_of, lines_of, list_options, capture_lines}
 use Rattle.zk_top.specs.Listing.{HasListedAll, ItemsStay}
 use Rattle.zk_top.proofs.ItemLemmas.{items_begin}
-use Rattle.zk_top.proofs.Said.{said_on}
+use Rattle.zk_io.proofs.Said.{said_on}
 use Rattle.zk_traffic.specs.declared.item.Item.{Item}
 use Rattle.zk_traffic.specs.Items.{items_of}
 

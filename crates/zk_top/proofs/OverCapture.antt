@@ -1,20 +1,21 @@
 -- What is done over a capture, or over none.
-use Rattle.std.proofs.Common.{◌≡◌, ℕ, ◌^◌, inl, List, [], ◌∷◌, Option, Some, None, IfSome, refl, sym, ap, subst, ◌∙◌}
+use Rattle.std.proofs.Common.{◌≡◌, ℕ, inl, List, [], ◌∷◌, Option, Some, refl, sym, ap, subst, ◌∙◌}
 use Rattle.std.specs.Option.{option_map}
 use Rattle.zk_base.specs.declared.endings.Ending.{Ending}
 use Rattle.zk_base.specs.declared.endings.Ending.TheVariants as ending
 use Rattle.zk_base.specs.declared.time.Moment.{Moment}
-use Rattle.zk_base.specs.Shelf.{Files, Outside, HasRisen}
+use Rattle.zk_base.specs.Shelf.{Files, Outside}
 use Rattle.zk_pcap.specs.declared.captures.Capture.{Capture}
 use Rattle.zk_pcap.specs.declared.captures.CaptureEnding.{CaptureEnding}
 use Rattle.zk_pcap.specs.declared.captures.CaptureEnding.TheVariants.{Whole, Cut}
 use Rattle.zk_load.specs.declared.found.Found.{Found}
 use Rattle.zk_load.specs.declared.found.Found.TheVariants.{Accepted, Refused}
 use Rattle.zk_load.specs.declared.stop.Stop.{Stop}
-use Rattle.zk_load.specs.Parts.{IsPrefix, IsRefusal, IsReadOf, DoesWithoutFault, DoesAll, DoesPart, Finds}
+use Rattle.zk_load.specs.Parts.{IsPrefix, IsRefusal, DoesWithoutFault, DoesAll, DoesPart, Finds}
 use Rattle.zk_load.proofs.Doing.{prefix_none, prefix_of_none, prefix_trans, without_fault_both, does_both_part}
 use Rattle.zk_logs.specs.Outputs.{files_over, OutputsBegun}
-use Rattle.zk_top.specs.Outcome.{Report, no_files, over_capture, opened, end_of_capture}
+use Rattle.zk_io.specs.Opened.{opened, end_of_capture}
+use Rattle.zk_top.specs.Outcome.{Report, no_files, over_capture}
 use Rattle.zk_top.specs.Parts.{IsOfCommand, Fulfils, BreaksOff, but_outputs}
 use Rattle.zk_top.specs.Run.{IsNotStopped}
 use Rattle.zk_top.specs.Writing.{GivesAll, GivesPart}
@@ -180,25 +181,4 @@ fulfilled_refused report file old e new found = record {
   said_is = λ inputs told. ap (λ r. (over_capture (report (inputs file)) (file ∷ []) r).said) (found.told inputs told);
   files_are = λ inputs told. no_file_written (over_capture (report (inputs file)) (file ∷ []) (opened file (inputs file))).files old.outputs new.outputs
       (sym (ap (λ r. (over_capture (report (inputs file)) (file ∷ []) r).files) (found.told inputs told))) found.does.does.outputs_stay;
-}
-
--- What is found in a file -----------------------------------------------------------------------------------------
-
--- what is read of the input that is told under a name
-pub told : (inputs : Option Files) (files : Files) (name : List ℕ) (found : Option (List ℕ)) (most : ℕ) → inputs ≡ Some files → IfSome inputs (λ fs. IsReadOf most (fs name) found) → IsReadOf most (files name) found
-told inputs files name found most is given = subst (λ o. IfSome o (λ fs. IsReadOf most (fs name) found)) is given
-
--- there is no capture
-lacks_capture : (file : List ℕ) (input : Option (List ℕ)) → IsReadOf (2 ^ 40) input None → Refused (ending.NoInput file) ≡ opened file input
-lacks_capture file None read = refl
-lacks_capture file (Some whole) read = absurd read
-
-pub found_no_capture : (file : List ℕ) (old new : Outside) → DoesWithoutFault (file ∷ []) [] [] old new → IfSome old.inputs (λ files. IsReadOf (2 ^ 40) (files file) None) → HasRisen old.absences new.absences
-    → Finds file (opened file) old (Refused (ending.NoInput file)) new
-found_no_capture file old new read lacks risen = record {
-  does = read;
-  told = λ inputs t. lacks_capture file (inputs file) (told old.inputs inputs file None (2 ^ 40) t lacks);
-  refusal = λ e same. let is : ending.NoInput file ≡ e = cc in subst IsRefusal is tt;
-  absent = λ name same. risen;
-  present = λ other. absurd (other file refl);
 }

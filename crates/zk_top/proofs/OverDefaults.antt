@@ -12,7 +12,7 @@ use Rattle.zk_load.specs.Loading.{Scripts, before_others, scripts_in}
 use Rattle.zk_load.specs.Script.{Refusal, accepted, script_of}
 use Rattle.zk_load.proofs.Doing.{does_nothing, does_nothing_without_fault, prefix_none, same_faults}
 use Rattle.zk_scripts.specs.Texts.{default_texts}
-use Rattle.zk_top.specs.declared.command.Settings.{Settings}
+use Rattle.zk_command.specs.declared.command.Settings.{Settings}
 use Rattle.zk_top.specs.Outcome.{Outcome, run_behind, run_scripts}
 use Rattle.zk_top.specs.Parts.{BreaksOff, Fulfils, IsOfCommand}
 use Rattle.zk_top.specs.Run.{IsNotStopped}

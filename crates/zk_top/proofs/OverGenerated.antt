@@ -20,25 +20,26 @@ use Rattle.zk_load.specs.declared.stop.Stop.{Stop}
 use Rattle.zk_load.specs.Loading.{Scripts}
 use Rattle.zk_load.specs.Parts.{DoesAll, DoesPart, Finds, IsRefusal}
 use Rattle.zk_load.proofs.Doing.{prefix_none, prefix_of_none, prefix_trans}
-use Rattle.zk_top.specs.declared.capture.CaptureReader.{CaptureReader}
-use Rattle.zk_top.specs.declared.command.Settings.{Settings}
+use Rattle.zk_io.specs.declared.capture.CaptureReader.{CaptureReader}
+use Rattle.zk_command.specs.declared.command.Settings.{Settings}
 use Rattle.zk_top.specs.declared.generated.Report.{Report}
 use Rattle.zk_top.specs.declared.replay.Came.TheVariants.{Through, Flooded}
 use Rattle.zk_top.specs.declared.runnable.Runnable.{Runnable}
 use Rattle.zk_top.specs.declared.summary.RowCounts.{RowCounts}
-use Rattle.zk_top.specs.Command.{no_options, settings_of}
+use Rattle.zk_command.specs.Command.{no_options, settings_of}
 use Rattle.zk_top.specs.Compiling.{IsCodeOf, Runs, program_by}
 use Rattle.zk_top.specs.Generated.{IsOf}
 use Rattle.zk_top.specs.Logged.{shown_row}
-use Rattle.zk_top.specs.Outcome.{Outcome, end_of_capture, end_of_run, generated, generated_name, generating, judged, link_in, no_files, opened, over_capture, summary_report, summing_up}
+use Rattle.zk_io.specs.Opened.{end_of_capture, judged, link_in, opened}
+use Rattle.zk_top.specs.Outcome.{Outcome, end_of_run, generated, generated_name, generating, no_files, over_capture, summary_report, summing_up}
 use Rattle.zk_top.specs.Parts.{BreaksOff, Fulfils, IsOfCommand}
 use Rattle.zk_top.specs.Printed.{progress_of}
-use Rattle.zk_top.specs.Reading.{IsCapture, OpensCapture}
+use Rattle.zk_io.specs.Reading.{IsCapture, OpensCapture}
 use Rattle.zk_top.specs.Replay.{came_of, progress_over}
 use Rattle.zk_top.specs.Script.{default_scripts}
 use Rattle.zk_top.specs.Summary.{counts_of, summary_of, summary_text}
 use Rattle.zk_top.proofs.Giving.{does_beside, no_file_begun, no_file_written, without_fault_beside}
-use Rattle.zk_top.proofs.OpenCapture.{capture_found}
+use Rattle.zk_io.proofs.OpenCapture.{capture_found}
 use Rattle.zk_top.proofs.OverCapture.{EndsItself, capture_ends, command_refusal, flood_ends, whole_refusal}
 use Rattle.zk_top.proofs.OverDefaults.{IsTextRefusal, before_refusal}
 use Rattle.zk_top.proofs.OverScript.{no_program}

@@ -16,10 +16,11 @@ use Rattle.zk_load.specs.Loading.{Loading, Scripts, loading}
 use Rattle.zk_load.specs.Loads.{LoadsAll, LoadsPart}
 use Rattle.zk_load.specs.Parts.{Does, DoesWithoutFault, IsPrefix, IsRefusal, SameAbsences}
 use Rattle.zk_load.proofs.Doing.{quiet_none, prefix_none, prefix_trans, prefix_behind, cause_since, does_both, without_fault_both}
-use Rattle.zk_top.specs.declared.command.Settings.{Settings}
+use Rattle.zk_command.specs.declared.command.Settings.{Settings}
 use Rattle.zk_top.specs.declared.runnable.Runnable.{Runnable}
 use Rattle.zk_top.specs.Compiling.{FindsCode, IsCodeOf, Runs, program_by}
-use Rattle.zk_top.specs.Outcome.{Outcome, Report, ending_so, over_capture, opened, link_in, run_report, running, run_behind, run_of}
+use Rattle.zk_io.specs.Opened.{opened, link_in}
+use Rattle.zk_top.specs.Outcome.{Outcome, Report, ending_so, over_capture, run_report, running, run_behind, run_of}
 use Rattle.zk_logs.specs.Outputs.{files_over, OutputsBegun}
 use Rattle.zk_top.specs.Parts.{Fulfils, BreaksOff, but_outputs}
 use Rattle.zk_top.specs.Script.{judged, kind_of, name_of, program_of, refused_at}

@@ -23,7 +23,7 @@ use Rattle.zk_value.specs.declared.out.Out.TheVariants as out
 use Rattle.zk_load.specs.declared.stop.Stop.TheVariants.{NoMemory}
 use Rattle.zk_load.proofs.Doing.{prefix_none}
 use Rattle.zk_top.specs.declared.player.Player.{Player}
-use Rattle.zk_top.specs.Line.{line_end}
+use Rattle.zk_io.specs.Said.{line_end}
 use Rattle.zk_top.specs.Logged.{dated, shown_atom, shown_cell, shown_column, shown_row}
 use Rattle.zk_top.specs.Printed.{with_line_ends}
 use Rattle.zk_top.specs.Replay.{Plays, output_at, told_at}

@@ -20,19 +20,19 @@ use Rattle.zk_load.proofs.Doing.{prefix_all, prefix_trans}
 use Rattle.zk_pcap.specs.declared.headers.Header.{Header}
 use Rattle.zk_pcap.specs.declared.captures.CaptureEnding.{CaptureEnding}
 use Rattle.zk_pcap.specs.NetworkTime.{now as network_time}
-use Rattle.zk_top.specs.declared.capture.CaptureReader.{CaptureReader}
+use Rattle.zk_io.specs.declared.capture.CaptureReader.{CaptureReader}
 use Rattle.zk_top.specs.declared.player.Player.{Player}
 use Rattle.zk_top.specs.declared.replay.Came.{Came}
 use Rattle.zk_top.specs.declared.replay.Came.TheVariants.{Through, Flooded}
 use Rattle.zk_top.specs.declared.replay.Replay.{Replay}
 use Rattle.zk_top.specs.Logged.{dated, end_time}
-use Rattle.zk_top.specs.Reading.{IsCapture, IsReading, IsReadThrough, SameInput}
+use Rattle.zk_io.specs.Reading.{IsCapture, IsReading, IsReadThrough, SameInput}
 use Rattle.zk_top.specs.declared.summary.RowCounts.{RowCounts}
 use Rattle.zk_top.specs.Summary.{counts_of}
 use Rattle.zk_top.specs.Replay.{After, Comes, Counts, HasFlooded, HasPlayed, HasRun, IsOver, IsRead, IsThrough, Plan, Plays, Replays, ReplaysPart, StopsOver, came_of, files_of, items_in, output_at, output_over, progress_over, time_of}
 use Rattle.zk_top.specs.Sink.{Beginning, HasTaken, TakesSome}
 use Rattle.zk_top.specs.Writing.{Output, Begins, GivesAll, GivesPart, output_of, told_by}
-use Rattle.zk_top.proofs.CaptureReading.{read_capture, reading_on}
+use Rattle.zk_io.proofs.CaptureReading.{read_capture, reading_on}
 use Rattle.zk_top.proofs.Giving.{some_further, begun_to_end}
 use Rattle.zk_top.proofs.Taking.{taken_on}
 use Rattle.zk_top.proofs.ItemLemmas.{no_items}

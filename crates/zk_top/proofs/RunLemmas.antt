@@ -8,17 +8,18 @@ use Rattle.zk_pcap.specs.declared.records.Packet.{Packet}
 use Rattle.zk_pcap.specs.NetworkTime.{now as network_time}
 use Rattle.zk_typed.specs.Program.{Program}
 use Rattle.zk_typed.specs.Running.{Progress, Goes, Floods, world_in}
-use Rattle.zk_top.specs.declared.capture.CaptureReader.{CaptureReader}
-use Rattle.zk_top.specs.declared.command.Settings.{Settings}
+use Rattle.zk_io.specs.declared.capture.CaptureReader.{CaptureReader}
+use Rattle.zk_command.specs.declared.command.Settings.{Settings}
 use Rattle.zk_top.specs.declared.runnable.Runnable.{Runnable}
 use Rattle.zk_top.specs.Compiling.{Runs}
-use Rattle.zk_top.specs.Outcome.{end_of_capture, end_of_run, link_in, run_report}
+use Rattle.zk_io.specs.Opened.{end_of_capture, link_in}
+use Rattle.zk_top.specs.Outcome.{end_of_run, run_report}
 use Rattle.zk_top.specs.declared.replay.Came.TheVariants.{Through, Flooded}
 use Rattle.zk_top.specs.Logged.{files_of_run}
 use Rattle.zk_top.specs.Printed.{progress_of, with_line_ends}
-use Rattle.zk_top.specs.Reading.{OpensCapture}
+use Rattle.zk_io.specs.Reading.{OpensCapture}
 use Rattle.zk_top.specs.Replay.{Plan, came_of, files_of, output_over, progress_over}
-use Rattle.zk_top.proofs.OpenCapture.{opened_link}
+use Rattle.zk_io.proofs.OpenCapture.{opened_link}
 use Rattle.zk_top.proofs.OverCapture.{IsReport}
 
 -- the plan of a run

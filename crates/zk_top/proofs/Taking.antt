@@ -14,7 +14,7 @@ use Rattle.zk_top.specs.Sink.{Beginning, CanTake, HasTaken, TakesSome}
 use Rattle.zk_top.specs.Summary.{and_one, and_row, counts_of, rows_at}
 use Rattle.zk_top.specs.Writing.{Begins, GivesSome, Output}
 use Rattle.zk_top.proofs.Giving.{all_beside, given_and_stopped, given_on, given_without_memory, no_file_begun, part_beside, ready_on}
-use Rattle.zk_top.proofs.Said.{stopped_after}
+use Rattle.zk_io.proofs.Said.{stopped_after}
 
 -- Counts ------------------------------------------------------------------------------------------------------------
 

@@ -1,15 +1,11 @@
-pub mod About
-pub mod Command
 pub mod Line
 pub mod Script
 pub mod Logged
 pub mod Printed
 pub mod Compiling
-pub mod Complaint
 pub mod Outcome
 pub mod Run
 pub mod Parts
-pub mod Reading
 pub mod Listing
 pub mod Writing
 pub mod Summary

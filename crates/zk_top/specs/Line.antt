@@ -9,6 +9,7 @@ use Rattle.zk_events.specs.Facts.{state_name}
 use Rattle.zk_events.specs.Http.{reason_number}
 use Rattle.zk_http.specs.declared.units.UnitKind.{UnitKind}
 use Rattle.zk_http.specs.declared.units.UnitKind.TheVariants as unit
+use Rattle.zk_io.specs.Said.{line_end}
 use Rattle.zk_pcap.specs.declared.records.Packet.{Packet}
 use Rattle.zk_text.specs.Address.{addr_text}
 use Rattle.zk_text.specs.Port.{proto_name}
@@ -18,9 +19,6 @@ use Rattle.zk_traffic.specs.declared.item.What.{What}
 use Rattle.zk_traffic.specs.declared.item.What.TheVariants as what
 use Rattle.zk_traffic.specs.declared.options.Options.{Options}
 use Rattle.zk_traffic.specs.Items.{items_of}
-
-abbrev pub line_end : List ℕ
-line_end = 10 ∷ []
 
 -- a field, behind a tab
 abbrev pub field : List ℕ → List ℕ

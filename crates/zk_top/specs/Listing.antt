@@ -4,17 +4,11 @@ use Rattle.zk_base.specs.Shelf.{Outside}
 use Rattle.zk_pcap.specs.declared.records.Packet.{Packet}
 use Rattle.zk_top.specs.declared.listing.Listing.{Listing}
 use Rattle.zk_top.specs.Line.{lines_of, list_options}
-use Rattle.zk_load.specs.Parts.{DoesAll, IsPrefix}
+use Rattle.zk_load.specs.Parts.{IsPrefix}
 use Rattle.zk_traffic.specs.declared.item.Item.{Item}
 use Rattle.zk_traffic.specs.declared.options.Options.{Options}
 use Rattle.zk_traffic.specs.Items.{items_of}
 use Rattle.zk_traffic.specs.Standing.{StandsFor}
-
--- what was said since the first outside, and the piece that waits, are the text
-pub record HasSaid (first : Outside) (text piece : List ℕ) (now : Outside) : Type 0 where
-  pub said : List ℕ
-  pub does : DoesAll [] said [] first now
-  pub joined : text ≡ said ++ piece
 
 -- the items of the packets so far are the first ones, whatever else comes
 abbrev pub ItemsStay : Type 0

@@ -1,29 +1,24 @@
 -- What a run of the program comes to, by its words and its inputs.
 use Rattle.std.specs.Prelude.{ℕ, List, [], ◌∷◌, ◌++◌, codes, length, Option, Some, None, Result, Ok, Err}
 use Rattle.zk_base.specs.declared.endings.Ending.{Ending}
-use Rattle.zk_base.specs.declared.endings.Ending.TheVariants.{Done, Usage, NoInput, CaptureRefused, CutShort, Flood}
+use Rattle.zk_base.specs.declared.endings.Ending.TheVariants.{Done, Usage, Flood}
 use Rattle.zk_base.specs.Shelf.{Files}
 use Rattle.zk_pcap.specs.declared.captures.Capture.{Capture}
 use Rattle.zk_pcap.specs.declared.captures.CaptureEnding.{CaptureEnding}
-use Rattle.zk_pcap.specs.declared.captures.CaptureEnding.TheVariants.{Whole, Cut}
-use Rattle.zk_pcap.specs.declared.faults.CaptureFault.{CaptureFault}
-use Rattle.zk_pcap.specs.declared.headers.Header.{Header}
-use Rattle.zk_pcap.specs.CaptureFault.{place_of}
-use Rattle.zk_pcap.specs.Header.{header_of}
-use Rattle.zk_pcap.specs.Capture.{capture_of}
 use Rattle.zk_typed.specs.Program.{Program}
 use Rattle.zk_typed.specs.Running.{Progress, Goes, Floods}
 use Rattle.zk_load.specs.declared.found.Found.{Found}
 use Rattle.zk_load.specs.declared.found.Found.TheVariants.{Accepted, Refused}
-use Rattle.zk_top.specs.About.{help_text, version_text}
+use Rattle.zk_command.specs.About.{help_text, version_text}
 use Rattle.zk_gen.specs.Capture as gen
-use Rattle.zk_top.specs.Command.{Command, ListItems, RunScripts, Generate, Help, Version, no_options, settings_of, understand}
+use Rattle.zk_command.specs.Command.{Command, ListItems, RunScripts, Generate, Help, Version, no_options, settings_of, understand}
 use Rattle.zk_top.specs.Compiling.{program_by}
-use Rattle.zk_top.specs.Complaint.{complaint_of}
+use Rattle.zk_command.specs.Complaint.{complaint_of}
+use Rattle.zk_io.specs.Opened.{end_of_capture, link_in, opened}
 use Rattle.zk_top.specs.Line.{capture_lines}
 use Rattle.zk_top.specs.Printed.{logged, progress_of, printed}
 use Rattle.zk_load.specs.Loading.{Scripts, loading}
-use Rattle.zk_top.specs.declared.command.Settings.{Settings}
+use Rattle.zk_command.specs.declared.command.Settings.{Settings}
 use Rattle.zk_top.specs.Script.{default_scripts, program_of, scripts_before}
 use Rattle.zk_top.specs.Summary.{summary_of}
 
@@ -62,39 +57,15 @@ reporting report asked = record {
 abbrev pub ending_so : Ending → List ℕ → List (List ℕ) → Outcome
 ending_so ending said asked = reporting (record { ending = ending; said = said; files = no_files }) asked
 
--- after the whole records of a capture
-abbrev pub end_of_capture : List ℕ → CaptureEnding → Ending
-end_of_capture file Whole = Done
-end_of_capture file (Cut place) = CutShort file place
-
 -- after a run over them that came so far
 abbrev pub end_of_run : List ℕ → CaptureEnding → Progress → Ending
 end_of_run file ending (Goes world left) = end_of_capture file ending
 end_of_run file ending (Floods world) = Flood world.time
 
--- the capture that was read from a file, or how it ends for the fault in it
-abbrev pub judged : List ℕ → Result Capture CaptureFault → Found Capture
-judged file (Err fault) = Refused (CaptureRefused file (place_of fault))
-judged file (Ok capture) = Accepted capture
-
--- the capture in a file with these bytes, or how it ends where there is none
-abbrev pub opened : List ℕ → Option (List ℕ) → Found Capture
-opened file None = Refused (NoInput file)
-opened file (Some bytes) = judged file (capture_of bytes)
-
 -- the report over a capture, or none, after these names were asked for
 abbrev pub over_capture : (Capture → Report) → List (List ℕ) → Found Capture → Outcome
 over_capture report asked (Refused ending) = ending_so ending [] asked
 over_capture report asked (Accepted capture) = reporting (report capture) asked
-
--- the link type of the frames in a file with this header, and 0 where it has none
-abbrev pub link_by : Result Header CaptureFault → ℕ
-link_by (Err fault) = 0
-link_by (Ok header) = header.link
-
-abbrev pub link_in : Option (List ℕ) → ℕ
-link_in None = 0
-link_in (Some bytes) = link_by (header_of bytes)
 
 -- what a listing reports over a capture with frames of a link type
 abbrev pub list_report : List ℕ → ℕ → Capture → Report

@@ -1,11 +1,11 @@
 -- What a part of a run does to the outside, up to its end or to where it is stopped.
-use Rattle.std.specs.Prelude.{◌≡◌, ◌≢◌, ◌⊎◌, ℕ, List, [], ◌++◌, Option, Some}
+use Rattle.std.specs.Prelude.{◌≡◌, ◌≢◌, ◌⊎◌, ℕ, List, [], Option, Some}
 use Rattle.std.specs.Option.{option_map}
 use Rattle.zk_base.specs.declared.endings.Ending.{Ending}
 use Rattle.zk_base.specs.declared.endings.Ending.TheVariants.{Done, Usage, ScriptRefused, NoInput, CaptureRefused, CutShort, ReadFault, WriteFault, NoMemory, Flood}
 use Rattle.zk_base.specs.Shelf.{Files, Outside, HasRisen}
 use Rattle.zk_load.specs.declared.stop.Stop.{Stop}
-use Rattle.zk_load.specs.Parts.{HasCause, IsQuiet, Does, DoesWithoutFault, DoesAll, IsPrefix, SameAbsences}
+use Rattle.zk_load.specs.Parts.{HasCause, IsQuiet, Does, DoesWithoutFault, IsPrefix, SameAbsences}
 use Rattle.zk_logs.specs.Outputs.{files_over, OutputsBegun}
 use Rattle.zk_top.specs.Outcome.{Outcome}
 use Rattle.zk_top.specs.Run.{IsNotStopped}
@@ -22,12 +22,6 @@ IsOfCommand ReadFault = ⊥
 IsOfCommand WriteFault = ⊥
 IsOfCommand NoMemory = ⊥
 IsOfCommand (Flood moment) = Unit {0}
-
--- Of a piece that waits to be said, a prefix is said and the rest waits on.
-pub record HandsOver (old : Outside) (piece : List ℕ) (new : Outside) (rest : List ℕ) : Type 0 where
-  pub said : List ℕ
-  pub does : DoesAll [] said [] old new
-  pub joined : piece ≡ said ++ rest
 
 -- what stands outside now, but for the outputs, which are those of before
 abbrev pub but_outputs : Outside → Outside → Outside

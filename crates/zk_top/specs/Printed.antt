@@ -11,8 +11,8 @@ use Rattle.zk_typed.specs.Predefined.{packet_seen}
 use Rattle.zk_typed.specs.Program.{Program}
 use Rattle.zk_typed.specs.Running.{Progress, world_in}
 use Rattle.zk_events.specs.Run.{run}
-use Rattle.zk_top.specs.declared.command.Settings.{Settings}
-use Rattle.zk_top.specs.Line.{line_end}
+use Rattle.zk_command.specs.declared.command.Settings.{Settings}
+use Rattle.zk_io.specs.Said.{line_end}
 use Rattle.zk_top.specs.Logged.{files_of_run}
 
 -- lines, each with its end

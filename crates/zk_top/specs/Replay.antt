@@ -20,7 +20,7 @@ use Rattle.zk_typed.specs.Program.{Program}
 use Rattle.zk_typed.specs.Running.{Progress, Goes, Floods, world_in}
 use Rattle.zk_load.specs.declared.stop.Stop.{Stop}
 use Rattle.zk_load.specs.Parts.{IsPrefix}
-use Rattle.zk_top.specs.declared.capture.CaptureReader.{CaptureReader}
+use Rattle.zk_io.specs.declared.capture.CaptureReader.{CaptureReader}
 use Rattle.zk_top.specs.declared.player.Player.{Player}
 use Rattle.zk_top.specs.declared.replay.Came.{Came}
 use Rattle.zk_top.specs.declared.replay.Came.TheVariants.{Through, Flooded}
@@ -28,7 +28,7 @@ use Rattle.zk_top.specs.declared.replay.Replay.{Replay}
 use Rattle.zk_top.specs.declared.summary.RowCounts.{RowCounts}
 use Rattle.zk_top.specs.Logged.{files_of_run}
 use Rattle.zk_top.specs.Summary.{counts_of}
-use Rattle.zk_top.specs.Reading.{IsCapture, IsReading, IsReadThrough, OverCapture}
+use Rattle.zk_io.specs.Reading.{IsCapture, IsReading, IsReadThrough, OverCapture}
 use Rattle.zk_top.specs.Sink.{Beginning, HasTaken, TakesSome}
 use Rattle.zk_top.specs.Writing.{Output, output_of, told_by, GivesAll, GivesPart}
 

@@ -4,7 +4,7 @@ use Rattle.std.specs.Str.{bytes_eq}
 use Rattle.zk_logs.specs.Logs.{Row}
 use Rattle.zk_typed.specs.Running.{Progress, Goes, Floods}
 use Rattle.zk_top.specs.declared.summary.RowCounts.{RowCounts}
-use Rattle.zk_top.specs.Line.{line_end}
+use Rattle.zk_io.specs.Said.{line_end}
 use Rattle.zk_top.specs.Logged.{shown_row}
 
 -- Rows --------------------------------------------------------------------------------------------------------------

@@ -16,8 +16,7 @@ use Rattle.zk_load.specs.declared.stop.Stop.{Stop}
 use Rattle.zk_load.specs.declared.stop.Stop.TheVariants as stop
 use Rattle.zk_load.specs.Parts.{DoesAll, DoesPart, IsPrefix}
 use Rattle.zk_top.specs.declared.writer.Writer.{Writer}
-use Rattle.zk_top.specs.Line.{line_end}
-use Rattle.zk_top.specs.Listing.{HasSaid}
+use Rattle.zk_io.specs.Said.{line_end, HasSaid}
 use Rattle.zk_top.specs.Logged.{dated, shown_row}
 use Rattle.zk_top.specs.Parts.{but_outputs}
 use Rattle.zk_top.specs.Printed.{with_line_ends}

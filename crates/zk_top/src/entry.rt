@@ -1,21 +1,21 @@
-ghost use Rattle.std.specs.Prelude.{◌≡◌, ◌≢◌, ◌⊎◌, ◌↔◌, [], List, ℕ, Some, Ok, Err, IfOk, IfErr};
+ghost use Rattle.std.specs.Prelude.{◌≡◌, ◌≢◌, ◌⊎◌, ◌↔◌, [], List, ℕ, Some, Ok, Err, IfOk, OnOk, IfErr};
 ghost use Rattle.zk_base.specs.Shelf.{Files, HasRisen, appended};
-ghost use Rattle.zk_top.specs.Command.{IsUnderstood, understand, command_seen};
-ghost use Rattle.zk_top.specs.Complaint.{complaint_of};
-ghost use Rattle.zk_top.specs.Outcome.{outcome, outcome_of};
+ghost use Rattle.zk_base.specs.declared.endings.Ending.TheVariants.{Done};
+ghost use Rattle.zk_command.specs.Command.{IsUnderstood, understand, command_seen};
+ghost use Rattle.zk_command.specs.Complaint.{complaint_of};
+ghost use Rattle.zk_top.specs.Outcome.{ending_so, outcome, outcome_of};
 ghost use Rattle.zk_top.specs.Parts.{IsOfCommand, Fulfils, BreaksOff};
-ghost use Rattle.zk_load.specs.Parts.{SameFaults, SameAbsences};
+ghost use Rattle.zk_load.specs.Parts.{DoesAll, DoesPart, SameFaults, SameAbsences};
 ghost use Rattle.zk_top.specs.Run.{IsNotStopped, IsDone, StaysWithin, SameComplaints};
 
-use crate::about::{help, version};
-use crate::command::{Command, read_command};
-use crate::complaint::complain;
 use crate::generated::generate;
 use crate::listing::list;
 use crate::running::run_scripts;
 use std::alloc::Global;
 use zk_base::{Ending, Shelf, Word};
-use zk_load::Stop;
+use zk_command::{Command, complaint_of, help, read_command, version};
+use zk_io::say;
+use zk_load::{Stop, written};
 
 /// Carries out the words of a command line over a shelf, and says how that ended. The words are
 /// those behind the program's own name.
@@ -98,7 +98,29 @@ fn perform<S: Shelf>(alloc: Global, command: Command<'_>, shelf: &mut S) -> Resu
             scripts,
         } => run_scripts(alloc, shelf, settings, file, scripts),
         Command::Generate { start, count } => generate(alloc, shelf, start, count),
-        Command::Help => help(shelf),
-        Command::Version => version(shelf),
+        Command::Help => answer(shelf, help()),
+        Command::Version => answer(shelf, version()),
     }
+}
+
+/// Says a text, and that is all.
+fn answer<S: Shelf>(shelf: &mut S, text: &[u8]) -> Result<Ending, Stop>
+    ensures done { IfOk result (λ ending. Fulfils (λ _. ending_so Done text.now []) [] (S.outside shelf.old) ending (S.outside shelf.new)) }
+    ensures command { IfOk result IsOfCommand }
+    ensures stopped { IfErr result (λ stop. BreaksOff (λ _. ending_so Done text.now []) (S.outside shelf.old) stop (S.outside shelf.new)) }
+{
+    say(shelf, text)?;
+    Ok(Ending::Done)
+}
+
+/// Complains of an ending on standard error, where there is something to complain of.
+fn complain<S: Shelf>(alloc: Global, shelf: &mut S, ending: &Ending) -> Result<(), Stop>
+    ensures done { OnOk result (DoesAll [] [] (complaint_of ending.now) (S.outside shelf.old) (S.outside shelf.new)) }
+    ensures stopped { IfErr result (λ stop. DoesPart [] [] (complaint_of ending.now) (S.outside shelf.old) stop (S.outside shelf.new)) }
+{
+    let complaint = complaint_of(alloc, ending)?;
+    if complaint.is_empty() {
+        return Ok(());
+    }
+    written(shelf.complain(&complaint))
 }

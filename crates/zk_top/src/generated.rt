@@ -4,22 +4,21 @@ ghost use Rattle.std.specs.Prelude.{◌≡◌, ◌<◌, ◌≤◌, [], List, ℕ
 ghost use Rattle.zk_base.specs.Shelf.{Files};
 ghost use Rattle.zk_gen.specs.Capture.{capture_of};
 ghost use Rattle.zk_typed.specs.Program.{Program};
-ghost use Rattle.zk_top.specs.Command.{count_max};
+ghost use Rattle.zk_command.specs.Command.{count_max};
 ghost use Rattle.zk_top.specs.Compiling.{Runs};
 ghost use Rattle.zk_top.specs.Generated.{IsOf};
 ghost use Rattle.zk_top.specs.Outcome.{generated_name, generating, summing_up};
 ghost use Rattle.zk_top.specs.Parts.{BreaksOff, Fulfils, IsOfCommand};
 
-use crate::capture::{CHUNK, CaptureReader, end_of};
-use crate::command::{BUDGET, BUFFER};
-use crate::output::say;
 use crate::replay::{Came, count_rows};
 use crate::runnable::Runnable;
 use crate::scripts::default_program;
 use crate::summary::summary_text;
 use std::alloc::Global;
 use zk_base::{Bytes, Ending, Mem, Shelf, SureShelf};
+use zk_command::{BUDGET, BUFFER};
 use zk_gen::capture;
+use zk_io::{CHUNK, CaptureReader, end_of, say};
 use zk_load::{Found, Stop};
 use zk_traffic::Options;
 

@@ -8,15 +8,14 @@ ghost use Rattle.zk_top.specs.Line.{capture_lines, lines_of, list_options};
 ghost use Rattle.zk_top.specs.Outcome.{listing};
 ghost use Rattle.zk_load.specs.Parts.{DoesAll, DoesPart};
 ghost use Rattle.zk_top.specs.Parts.{Fulfils, BreaksOff, IsOfCommand};
-ghost use Rattle.zk_top.specs.Reading.{IsReading, IsUnderWay, SameInput, SaysAll, SaysPart};
+ghost use Rattle.zk_io.specs.Reading.{IsReading, IsUnderWay, SameInput, SaysAll, SaysPart};
 ghost use Rattle.zk_traffic.specs.Items.{items_of};
 ghost use Rattle.zk_traffic.specs.declared.item.Item.{Item as ItemData};
 
-use crate::capture::{CHUNK, CaptureReader, end_of};
 use crate::line::push_item_line;
-use crate::output::{PIECE, make_room, say};
 use std::alloc::Global;
 use zk_base::{Ending, Mem, Shelf};
+use zk_io::{CHUNK, CaptureReader, PIECE, end_of, make_room, say};
 use zk_load::{Found, Stop};
 use zk_pcap::PacketView;
 use zk_traffic::{Options, Traffic, items_stay};

@@ -7,7 +7,7 @@ ghost use Rattle.zk_lower.specs.Told.{Told};
 ghost use Rattle.zk_lower.specs.View as lower;
 ghost use Rattle.zk_traffic.specs.declared.item.Item.{Item as ItemData};
 ghost use Rattle.zk_typed.specs.Program.{Program};
-ghost use Rattle.zk_top.specs.Reading.{SameInput};
+ghost use Rattle.zk_io.specs.Reading.{SameInput};
 ghost use Rattle.zk_top.specs.Sink.{Beginning, CanTake, HasTaken, TakesSome};
 ghost use Rattle.zk_top.specs.Writing.{no_output};
 

@@ -3,6 +3,7 @@ ghost use Rattle.zk_base.specs.Shelf.{Outside};
 ghost use Rattle.zk_events.specs.Run.{Begun, New, run};
 ghost use Rattle.zk_lower.specs.Lowering.{lowered};
 ghost use Rattle.zk_lower.specs.View as lower;
+ghost use Rattle.zk_pcap.specs.NetworkTime.{later};
 ghost use Rattle.zk_pcap.specs.Record.{IsBounded};
 ghost use Rattle.zk_pcap.specs.View.{packet_of};
 ghost use Rattle.zk_pcap.specs.declared.headers.Header.{Header as HeaderData};
@@ -10,12 +11,11 @@ ghost use Rattle.zk_pcap.specs.declared.records.Packet.{Packet as PacketData};
 ghost use Rattle.zk_traffic.specs.declared.item.Item.{Item as ItemData};
 ghost use Rattle.zk_typed.specs.Program.{Program};
 ghost use Rattle.zk_typed.specs.Running.{world_in};
-ghost use Rattle.zk_top.specs.Reading.{IsReading, IsUnderWay, SameInput};
+ghost use Rattle.zk_io.specs.Reading.{IsReading, IsUnderWay, SameInput};
 ghost use Rattle.zk_top.specs.Replay.{Counts, Plan, Replays, ReplaysPart};
 ghost use Rattle.zk_top.specs.Sink.{Beginning, CanTake, Counted, HasTaken, TakesSome, Written};
 ghost use Rattle.zk_top.specs.Writing.{no_output, output_of, told_by};
 
-use crate::capture::{CaptureReader, later};
 use crate::player::Player;
 use crate::sink::Sink;
 use crate::summary::RowCounts;
@@ -23,6 +23,7 @@ use crate::writer::Writer;
 use std::alloc::Global;
 use zk_base::{Mem, Moment, Shelf};
 use zk_events::{ItemEnd, lines_stay};
+use zk_io::CaptureReader;
 use zk_load::Stop;
 use zk_lower::Code;
 use zk_pcap::PacketView;
@@ -339,4 +340,11 @@ pub fn replay_capture<S: Shelf>(
     let sink = Sink::Written(writer);
     let mut replay = Replay::new(alloc, options, reader.link(), code, budget, sink)?;
     replay.play(shelf, chunk, reader)
+}
+
+/// The later of two moments.
+fn later(a: Moment, b: Moment) -> Moment
+    ensures { result ≡ later a b }
+{
+    if a < b { b } else { a }
 }

@@ -1,16 +1,17 @@
 ghost use Rattle.std.specs.Prelude.{◌≡◌, ◌<◌, ◌≤◌, [], ◌∷◌, length, IfOk, IfErr};
 ghost use Rattle.zk_typed.specs.Program.{Program};
 ghost use Rattle.zk_top.specs.Compiling.{Runs};
-ghost use Rattle.zk_top.specs.Outcome.{over_capture, opened, link_in, run_behind, run_report, run_scripts};
+ghost use Rattle.zk_io.specs.Opened.{opened, link_in};
+ghost use Rattle.zk_top.specs.Outcome.{over_capture, run_behind, run_report, run_scripts};
 ghost use Rattle.zk_top.specs.Parts.{Fulfils, BreaksOff, IsOfCommand};
 
-use crate::capture::{CHUNK, CaptureReader, end_of};
-use crate::command::Settings;
 use crate::replay::{Came, replay_capture};
 use crate::runnable::Runnable;
 use crate::scripts::{read_program, scripts_before};
 use std::alloc::Global;
 use zk_base::{Bytes, Ending, Sequence, Shelf, Word};
+use zk_command::Settings;
+use zk_io::{CHUNK, CaptureReader, end_of};
 use zk_load::{Found, Stop};
 use zk_traffic::Options;
 use zk_tree::Tree;

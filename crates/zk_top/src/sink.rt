@@ -1,7 +1,7 @@
 ghost use Rattle.std.specs.Prelude.{◌≡◌, IfOk, OnOk, IfErr};
 ghost use Rattle.zk_top.specs.Logged.{dated};
 ghost use Rattle.zk_base.specs.Shelf.{Outside};
-ghost use Rattle.zk_top.specs.Reading.{SameInput};
+ghost use Rattle.zk_io.specs.Reading.{SameInput};
 ghost use Rattle.zk_top.specs.Summary.{counts_of, no_rows};
 ghost use Rattle.zk_top.specs.Writing.{GivesAll, GivesPart, Output, and_out};
 ghost use Rattle.zk_logs.specs.Logs.{log_files};

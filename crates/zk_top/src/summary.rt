@@ -1,5 +1,5 @@
 ghost use Rattle.std.specs.Prelude.{◌≡◌, ◌++◌, codes, decimal, IfOk, OnOk};
-ghost use Rattle.zk_top.specs.Line.{line_end};
+ghost use Rattle.zk_io.specs.Said.{line_end};
 ghost use Rattle.zk_top.specs.Summary.{and_one, and_row, no_rows, summary_line, summary_text};
 
 use std::alloc::{AllocError, Global};

@@ -3,12 +3,12 @@ ghost use Rattle.zk_ascii.specs.Dates.{HasDate};
 ghost use Rattle.zk_base.specs.Shelf.{Outside};
 ghost use Rattle.zk_logs.specs.Logs.{log_files};
 ghost use Rattle.zk_top.specs.Logged.{dated};
-ghost use Rattle.zk_top.specs.Reading.{SameInput};
+ghost use Rattle.zk_io.specs.Reading.{SameInput};
 ghost use Rattle.zk_top.specs.Writing.{stopped_by};
 
-use crate::output::{PIECE, push_line, say};
 use std::alloc::Global;
 use zk_base::{Mem, Moment, Shelf};
+use zk_io::{PIECE, push_line, say};
 use zk_load::Stop;
 use zk_logs::{LogFault, LogFiles, what_is_written_stays};
 use zk_value::Out;

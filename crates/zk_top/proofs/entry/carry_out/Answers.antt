@@ -1,8 +1,8 @@
 use Rattle.std.proofs.Common.{[], IfOk, IfErr, sym, subst}
-use Rattle.zk_top.specs.Command.{command_seen}
+use Rattle.zk_command.specs.Command.{command_seen}
 use Rattle.zk_top.specs.Outcome.{outcome_of}
 use Rattle.zk_top.specs.Parts.{BreaksOff, Fulfils}
-use Rattle.zk_top.proofs.CommandLaws.{understood}
+use Rattle.zk_command.proofs.CommandLaws.{understood}
 use Rattle.zk_top.proofs.EntryLemmas.{not_understood}
 use Rattle.zk_top.proofs.entry.carry_out.Goals as goal
 

@@ -1,9 +1,9 @@
 use Rattle.std.proofs.Common.{sym, subst, ◌∙◌}
 use Rattle.zk_base.specs.Shelf.{lies_under}
 use Rattle.zk_pcap.specs.NetworkTime.{now as network_time}
-use Rattle.zk_top.specs.Command.{no_options, settings_of}
+use Rattle.zk_command.specs.Command.{no_options, settings_of}
 use Rattle.zk_top.specs.Outcome.{generated_name}
-use Rattle.zk_top.specs.Reading.{FindsCapture, OpensCapture}
+use Rattle.zk_io.specs.Reading.{FindsCapture, OpensCapture}
 use Rattle.zk_top.specs.Replay.{IsRead, progress_over}
 use Rattle.zk_top.proofs.OverGenerated.{flooded_summary, played_summary, refused_summary, through_summary}
 use Rattle.zk_top.proofs.RunLemmas.{plan_of}

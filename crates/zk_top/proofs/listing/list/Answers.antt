@@ -1,6 +1,7 @@
 use Rattle.std.proofs.Common.{[], ◌∷◌, refl}
 use Rattle.std.proofs.lemmas.Result.{err_from_is_err_and}
-use Rattle.zk_top.specs.Outcome.{link_in, list_report}
+use Rattle.zk_io.specs.Opened.{link_in}
+use Rattle.zk_top.specs.Outcome.{list_report}
 use Rattle.zk_load.proofs.Doing.{out_of_memory}
 use Rattle.zk_top.proofs.OverCapture.{broken_before}
 use Rattle.zk_load.specs.declared.stop.Stop.TheVariants.{NoMemory}

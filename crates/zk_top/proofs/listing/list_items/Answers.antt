@@ -4,11 +4,11 @@ use Rattle.zk_pcap.specs.View.{packet_of}
 use Rattle.zk_load.specs.declared.stop.Stop.TheVariants.{NoMemory}
 use Rattle.zk_top.specs.Line.{capture_lines, lines_of, list_options}
 use Rattle.zk_top.specs.Listing.{HasListed}
-use Rattle.zk_top.proofs.CaptureReading.{reading_on, read_capture, says_part, says_part_next, same_place, later_place}
+use Rattle.zk_io.proofs.CaptureReading.{reading_on, read_capture, says_part, says_part_next, same_place, later_place}
 use Rattle.zk_load.proofs.Doing.{out_of_memory, does_part_of, prefix_all}
 use Rattle.zk_top.proofs.ItemLemmas.{no_items}
 use Rattle.zk_top.proofs.ListingLemmas.{lines_begin, listed_on}
-use Rattle.zk_top.proofs.Said.{on_ok_both, stopped_after}
+use Rattle.zk_io.proofs.Said.{on_ok_both, stopped_after}
 use Rattle.zk_traffic.specs.Items.{items_of}
 use Rattle.zk_top.proofs.listing.list_items.Goals as goal
 

@@ -2,7 +2,7 @@ use Rattle.std.proofs.Common.{◌-◌, ◌^◌, ℕ, List, [], Option}
 use Rattle.zk_pcap.specs.declared.headers.Header.{Header}
 use Rattle.zk_pcap.specs.declared.records.Packet.{Packet}
 use Rattle.zk_top.specs.Listing.{HasListedAll}
-use Rattle.zk_top.specs.Reading.{IsReading, IsUnderWay}
+use Rattle.zk_io.specs.Reading.{IsReading, IsUnderWay, next_place}
 use Rattle.zk_top.proofs.listing.list_items.Given as goal
 
 -- the packets so far are listed
@@ -16,4 +16,4 @@ invariant-packets g l = record {
 
 -- the bytes that count and aren't passed become fewer
 abbrev pub decreases-packets : goal.decreases-packets
-decreases-packets g l = 2 ^ 41 - l.reader.feed.place
+decreases-packets g l = 2 ^ 41 - next_place l.reader

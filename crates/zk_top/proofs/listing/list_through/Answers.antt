@@ -2,12 +2,13 @@ use Rattle.std.proofs.Common.{refl, sym, ap, subst}
 use Rattle.std.proofs.lemmas.Result.{err_from_is_err_and}
 use Rattle.zk_base.specs.Shelf.{lies_under}
 use Rattle.zk_load.specs.declared.stop.Stop.TheVariants.{NoMemory}
-use Rattle.zk_top.specs.Outcome.{link_in, list_report, no_files}
+use Rattle.zk_io.specs.Opened.{link_in}
+use Rattle.zk_top.specs.Outcome.{list_report, no_files}
 use Rattle.zk_top.specs.Line.{capture_lines}
-use Rattle.zk_top.specs.Reading.{FindsCapture, OpensCapture}
-use Rattle.zk_top.proofs.OpenCapture.{capture_found, opened_link}
+use Rattle.zk_io.specs.Reading.{FindsCapture, OpensCapture}
+use Rattle.zk_io.proofs.OpenCapture.{capture_found, opened_link}
 use Rattle.zk_top.proofs.OverCapture.{broken_before, broken_within, capture_ends, fulfilled, fulfilled_refused, command_refusal, said_alone, said_part_alone}
-use Rattle.zk_top.proofs.Said.{memory_behind}
+use Rattle.zk_io.proofs.Said.{memory_behind}
 use Rattle.zk_top.proofs.listing.list_through.Goals as goal
 
 pub returns-in_err-reader-clause-stopped : goal.returns-in_err-reader-clause-stopped

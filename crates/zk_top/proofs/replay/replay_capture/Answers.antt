@@ -6,7 +6,7 @@ use Rattle.zk_events.specs.Run.{New}
 use Rattle.zk_top.specs.Replay.{Comes, Plan, files_of, output_over}
 use Rattle.zk_top.specs.Sink.{Beginning, CanTake, Written}
 use Rattle.zk_top.specs.Writing.{GivesPart}
-use Rattle.zk_top.proofs.CaptureReading.{over_capture_begun}
+use Rattle.zk_io.proofs.CaptureReading.{over_capture_begun}
 use Rattle.zk_top.proofs.Giving.{nothing_given}
 use Rattle.zk_top.proofs.replay.replay_capture.Goals as goal
 

@@ -3,11 +3,12 @@ use Rattle.std.proofs.lemmas.Result.{err_from_is_err_and}
 use Rattle.zk_base.specs.Shelf.{lies_under}
 use Rattle.zk_load.specs.declared.stop.Stop.TheVariants.{NoMemory}
 use Rattle.zk_pcap.specs.NetworkTime.{now as network_time}
-use Rattle.zk_top.specs.Outcome.{link_in, run_report}
-use Rattle.zk_top.specs.Reading.{FindsCapture, OpensCapture}
+use Rattle.zk_io.specs.Opened.{link_in}
+use Rattle.zk_top.specs.Outcome.{run_report}
+use Rattle.zk_io.specs.Reading.{FindsCapture, OpensCapture}
 use Rattle.zk_top.specs.Replay.{IsRead, came_of, files_of, output_over}
 use Rattle.zk_top.proofs.Giving.{memory_behind_all}
-use Rattle.zk_top.proofs.OpenCapture.{capture_found}
+use Rattle.zk_io.proofs.OpenCapture.{capture_found}
 use Rattle.zk_top.proofs.OverCapture.{broken_before, broken_within, capture_ends, flood_ends, fulfilled, fulfilled_refused, command_refusal}
 use Rattle.zk_top.proofs.RunLemmas.{plan_of, replayed_progress, replayed_report, ends_through, ends_flooded}
 use Rattle.zk_top.proofs.running.run_through.Goals as goal

@@ -5,7 +5,7 @@ use Rattle.zk_load.specs.Parts.{DoesAll, DoesPart}
 use Rattle.zk_load.proofs.Doing.{prefix_all}
 use Rattle.zk_top.proofs.ItemLemmas.{items_end}
 use Rattle.zk_top.proofs.ListingLemmas.{lines_prefix}
-use Rattle.zk_top.proofs.Said.{said_all_of, said_part_of, memory_after}
+use Rattle.zk_io.proofs.Said.{said_all_of, said_part_of, memory_after}
 use Rattle.zk_traffic.specs.Items.{items_of}
 use Rattle.zk_top.proofs.listing.Listing.end.Goals as goal
 

@@ -1,8 +1,8 @@
 use Rattle.std.proofs.Common.{[], sym, subst}
 use Rattle.zk_top.specs.Line.{list_options}
-use Rattle.zk_top.specs.Listing.{HasSaid}
+use Rattle.zk_io.specs.Said.{HasSaid}
 use Rattle.zk_load.proofs.Doing.{prefix_none}
-use Rattle.zk_top.proofs.Said.{said_nothing}
+use Rattle.zk_io.proofs.Said.{said_nothing}
 use Rattle.zk_traffic.specs.Items.{items_of}
 use Rattle.zk_top.proofs.listing.Listing.new.Goals as goal
 

@@ -1,10 +1,11 @@
 use Rattle.std.proofs.Common.{[], ◌∷◌, ◌++◌, sym, subst, ◌∙◌}
 use Rattle.std.proofs.lemmas.Result.{err_from_is_err_and}
 use Rattle.zk_top.specs.Line.{line_of, lines_of, list_options}
-use Rattle.zk_top.specs.Listing.{HasListed, HasSaid}
+use Rattle.zk_io.specs.Said.{HasSaid}
+use Rattle.zk_top.specs.Listing.{HasListed}
 use Rattle.zk_top.proofs.ItemLemmas.{prefix_next}
 use Rattle.zk_top.proofs.ListingLemmas.{lines_prefix, next_line}
-use Rattle.zk_top.proofs.Said.{said_over, said_more, said_part_of, memory_after}
+use Rattle.zk_io.proofs.Said.{said_over, said_more, said_part_of, memory_after}
 use Rattle.zk_traffic.specs.Items.{items_of}
 use Rattle.zk_top.proofs.listing.Listing.take_items.Goals as goal
 

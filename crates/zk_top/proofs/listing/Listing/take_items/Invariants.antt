@@ -2,7 +2,7 @@ use Rattle.std.proofs.Common.{ℕ, Bool, List}
 use Rattle.zk_base.specs.Shelf.{Outside}
 use Rattle.zk_pcap.specs.declared.records.Packet.{Packet}
 use Rattle.zk_top.specs.Listing.{HasListed}
-use Rattle.zk_top.specs.Reading.{SameInput}
+use Rattle.zk_io.specs.Reading.{SameInput}
 use Rattle.zk_traffic.specs.declared.item.Item.{Item}
 use Rattle.zk_traffic.specs.Standing.{waiting}
 use Rattle.zk_top.proofs.listing.Listing.take_items.Given as goal

@@ -4,7 +4,7 @@ use Rattle.zk_pcap.specs.View.{packet_of}
 use Rattle.zk_top.specs.Line.{lines_of, list_options}
 use Rattle.zk_top.proofs.ItemLemmas.{items_begin, bounded_moment}
 use Rattle.zk_top.proofs.ListingLemmas.{lines_prefix}
-use Rattle.zk_top.proofs.Said.{memory_after}
+use Rattle.zk_io.proofs.Said.{memory_after}
 use Rattle.zk_traffic.specs.Items.{items_of}
 use Rattle.zk_top.proofs.listing.Listing.take_packet.Goals as goal
 

@@ -3,7 +3,7 @@ use Rattle.zk_events.specs.Run.{Stage}
 use Rattle.zk_events.specs.Standing.{waiting}
 use Rattle.zk_lower.specs.Told.{Told}
 use Rattle.zk_typed.specs.Program.{Program}
-use Rattle.zk_top.specs.Reading.{SameInput}
+use Rattle.zk_io.specs.Reading.{SameInput}
 use Rattle.zk_top.specs.Replay.{Gives}
 use Rattle.zk_top.specs.Sink.{Beginning, CanTake}
 use Rattle.zk_top.proofs.player.Player.give_all.Given as goal

@@ -4,7 +4,7 @@ use Rattle.zk_load.specs.Parts.{IsPrefix}
 use Rattle.zk_load.proofs.Doing.{prefix_none}
 use Rattle.zk_top.specs.Replay.{After, HasFlooded, items_in, output_over}
 use Rattle.zk_top.specs.Sink.{TakesSome}
-use Rattle.zk_top.proofs.CaptureReading.{reading_on, capture_begun, over_capture_begun}
+use Rattle.zk_io.proofs.CaptureReading.{reading_on, capture_begun, over_capture_begun}
 use Rattle.zk_top.proofs.ItemLemmas.{items_begin}
 use Rattle.zk_top.proofs.Replaying.{part_to_end, flood_further, flooded_run}
 use Rattle.zk_top.proofs.replay.Replay.run.Goals as goal

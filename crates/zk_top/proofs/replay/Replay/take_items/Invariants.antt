@@ -3,7 +3,7 @@ use Rattle.zk_events.specs.Run.{Begun}
 use Rattle.zk_pcap.specs.declared.records.Packet.{Packet}
 use Rattle.zk_traffic.specs.declared.item.Item.{Item}
 use Rattle.zk_traffic.specs.Standing.{waiting}
-use Rattle.zk_top.specs.Reading.{SameInput}
+use Rattle.zk_io.specs.Reading.{SameInput}
 use Rattle.zk_top.specs.Replay.{Comes, Plan}
 use Rattle.zk_top.specs.Sink.{Beginning, CanTake}
 use Rattle.zk_top.proofs.replay.Replay.take_items.Given as goal

@@ -5,7 +5,7 @@ use Rattle.zk_pcap.specs.View.{packet_of}
 use Rattle.zk_load.specs.Parts.{IsPrefix}
 use Rattle.zk_top.specs.Replay.{After, HasFlooded, HasPlayed, items_in, output_at, output_over}
 use Rattle.zk_top.specs.Sink.{TakesSome}
-use Rattle.zk_top.proofs.CaptureReading.{reading_on, capture_begun_next, over_capture_begun, over_capture_next, same_place, later_place}
+use Rattle.zk_io.proofs.CaptureReading.{reading_on, capture_begun_next, over_capture_begun, over_capture_next, same_place, later_place}
 use Rattle.zk_top.proofs.Taking.{taken_and_stopped, can_take_on}
 use Rattle.zk_top.proofs.ItemLemmas.{items_begin, next_now}
 use Rattle.zk_top.proofs.Replaying.{comes_given, given_to_end, part_to_end, plays_on, flood_further, no_flood}

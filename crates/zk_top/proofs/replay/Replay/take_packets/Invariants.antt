@@ -2,7 +2,7 @@ use Rattle.std.proofs.Common.{◌≡◌, ◌-◌, ◌^◌, ℕ, List, [], false,
 use Rattle.zk_pcap.specs.declared.headers.Header.{Header}
 use Rattle.zk_pcap.specs.declared.records.Packet.{Packet}
 use Rattle.zk_pcap.specs.NetworkTime.{now as network_time}
-use Rattle.zk_top.specs.Reading.{IsReading, IsUnderWay}
+use Rattle.zk_io.specs.Reading.{IsReading, IsUnderWay, next_place}
 use Rattle.zk_top.specs.Replay.{HasPlayed, Plan}
 use Rattle.zk_top.specs.Sink.{Beginning, CanTake}
 use Rattle.zk_top.proofs.replay.Replay.take_packets.Given as goal
@@ -20,4 +20,4 @@ invariant-packets g l = record {
 
 -- each turn goes behind a packet
 abbrev pub decreases-packets : goal.decreases-packets
-decreases-packets g l = 2 ^ 41 - l.reader.feed.place
+decreases-packets g l = 2 ^ 41 - next_place l.reader

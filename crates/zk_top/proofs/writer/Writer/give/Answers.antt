@@ -1,8 +1,7 @@
 use Rattle.std.proofs.Common.{◌++◌, refl, sym, subst, OnOk, IfErr}
 use Rattle.zk_value.specs.declared.out.Out.TheVariants as out
 use Rattle.zk_base.specs.Shelf.{Outside}
-use Rattle.zk_top.specs.Line.{line_end}
-use Rattle.zk_top.specs.Parts.{HandsOver}
+use Rattle.zk_io.specs.Said.{line_end, HandsOver}
 use Rattle.zk_top.specs.Writing.{Output, HasGiven, GivesSome, and_out}
 use Rattle.zk_top.proofs.Giving.{give_line, give_line_stopped, give_row, give_row_stopped, same_row}
 use Rattle.zk_top.proofs.writer.Writer.give.Goals as goal

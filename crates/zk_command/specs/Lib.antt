@@ -1,0 +1,3 @@
+pub mod About
+pub mod Command
+pub mod Complaint

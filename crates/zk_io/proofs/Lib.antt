@@ -1,0 +1,3 @@
+pub mod CaptureReading
+pub mod OpenCapture
+pub mod Said

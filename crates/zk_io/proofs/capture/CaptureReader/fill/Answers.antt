@@ -1,0 +1,24 @@
+use Rattle.std.proofs.Common.{◌≡◌, ◌⊎◌, ℕ, ◌+◌, ◌<◌, ◌≤◌, Bool, true, false, cond, [], inl, inr, arith}
+use Rattle.zk_load.proofs.Doing.{does_both_all}
+use Rattle.zk_io.proofs.capture.CaptureReader.fill.Goals as goal
+
+smaller : (left less : ℕ) (out after : Bool) → out ≡ false → less ≤ left → (after ≡ true) ⊎ (less < left) → less + cond after 0 1 < left + cond out 0 1
+smaller left less true after going no_more why = absurd (let never : ⊥ = cc in never)
+smaller left less false true going no_more why = omega arith
+smaller left less false false going no_more (inl ended) = absurd (let never : ⊥ = cc in never)
+smaller left less false false going no_more (inr fewer) = omega arith
+
+pub pieces-smaller : goal.pieces-smaller
+pieces-smaller g c =
+    smaller c.pieces.self.left c.read_piece.new.self.left c.pieces.self.is_read_out c.read_piece.new.self.is_read_out c.if-self.false
+    c.in_ok-read_piece.ensures.no_more c.in_ok-read_piece.ensures.less
+
+pub pieces-preserved : goal.pieces-preserved
+pieces-preserved g c = record {
+  does = does_both_all [] [] [] [] [] [] (g.S.Shelf.outside c.args.shelf.now) (g.S.Shelf.outside c.pieces.shelf) (g.S.Shelf.outside c.read_piece.new.shelf)
+      c.pieces.invariant.does c.in_ok-read_piece.ensures.read;
+  input = c.in_ok-read_piece.ensures.input;
+  goes_on = λ whole header bytes packets is.
+      let far = c.pieces.invariant.goes_on whole header bytes packets is in
+      c.in_ok-read_piece.ensures.goes_on whole header far.0 packets far.1;
+}

@@ -1,0 +1,21 @@
+use Rattle.std.proofs.Common.{ℕ, ◌+◌, List, [], Option, IsTrue, if◌then◌else◌}
+use Rattle.zk_base.specs.Shelf.{is_open}
+use Rattle.zk_pcap.specs.declared.headers.Header.{Header}
+use Rattle.zk_pcap.specs.declared.records.Packet.{Packet}
+use Rattle.zk_load.specs.Parts.{DoesAll}
+use Rattle.zk_io.specs.Reading.{IsReading}
+use Rattle.zk_io.proofs.capture.CaptureReader.fill.Given as goal
+
+-- nothing but reading was done, and the reader goes on
+abbrev pub invariant-pieces : goal.invariant-pieces
+invariant-pieces g l = record {
+  does : DoesAll [] [] [] (g.S.Shelf.outside l.initial.shelf) (g.S.Shelf.outside l.shelf);
+  input : IsTrue (is_open (g.S.Shelf.outside l.shelf).reading);
+  goes_on : (whole : Option (List ℕ)) (header : Header) (bytes : List ℕ) (packets : List Packet)
+      → IsReading whole header bytes packets l.initial.self (g.S.Shelf.outside l.initial.shelf)
+      → (longer : List ℕ) × IsReading whole header longer packets l.self (g.S.Shelf.outside l.shelf);
+}
+
+-- each turn but the last reads a byte at least
+abbrev pub decreases-pieces : goal.decreases-pieces
+decreases-pieces g l = l.self.left + (if l.self.is_read_out then 0 else 1)

@@ -1,0 +1,65 @@
+ghost use Rattle.std.specs.Prelude.{◌≡◌, ◌⊎◌, ◌+◌, ◌≤◌, ◌<◌, ◌++◌, ℕ, List, Option, [], true, false, length, take, IsTrue, IfSome, IfOk, OnOk, IfErr};
+ghost use Rattle.zk_base.specs.Shelf.{is_open, rest_of};
+ghost use Rattle.zk_pcap.specs.Header.{header_of};
+ghost use Rattle.zk_load.specs.Parts.{DoesAll, DoesPart};
+ghost use Rattle.zk_io.specs.Reading.{HasRead, is_short};
+
+use std::alloc::Global;
+use zk_base::{Bytes, Got, Shelf};
+use zk_load::Stop;
+use zk_pcap::{CaptureFault, Header};
+
+/// Reads the first bytes of the open input, up to those by which the header is judged.
+pub fn read_front<S: Shelf>(alloc: Global, shelf: &mut S, chunk: &mut [u8]) -> Result<Bytes, Stop>
+    requires room { 0 < length chunk.old }
+    requires input { IsTrue (is_open (S.outside shelf.old).reading) }
+    ensures read { OnOk result (DoesAll [] [] [] (S.outside shelf.old) (S.outside shelf.new)) }
+    ensures input { OnOk result (IsTrue (is_open (S.outside shelf.new).reading)) }
+    ensures front { IfOk result (λ front. HasRead (rest_of (S.outside shelf.old)) front (S.outside shelf.new)) }
+    ensures judged { IfOk result (λ front. (is_short (header_of front) ≡ false) ⊎ IfSome (rest_of (S.outside shelf.new)) (λ rest. rest ≡ [])) }
+    ensures short { IfOk result (λ front. length front ≤ 23 + length chunk.old) }
+    ensures stopped { IfErr result (λ stop. DoesPart [] [] [] (S.outside shelf.old) stop (S.outside shelf.new)) }
+{
+    let mut front = Bytes::new(alloc);
+    while is_undecided(front.as_slice()) {
+        match shelf.read(chunk) {
+            Got::Bytes(n) => front.append(&chunk[..n])?,
+            Got::End => return Ok(front),
+            Got::Failed => return Err(Stop::ReadFault),
+        }
+    }
+    Ok(front)
+}
+
+/// Whether bytes are missing of the header at the front of a capture, by which it is judged.
+fn is_undecided(front: &[u8]) -> bool
+    ensures undecided { result ≡ is_short (header_of front.now) }
+    ensures few { result ≡ true → length front.now < 24 }
+{
+    matches!(Header::read(front), Err(CaptureFault::Short { .. }))
+}
+
+/// Reads bytes of the open input to the front of a buffer, `most` at most, and answers how many they
+/// are. None are given where `most` is 0 or the input has ended.
+pub fn read_some<S: Shelf>(shelf: &mut S, chunk: &mut [u8], most: usize) -> Result<usize, Stop>
+    requires room { 0 < length chunk.old }
+    requires input { IsTrue (is_open (S.outside shelf.old).reading) }
+    ensures most { IfOk result (λ n. n ≤ most) }
+    ensures within { IfOk result (λ n. n ≤ length chunk.new) }
+    ensures read { OnOk result (DoesAll [] [] [] (S.outside shelf.old) (S.outside shelf.new)) }
+    ensures given { IfOk result (λ n. (whole : Option (List ℕ)) (bytes : List ℕ) → HasRead whole bytes (S.outside shelf.old)
+        → HasRead whole (bytes ++ take n chunk.new) (S.outside shelf.new)) }
+    ensures ended { IfOk result (λ n. n ≡ 0 → (most ≡ 0) ⊎ IfSome (rest_of (S.outside shelf.new)) (λ rest. rest ≡ [])) }
+    ensures input { OnOk result (IsTrue (is_open (S.outside shelf.new).reading)) }
+    ensures stopped { IfErr result (λ stop. DoesPart [] [] [] (S.outside shelf.old) stop (S.outside shelf.new)) }
+{
+    let room = chunk.len().min(most);
+    if room == 0 {
+        return Ok(0);
+    }
+    match shelf.read(&mut chunk[..room]) {
+        Got::Bytes(n) => Ok(n),
+        Got::End => Ok(0),
+        Got::Failed => Err(Stop::ReadFault),
+    }
+}

@@ -1,7 +1,0 @@
-use Rattle.zk_top.proofs.CaptureReading.{reading_behind}
-use Rattle.std.proofs.Common.{refl}
-use Rattle.zk_top.proofs.capture.CaptureReader.advance.Goals as goal
-
-pub returns : goal.returns
-returns c whole header bytes packets packet now is at =
-    reading_behind whole header bytes packets packet c.args.self.now _ now is (c.advance.ensures header bytes packets packet is.stands at) refl refl refl c.saturating_add-self.ensures

@@ -53,6 +53,10 @@ pub record IsReading (whole : Option (List ℕ)) (header : Header) (bytes : List
 abbrev pub has_next : CaptureReader → Bool
 has_next reader = is_some (first_record reader.feed)
 
+-- no more is read: the end of the input was met, or as many bytes were read as count
+abbrev pub has_ended : CaptureReader → Bool
+has_ended reader = reader.is_read_out
+
 -- where the record begins that stands next
 abbrev pub next_place : CaptureReader → ℕ
 next_place reader = reader.feed.place

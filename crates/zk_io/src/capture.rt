@@ -9,18 +9,18 @@ ghost use Rattle.zk_pcap.specs.declared.records.Packet.{Packet as PacketData};
 ghost use Rattle.zk_io.specs.Opened.{end_of_capture};
 ghost use Rattle.zk_load.specs.Parts.{DoesAll, DoesPart};
 
-use crate::front::{read_front, read_some};
+use crate::front::read_front;
 use std::alloc::Global;
-use zk_base::{Bytes, Ending, Mem, Shelf, Started};
+use zk_base::{Bytes, Ending, Got, Mem, Shelf, Started};
 use zk_load::{Found, Stop};
 use zk_pcap::{CAPTURE_MAX, CaptureEnding, Feed, HEADER_LEN, Header, Next, PacketView};
 
-/// How many bytes of a capture are asked for at once. No longer buffer is lent to a `CaptureReader`.
+/// How many bytes of a capture are asked for at once. No longer buffer is lent to `CaptureReader::open`.
 pub const CHUNK: usize = 1 << 16;
 
-/// A capture (draft-ietf-opsawg-pcap) that is read from the open input in pieces, which come through a
-/// buffer of the caller's. Its packets are lent one after another, and nothing is kept of those that were
-/// passed. A reader that was stopped is read no further.
+/// A capture (draft-ietf-opsawg-pcap) that is read from the open input in pieces. Its packets are lent one
+/// after another, and nothing is kept of those that were passed. A reader that was stopped is read no
+/// further.
 #[derive(Debug, Drop)]
 pub struct CaptureReader {
     /// The link type of the frames.
@@ -35,7 +35,7 @@ pub struct CaptureReader {
 }
 
 impl CaptureReader {
-    ghost use Rattle.zk_io.specs.Reading.{FindsCapture, HasRead, IsCapture, IsJudged, IsOpen, IsReading, IsReadThrough, has_next};
+    ghost use Rattle.zk_io.specs.Reading.{FindsCapture, HasRead, IsCapture, IsJudged, IsOpen, IsReading, IsReadThrough, has_ended, has_next};
 
     /// Opens the capture in a file, or says how a run ends where there is none: as `NoInput` where no
     /// such file is there, as `CaptureRefused` with the place of the fault where its header is refused.
@@ -97,12 +97,12 @@ impl CaptureReader {
         })
     }
 
-    /// Reads on until a packet stands next. Answers whether one does; else no other follows.
+    /// Reads on until a packet stands next. Answers whether one does; else no other follows. Once the
+    /// end of the input was met, nothing is asked of the shelf.
     ///
     /// `ReadFault` is an input that fails, `NoMemory` want of memory.
-    pub fn fill<S: Shelf>(&mut self, shelf: &mut S, chunk: &mut [u8]) -> Result<bool, Stop>
+    pub fn fill<S: Shelf>(&mut self, shelf: &mut S) -> Result<bool, Stop>
         requires input { IsTrue (is_open (S.outside shelf.old).reading) }
-        requires room { 0 < length chunk.old }
         ensures read { OnOk result (DoesAll [] [] [] (S.outside shelf.old) (S.outside shelf.new)) }
         ensures input { OnOk result (IsTrue (is_open (S.outside shelf.new).reading)) }
         ensures packet { IfOk result (λ next. next ≡ has_next self.new) }
@@ -111,6 +111,8 @@ impl CaptureReader {
             → (longer : List ℕ) × IsReading whole header longer packets self.new (S.outside shelf.new)) }
         ensures through { IfOk result (λ next. next ≡ false → (whole : Option (List ℕ)) (header : HeaderData) (bytes : List ℕ) (packets : List PacketData)
             → IsReading whole header bytes packets self.new (S.outside shelf.new) → IsReadThrough header bytes packets self.new) }
+        ensures unread { IsTrue (has_ended self.old) → shelf.new ≡ shelf.old }
+        ensures ended { IsTrue (has_ended self.old) → IsTrue (has_ended self.new) }
         ensures stopped { IfErr result (λ stop. DoesPart [] [] [] (S.outside shelf.old) stop (S.outside shelf.new)) }
     {
         'pieces: loop {
@@ -123,27 +125,33 @@ impl CaptureReader {
                     }
                 }
             }
-            self.read_piece(shelf, chunk)?;
+            self.read_piece(shelf)?;
         }
     }
 
-    /// Reads a piece of the bytes that are left.
-    fn read_piece<S: Shelf>(&mut self, shelf: &mut S, chunk: &mut [u8]) -> Result<(), Stop>
+    /// Reads a piece of the bytes that are left, unless none is, or meets the end of the input.
+    fn read_piece<S: Shelf>(&mut self, shelf: &mut S) -> Result<(), Stop>
         requires input { IsTrue (is_open (S.outside shelf.old).reading) }
-        requires room { 0 < length chunk.old }
+        requires more { has_ended self.old ≡ false }
         ensures read { OnOk result (DoesAll [] [] [] (S.outside shelf.old) (S.outside shelf.new)) }
         ensures input { OnOk result (IsTrue (is_open (S.outside shelf.new).reading)) }
-        ensures less { OnOk result ((self.new.is_read_out ≡ true) ⊎ (self.new.left < self.old.left)) }
+        ensures less { OnOk result (IsTrue (has_ended self.new) ⊎ (self.new.left < self.old.left)) }
         ensures no_more { OnOk result (self.new.left ≤ self.old.left) }
         ensures goes_on { OnOk result ((whole : Option (List ℕ)) (header : HeaderData) (bytes : List ℕ) (packets : List PacketData)
             → IsReading whole header bytes packets self.old (S.outside shelf.old)
             → (longer : List ℕ) × IsReading whole header longer packets self.new (S.outside shelf.new)) }
         ensures stopped { IfErr result (λ stop. DoesPart [] [] [] (S.outside shelf.old) stop (S.outside shelf.new)) }
     {
-        let n = read_some(shelf, chunk, self.left)?;
-        self.feed.push(&chunk[..n])?;
-        self.left -= n;
-        self.is_read_out = n == 0;
+        let most = CHUNK.min(self.left);
+        if most == 0 {
+            self.is_read_out = true;
+            return Ok(());
+        }
+        match self.feed.read_from(shelf, most)? {
+            Got::Bytes(n) => self.left -= n,
+            Got::End => self.is_read_out = true,
+            Got::Failed => return Err(Stop::ReadFault),
+        }
         Ok(())
     }
 
@@ -171,9 +179,10 @@ impl CaptureReader {
     /// Goes on behind the packet that stands next. Nothing is read for that.
     pub fn advance(&mut self)
         requires { IsTrue (has_next self.old) }
-        ensures { (whole : Option (List ℕ)) (header : HeaderData) (bytes : List ℕ) (packets : List PacketData) (packet : PacketData) (now : Outside)
+        ensures goes_on { (whole : Option (List ℕ)) (header : HeaderData) (bytes : List ℕ) (packets : List PacketData) (packet : PacketData) (now : Outside)
             → IsReading whole header bytes packets self.old now → record_at header bytes (end_from 24 packets) ≡ Some packet
             → IsReading whole header bytes (packets ++ packet ∷ []) self.new now }
+        ensures ended { has_ended self.new ≡ has_ended self.old }
     {
         self.feed.advance();
         self.passed = self.passed.saturating_add(1);

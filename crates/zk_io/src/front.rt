@@ -1,4 +1,4 @@
-ghost use Rattle.std.specs.Prelude.{◌≡◌, ◌⊎◌, ◌+◌, ◌≤◌, ◌<◌, ◌++◌, ℕ, List, Option, [], true, false, length, take, IsTrue, IfSome, IfOk, OnOk, IfErr};
+ghost use Rattle.std.specs.Prelude.{◌≡◌, ◌⊎◌, ◌+◌, ◌≤◌, ◌<◌, [], true, false, length, IsTrue, IfSome, IfOk, OnOk, IfErr};
 ghost use Rattle.zk_base.specs.Shelf.{is_open, rest_of};
 ghost use Rattle.zk_pcap.specs.Header.{header_of};
 ghost use Rattle.zk_load.specs.Parts.{DoesAll, DoesPart};
@@ -37,29 +37,4 @@ fn is_undecided(front: &[u8]) -> bool
     ensures few { result ≡ true → length front.now < 24 }
 {
     matches!(Header::read(front), Err(CaptureFault::Short { .. }))
-}
-
-/// Reads bytes of the open input to the front of a buffer, `most` at most, and answers how many they
-/// are. None are given where `most` is 0 or the input has ended.
-pub fn read_some<S: Shelf>(shelf: &mut S, chunk: &mut [u8], most: usize) -> Result<usize, Stop>
-    requires room { 0 < length chunk.old }
-    requires input { IsTrue (is_open (S.outside shelf.old).reading) }
-    ensures most { IfOk result (λ n. n ≤ most) }
-    ensures within { IfOk result (λ n. n ≤ length chunk.new) }
-    ensures read { OnOk result (DoesAll [] [] [] (S.outside shelf.old) (S.outside shelf.new)) }
-    ensures given { IfOk result (λ n. (whole : Option (List ℕ)) (bytes : List ℕ) → HasRead whole bytes (S.outside shelf.old)
-        → HasRead whole (bytes ++ take n chunk.new) (S.outside shelf.new)) }
-    ensures ended { IfOk result (λ n. n ≡ 0 → (most ≡ 0) ⊎ IfSome (rest_of (S.outside shelf.new)) (λ rest. rest ≡ [])) }
-    ensures input { OnOk result (IsTrue (is_open (S.outside shelf.new).reading)) }
-    ensures stopped { IfErr result (λ stop. DoesPart [] [] [] (S.outside shelf.old) stop (S.outside shelf.new)) }
-{
-    let room = chunk.len().min(most);
-    if room == 0 {
-        return Ok(0);
-    }
-    match shelf.read(&mut chunk[..room]) {
-        Got::Bytes(n) => Ok(n),
-        Got::End => Ok(0),
-        Got::Failed => Err(Stop::ReadFault),
-    }
 }

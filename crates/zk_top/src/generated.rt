@@ -115,7 +115,7 @@ fn sum_up<S: Shelf>(
         packets: runnable.packets,
     };
     let Runnable { code, packets: _ } = runnable;
-    let (came, rows) = count_rows(alloc, shelf, chunk, options, code, BUDGET, &mut reader)?;
+    let (came, rows) = count_rows(alloc, shelf, options, code, BUDGET, &mut reader)?;
     match came {
         Came::Through(_) => {
             let ending = end_of(alloc, NAME, reader.ending())?;

@@ -98,10 +98,8 @@ impl Listing {
 fn list_items<S: Shelf>(
     alloc: Global,
     shelf: &mut S,
-    chunk: &mut [u8],
     reader: &mut CaptureReader,
 ) -> Result<(), Stop>
-    requires room { 0 < length chunk.old }
     requires under_way { IsUnderWay reader.old (S.outside shelf.old) }
     ensures said { OnOk result ((whole : Option (List ℕ)) (header : HeaderData) (bytes : List ℕ) → IsReading whole header bytes [] reader.old (S.outside shelf.old)
         → SaysAll whole header (capture_lines header.link) (S.outside shelf.old) reader.new (S.outside shelf.new)) }
@@ -110,7 +108,7 @@ fn list_items<S: Shelf>(
 {
     items_stay();
     let mut listing = Listing::new(alloc, reader.link())?;
-    'packets: while reader.fill(shelf, chunk)? {
+    'packets: while reader.fill(shelf)? {
         listing.take_packet(shelf, reader.packet())?;
         reader.advance();
     }
@@ -142,7 +140,7 @@ fn list_through<S: Shelf>(
 {
     match CaptureReader::open(alloc, shelf, chunk, file)? {
         Found::Accepted(mut reader) => {
-            list_items(alloc, shelf, chunk, &mut reader)?;
+            list_items(alloc, shelf, &mut reader)?;
             Ok(end_of(alloc, file, reader.ending())?)
         }
         Found::Refused(ending) => Ok(ending),

@@ -1,4 +1,4 @@
-ghost use Rattle.std.specs.Prelude.{◌≡◌, ◌<◌, ◌≤◌, ◌++◌, ◌∷◌, [], ℕ, Bool, true, false, List, Option, length, IfOk, OnOk, IfErr};
+ghost use Rattle.std.specs.Prelude.{◌≡◌, ◌≤◌, ◌++◌, ◌∷◌, [], ℕ, Bool, true, false, List, Option, IfOk, OnOk, IfErr};
 ghost use Rattle.zk_base.specs.Shelf.{Outside};
 ghost use Rattle.zk_events.specs.Run.{Begun, New, run};
 ghost use Rattle.zk_lower.specs.Lowering.{lowered};
@@ -141,11 +141,9 @@ impl Replay {
     fn take_packets<S: Shelf>(
         &mut self,
         shelf: &mut S,
-        chunk: &mut [u8],
         reader: &mut CaptureReader,
     ) -> Result<Came, Stop>
         requires ready { CanTake self.old.player.sink (S.outside shelf.old) }
-        requires room { 0 < length chunk.old }
         requires under_way { IsUnderWay reader.old (S.outside shelf.old) }
         ensures came { IfOk result (λ came. (first : Beginning) (plan : Plan) (whole : Option (List ℕ)) (header : HeaderData) (bytes : List ℕ)
             → HasPlayed first plan [] false self.old (S.outside shelf.old) → IsReading whole header bytes [] reader.old (S.outside shelf.old)
@@ -158,7 +156,7 @@ impl Replay {
         items_stay();
         lines_stay();
         let mut last = Moment(0);
-        'packets: while reader.fill(shelf, chunk)? {
+        'packets: while reader.fill(shelf)? {
             let packet = reader.packet();
             last = later(last, packet.moment);
             let end = self.take_packet(shelf, packet)?;
@@ -206,14 +204,8 @@ impl Replay {
     }
 
     /// Runs the program from its beginning to its end, or to a flood.
-    fn run<S: Shelf>(
-        &mut self,
-        shelf: &mut S,
-        chunk: &mut [u8],
-        reader: &mut CaptureReader,
-    ) -> Result<Came, Stop>
+    fn run<S: Shelf>(&mut self, shelf: &mut S, reader: &mut CaptureReader) -> Result<Came, Stop>
         requires ready { CanTake self.old.player.sink (S.outside shelf.old) }
-        requires room { 0 < length chunk.old }
         requires under_way { IsUnderWay reader.old (S.outside shelf.old) }
         ensures ran { IfOk result (λ came. (first : Beginning) (plan : Plan) (whole : Option (List ℕ)) (header : HeaderData) (bytes : List ℕ)
             → Comes first plan [] [] false New self.old (S.outside shelf.old) → IsReading whole header bytes [] reader.old (S.outside shelf.old)
@@ -226,20 +218,14 @@ impl Replay {
         items_stay();
         lines_stay();
         match self.begin(shelf)? {
-            ItemEnd::Done => self.run_packets(shelf, chunk, reader),
+            ItemEnd::Done => self.run_packets(shelf, reader),
             ItemEnd::Flood { moment } => Ok(Came::Flooded(moment)),
         }
     }
 
     /// Runs the program over the packets, says what it prints and writes its log files.
-    fn play<S: Shelf>(
-        &mut self,
-        shelf: &mut S,
-        chunk: &mut [u8],
-        reader: &mut CaptureReader,
-    ) -> Result<Came, Stop>
+    fn play<S: Shelf>(&mut self, shelf: &mut S, reader: &mut CaptureReader) -> Result<Came, Stop>
         requires ready { CanTake self.old.player.sink (S.outside shelf.old) }
-        requires room { 0 < length chunk.old }
         requires under_way { IsUnderWay reader.old (S.outside shelf.old) }
         ensures replays { IfOk result (λ came. (first : Beginning) (plan : Plan) (whole : Option (List ℕ)) (header : HeaderData) (bytes : List ℕ) → first.target ≡ Written
             → Comes first plan [] [] false New self.old (S.outside shelf.old) → IsReading whole header bytes [] reader.old (S.outside shelf.old)
@@ -248,7 +234,7 @@ impl Replay {
             → Comes first plan [] [] false New self.old (S.outside shelf.old) → IsReading whole header bytes [] reader.old (S.outside shelf.old)
             → ReplaysPart whole plan first.outside stop (S.outside shelf.new)) }
     {
-        let came = self.run(shelf, chunk, reader)?;
+        let came = self.run(shelf, reader)?;
         self.player.sink.close(shelf, came.time())?;
         Ok(came)
     }
@@ -257,17 +243,15 @@ impl Replay {
     fn count<S: Shelf>(
         &mut self,
         shelf: &mut S,
-        chunk: &mut [u8],
         reader: &mut CaptureReader,
     ) -> Result<(Came, RowCounts), Stop>
         requires ready { CanTake self.old.player.sink (S.outside shelf.old) }
-        requires room { 0 < length chunk.old }
         requires under_way { IsUnderWay reader.old (S.outside shelf.old) }
         ensures { IfOk result (λ counted. (first : Beginning) (plan : Plan) (whole : Option (List ℕ)) (header : HeaderData) (bytes : List ℕ) → first.target ≡ Counted
             → Comes first plan [] [] false New self.old (S.outside shelf.old) → IsReading whole header bytes [] reader.old (S.outside shelf.old)
             → Counts plan whole header counted.0 counted.1 reader.new (S.outside shelf.new)) }
     {
-        let came = self.run(shelf, chunk, reader)?;
+        let came = self.run(shelf, reader)?;
         Ok((came, self.player.sink.rows()))
     }
 
@@ -275,11 +259,9 @@ impl Replay {
     fn run_packets<S: Shelf>(
         &mut self,
         shelf: &mut S,
-        chunk: &mut [u8],
         reader: &mut CaptureReader,
     ) -> Result<Came, Stop>
         requires ready { CanTake self.old.player.sink (S.outside shelf.old) }
-        requires room { 0 < length chunk.old }
         requires under_way { IsUnderWay reader.old (S.outside shelf.old) }
         ensures ran { IfOk result (λ came. (first : Beginning) (plan : Plan) (whole : Option (List ℕ)) (header : HeaderData) (bytes : List ℕ)
             → HasPlayed first plan [] false self.old (S.outside shelf.old) → IsReading whole header bytes [] reader.old (S.outside shelf.old)
@@ -289,7 +271,7 @@ impl Replay {
             → HasPlayed first plan [] false self.old (S.outside shelf.old) → IsReading whole header bytes [] reader.old (S.outside shelf.old)
             → StopsOver whole plan first stop (S.outside shelf.new)) }
     {
-        match self.take_packets(shelf, chunk, reader)? {
+        match self.take_packets(shelf, reader)? {
             Came::Through(last) => self.finish(shelf, last),
             Came::Flooded(moment) => Ok(Came::Flooded(moment)),
         }
@@ -300,13 +282,11 @@ impl Replay {
 pub fn count_rows<S: Shelf>(
     alloc: Global,
     shelf: &mut S,
-    chunk: &mut [u8],
     options: Options,
     code: Code,
     budget: u64,
     reader: &mut CaptureReader,
 ) -> Result<(Came, RowCounts), Stop>
-    requires room { 0 < length chunk.old }
     requires under_way { IsUnderWay reader.old (S.outside shelf.old) }
     ensures { IfOk result (λ counted. (program : Program) (whole : Option (List ℕ)) (header : HeaderData) (bytes : List ℕ) → lower.code_of code ≡ lowered program
         → IsReading whole header bytes [] reader.old (S.outside shelf.old)
@@ -314,20 +294,18 @@ pub fn count_rows<S: Shelf>(
 {
     let sink = Sink::Counted(RowCounts::new());
     let mut replay = Replay::new(alloc, options, reader.link(), code, budget, sink)?;
-    replay.count(shelf, chunk, reader)
+    replay.count(shelf, reader)
 }
 
 /// Replays a capture to a program, says what it prints and writes its log files.
 pub fn replay_capture<S: Shelf>(
     alloc: Global,
     shelf: &mut S,
-    chunk: &mut [u8],
     options: Options,
     code: Code,
     budget: u64,
     reader: &mut CaptureReader,
 ) -> Result<Came, Stop>
-    requires room { 0 < length chunk.old }
     requires under_way { IsUnderWay reader.old (S.outside shelf.old) }
     ensures replays { IfOk result (λ came. (program : Program) (whole : Option (List ℕ)) (header : HeaderData) (bytes : List ℕ) → lower.code_of code ≡ lowered program
         → IsReading whole header bytes [] reader.old (S.outside shelf.old)
@@ -339,7 +317,7 @@ pub fn replay_capture<S: Shelf>(
     let writer = Writer::new(alloc)?;
     let sink = Sink::Written(writer);
     let mut replay = Replay::new(alloc, options, reader.link(), code, budget, sink)?;
-    replay.play(shelf, chunk, reader)
+    replay.play(shelf, reader)
 }
 
 /// The later of two moments.

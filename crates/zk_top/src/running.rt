@@ -99,15 +99,7 @@ fn run_through<S: Shelf>(
         packets: runnable.packets,
     };
     let Runnable { code, packets: _ } = runnable;
-    match replay_capture(
-        alloc,
-        shelf,
-        chunk,
-        options,
-        code,
-        settings.budget,
-        &mut reader,
-    )? {
+    match replay_capture(alloc, shelf, options, code, settings.budget, &mut reader)? {
         Came::Through(_) => Ok(end_of(alloc, file, reader.ending())?),
         Came::Flooded(moment) => Ok(Ending::Flood { moment }),
     }

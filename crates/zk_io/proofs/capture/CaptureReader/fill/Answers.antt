@@ -8,6 +8,9 @@ smaller left less false true going no_more why = omega arith
 smaller left less false false going no_more (inl ended) = absurd (let never : ⊥ = cc in never)
 smaller left less false false going no_more (inr fewer) = omega arith
 
+still_more : (out : Bool) → out ≡ false → out ≡ true → ⊥
+still_more out going ended = cc
+
 pub pieces-smaller : goal.pieces-smaller
 pieces-smaller g c =
     smaller c.pieces.self.left c.read_piece.new.self.left c.pieces.self.is_read_out c.read_piece.new.self.is_read_out c.if-self.false
@@ -21,4 +24,29 @@ pieces-preserved g c = record {
   goes_on = λ whole header bytes packets is.
       let far = c.pieces.invariant.goes_on whole header bytes packets is in
       c.in_ok-read_piece.ensures.goes_on whole header far.0 packets far.1;
+  over = λ ended. absurd (still_more c.pieces.self.is_read_out c.if-self.false (c.pieces.invariant.over ended).1);
 }
+
+pub returns-in-Packet-clause-unread : goal.returns-in-Packet-clause-unread
+returns-in-Packet-clause-unread g c ended = (c.pieces.invariant.over ended).0
+
+pub returns-in-Packet-clause-ended : goal.returns-in-Packet-clause-ended
+returns-in-Packet-clause-ended g c ended = (c.pieces.invariant.over ended).1
+
+pub returns-in-Bad-clause-unread : goal.returns-in-Bad-clause-unread
+returns-in-Bad-clause-unread g c ended = (c.pieces.invariant.over ended).0
+
+pub returns-in-Bad-clause-ended : goal.returns-in-Bad-clause-ended
+returns-in-Bad-clause-ended g c ended = (c.pieces.invariant.over ended).1
+
+pub returns-then-self-clause-unread : goal.returns-then-self-clause-unread
+returns-then-self-clause-unread g c ended = (c.pieces.invariant.over ended).0
+
+pub returns-then-self-clause-ended : goal.returns-then-self-clause-ended
+returns-then-self-clause-ended g c ended = (c.pieces.invariant.over ended).1
+
+pub returns-in_err-read_piece-clause-unread : goal.returns-in_err-read_piece-clause-unread
+returns-in_err-read_piece-clause-unread g c ended = absurd (still_more c.pieces.self.is_read_out c.if-self.false (c.pieces.invariant.over ended).1)
+
+pub returns-in_err-read_piece-clause-ended : goal.returns-in_err-read_piece-clause-ended
+returns-in_err-read_piece-clause-ended g c ended = absurd (still_more c.pieces.self.is_read_out c.if-self.false (c.pieces.invariant.over ended).1)

@@ -1,12 +1,12 @@
-use Rattle.std.proofs.Common.{ℕ, ◌+◌, List, [], Option, IsTrue, if◌then◌else◌}
+use Rattle.std.proofs.Common.{◌≡◌, ℕ, ◌+◌, List, [], Option, IsTrue, if◌then◌else◌}
 use Rattle.zk_base.specs.Shelf.{is_open}
 use Rattle.zk_pcap.specs.declared.headers.Header.{Header}
 use Rattle.zk_pcap.specs.declared.records.Packet.{Packet}
 use Rattle.zk_load.specs.Parts.{DoesAll}
-use Rattle.zk_io.specs.Reading.{IsReading}
+use Rattle.zk_io.specs.Reading.{IsReading, has_ended}
 use Rattle.zk_io.proofs.capture.CaptureReader.fill.Given as goal
 
--- nothing but reading was done, and the reader goes on
+-- nothing but reading was done, and the reader goes on; where the end was met before, nothing was done
 abbrev pub invariant-pieces : goal.invariant-pieces
 invariant-pieces g l = record {
   does : DoesAll [] [] [] (g.S.Shelf.outside l.initial.shelf) (g.S.Shelf.outside l.shelf);
@@ -14,6 +14,7 @@ invariant-pieces g l = record {
   goes_on : (whole : Option (List ℕ)) (header : Header) (bytes : List ℕ) (packets : List Packet)
       → IsReading whole header bytes packets l.initial.self (g.S.Shelf.outside l.initial.shelf)
       → (longer : List ℕ) × IsReading whole header longer packets l.self (g.S.Shelf.outside l.shelf);
+  over : IsTrue (has_ended l.initial.self) → (l.shelf ≡ l.initial.shelf) × IsTrue (has_ended l.self);
 }
 
 -- each turn but the last reads a byte at least

@@ -1,19 +1,38 @@
-use Rattle.std.proofs.Common.{refl, ◌≡◌, ◌<◌, ◌^◌, ◌++◌, ℕ, true, nat_eq, take, length, inl, inr, arith, length-append, length-take-le}
-use Rattle.std.proofs.lemmas.Bool.Decides.{nat_tests}
-use Rattle.zk_io.proofs.CaptureReading.{reading_more}
+use Rattle.std.proofs.Common.{[], ◌≡◌, ◌≤◌, ◌<◌, ◌^◌, ◌++◌, take, length, refl, inl, arith, length-append, length-take-le}
+use Rattle.std.proofs.lemmas.Result.{err_from_is_err_and}
+use Rattle.zk_load.proofs.Doing.{out_of_memory}
+use Rattle.zk_load.proofs.SoFar.{stopped_by_input}
+use Rattle.zk_io.proofs.CaptureReading.{has_read_more, read_nothing, reading_more, reading_over}
 use Rattle.zk_io.proofs.capture.CaptureReader.read_piece.Goals as goal
 
-is_none : (n : ℕ) → nat_eq n 0 ≡ true → n ≡ 0
-is_none n is = grind (arith, nat_tests)
+pub returns-then-most-eq0-clause-goes_on : goal.returns-then-most-eq0-clause-goes_on
+returns-then-most-eq0-clause-goes_on g c whole header bytes packets is =
+    let now = g.S.Shelf.outside c.args.shelf.now in
+    (bytes, reading_over whole header bytes packets c.args.self.now _ now now is refl is.stands refl refl refl (inl (omega arith)))
 
-pub returns-clause-goes_on : goal.returns-clause-goes_on
-returns-clause-goes_on g c whole header bytes packets is =
-    let n = c.in_ok-n.n in
-    let piece = take n c.read_some.new.chunk in
-    let size = length-take-le n c.read_some.new.chunk c.in_ok-n.ensures.within in
-    let short : length (bytes ++ piece) < 2 ^ 64 = omega (arith, length-append bytes piece, size, is.counted, c.in_ok-n.ensures.most) in (
+pub returns-in_err-n-clause-stopped : goal.returns-in_err-n-clause-stopped
+returns-in_err-n-clause-stopped g c =
+    let old = g.S.Shelf.outside c.args.shelf.now in
+    let p = err_from_is_err_and c.from_residual.result c.from_residual.ensures.1 in
+    rw (p.1, p.2) (out_of_memory [] [] [] old (g.S.Shelf.outside c.read_from.new.shelf) c.in_err-n.ensures.unread)
+
+pub returns-in-Failed-clause-stopped : goal.returns-in-Failed-clause-stopped
+returns-in-Failed-clause-stopped g c =
+    let old = g.S.Shelf.outside c.args.shelf.now in
+    let failed = rw c.in-Failed.is at c.in_ok-n.ensures.read in
+    stopped_by_input old old (g.S.Shelf.outside c.read_from.new.shelf) [] (read_nothing old c.requires.input) failed.reads
+
+pub returns-in-Bytes-clause-goes_on : goal.returns-in-Bytes-clause-goes_on
+returns-in-Bytes-clause-goes_on g c whole header bytes packets is =
+    let old = g.S.Shelf.outside c.args.shelf.now in
+    let new = g.S.Shelf.outside c.read_from.new.shelf in
+    let n = c.in-Bytes.n in
+    let read = rw c.in-Bytes.is at c.in_ok-n.ensures.read in
+    let piece = take n read.after in
+    let few : n ≤ c.args.self.now.left = omega (arith, read.reads.within, read.long, c.min-most.ensures) in
+    let size : length piece ≡ n = length-take-le n read.after (omega (arith, read.reads.within, read.long, read.long_after)) in
+    let short : length (bytes ++ piece) < 2 ^ 64 = omega (arith, length-append bytes piece, size, is.counted, few) in (
       bytes ++ piece,
-      reading_more whole header bytes piece packets c.args.self.now _ (g.S.Shelf.outside c.args.shelf.now) (g.S.Shelf.outside c.read_some.new.shelf) is
-          (c.in_ok-n.ensures.given whole bytes is.read) (c.in_ok-push.ensures.ok header bytes packets is.stands short) refl refl (omega (arith, size, c.in_ok-n.ensures.most))
-          (λ out. elim (c.in_ok-n.ensures.ended (is_none n out)) [ inl none ↦ inl (omega (arith, none)) | inr over ↦ inr over ]),
+      reading_more whole header bytes piece packets c.args.self.now _ old new is (has_read_more whole bytes old new read.before read.after n is.read read.reads)
+          (read.brings header bytes packets is.stands short) refl refl (omega (arith, size, few)) (λ out. absurd (let never : ⊥ = cc in never)),
     )

@@ -89,7 +89,7 @@ packets-smaller g c =
     let (whole, header, bytes, packets, reading) = c.packets.invariant.under_way in
     let (further, filled) = c.in_ok-fill.ensures.goes_on whole header bytes packets reading in
     let at = c.packet-packet.ensures.record whole header further packets mid filled in
-    let behind = c.advance.ensures whole header further packets packet mid filled at in
+    let behind = c.advance.ensures.goes_on whole header further packets packet mid filled at in
     let same = same_place whole header bytes further packets c.packets.reader c.fill.new.self old mid reading filled in
     let later = later_place whole header further packets packet c.fill.new.self c.advance.new.self mid filled at behind in
     omega (arith, same, later.0, later.1)
@@ -105,14 +105,14 @@ packets-preserved g c =
           let (whole, header, bytes, packets, reading) = c.packets.invariant.under_way in
           let (further, filled) = c.in_ok-fill.ensures.goes_on whole header bytes packets reading in
           let at = c.packet-packet.ensures.record whole header further packets mid filled in
-          let behind = c.advance.ensures whole header further packets packet mid filled at in
+          let behind = c.advance.ensures.goes_on whole header further packets packet mid filled at in
           (whole, header, further, packets ++ packet ∷ [], reading_on whole header further (packets ++ packet ∷ []) c.advance.new.self mid new behind c.in_ok-end.ensures.input);
       ready = c.in_ok-end.ensures.ready;
       goes_on = λ whole header bytes is.
           let (longer, packets, reading, time, goes) = c.packets.invariant.goes_on whole header bytes is in
           let (further, filled) = c.in_ok-fill.ensures.goes_on whole header longer packets reading in
           let at = c.packet-packet.ensures.record whole header further packets mid filled in
-          let behind = c.advance.ensures whole header further packets packet mid filled at in (
+          let behind = c.advance.ensures.goes_on whole header further packets packet mid filled at in (
             further,
             packets ++ packet ∷ [],
             reading_on whole header further (packets ++ packet ∷ []) c.advance.new.self mid new behind c.in_ok-end.ensures.input,

@@ -2,6 +2,7 @@ ghost use Rattle.std.specs.Prelude.{◌<◌, ◌≤◌, length};
 
 use std::alloc::Global;
 use std::test::Fail;
+use zk_base::{Bytes, Got, Shelf, Started, SureShelf};
 use zk_pcap::{CaptureEnding, CaptureFault, Feed, Header, Next, Packet, packets};
 
 /// A header of little-endian numbers, microseconds and Ethernet.
@@ -168,5 +169,24 @@ fn pieces_give_the_packets_of_the_whole(rt: HostRuntime) -> Result<(), Fail> {
     assert!(rt; has_in_pieces(rt.alloc(), 1, wanted)?);
     assert!(rt; has_in_pieces(rt.alloc(), 7, wanted)?);
     assert!(rt; has_in_pieces(rt.alloc(), 65_536, wanted)?);
+    Ok(())
+}
+
+#[test]
+fn what_a_read_brings_stands_next(rt: HostRuntime) -> Result<(), Fail> {
+    let alloc = rt.alloc();
+    let name = Bytes::copy_of(alloc, b"records")?;
+    let records = Bytes::copy_of(alloc, &QUERY_AND_ANSWER[24..])?;
+    let mut shelf = SureShelf::new(alloc, vec![in alloc; (name, records)]?)?;
+    let mut feed = Feed::new(alloc, &Header::read(&HEADER)?)?;
+    if shelf.start(b"records") == Started::Open {
+        assert!(rt; feed.read_from(&mut shelf, 100)? == Got::Bytes(100));
+    }
+    let Next::Packet(query) = feed.next() else {
+        panic!(rt; "a packet")
+    };
+    assert!(rt; query.bytes == &QUERY_AND_ANSWER[40..109]);
+    feed.advance();
+    assert!(rt; feed.rest() == Some(109));
     Ok(())
 }

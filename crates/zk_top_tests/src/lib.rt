@@ -19,6 +19,8 @@ mod loads;
 #[cfg(test)]
 mod logs;
 #[cfg(test)]
+mod many;
+#[cfg(test)]
 mod pieces;
 #[cfg(test)]
 mod runs;

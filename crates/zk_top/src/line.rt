@@ -1,10 +1,11 @@
 ghost use Rattle.std.specs.Prelude.{◌≡◌, ◌<◌, ◌≤◌, ◌+◌, ◌*◌, ℕ, List, ◌∷◌, ◌++◌, codes, decimal, drop, length, OnOk};
 ghost use Rattle.zk_events.specs.Facts.{state_name};
+ghost use Rattle.zk_io.specs.Said.{line_end};
 ghost use Rattle.zk_text.specs.Address.{addr_text};
 ghost use Rattle.zk_text.specs.Span.{span_decimal};
 ghost use Rattle.zk_text.specs.declared.times.TheConstants.{SPAN_TEXT_MAX};
 ghost use Rattle.zk_top.specs.declared.line.TheConstants.{LINE_MAX};
-ghost use Rattle.zk_top.specs.Line.{conn_fields, ends_fields, field, fields_of, line_end, line_of, message_fields, side_name, unit_fields};
+ghost use Rattle.zk_top.specs.Line.{conn_fields, ends_fields, field, fields_of, line_of, message_fields, side_name, unit_fields};
 ghost use Rattle.zk_traffic.specs.declared.item.What.TheVariants.{Seen, Opened};
 
 use itoa::write_digits;

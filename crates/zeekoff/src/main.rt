@@ -4,18 +4,27 @@
 mod arguments;
 mod dir_shelf;
 
-use arguments::words;
+ghost use Rattle.std.specs.Prelude.{◌≡◌, IfErr};
+ghost use Rattle.zeekoff.specs.Arguments.{exit_status};
+
+use arguments::{ArgumentFault, words};
 use dir_shelf::DirShelf;
+use std::alloc::Global;
 use std::process::ExitCode;
+use zk_base::{Shelf, Word};
 use zk_top::run;
 
 fn main(rt: HostRuntime) -> ExitCode {
-    let status = match words(&rt) {
-        Ok(words) => {
-            let mut shelf = DirShelf::new(&rt, rt.stdout(), rt.stderr());
-            run(rt.alloc(), &words, &mut shelf).status()
-        }
+    let mut shelf = DirShelf::new(&rt, rt.stdout(), rt.stderr());
+    ExitCode::from(status(rt.alloc(), words(&rt), &mut shelf))
+}
+
+/// The exit status of a run with these words, or of the fault for which there are none.
+fn status<S: Shelf>(alloc: Global, words: Result<Vec<Word>, ArgumentFault>, shelf: &mut S) -> u8
+    ensures { IfErr words (λ fault. result ≡ exit_status fault) }
+{
+    match words {
+        Ok(words) => run(alloc, &words, shelf).status(),
         Err(fault) => fault.status(),
-    };
-    ExitCode::from(status)
+    }
 }

@@ -62,13 +62,14 @@ impl SureShelf {
 impl Shelf for SureShelf {
     ghost use Rattle.zk_base.specs.Shelf.{Starts, is_open, Reads, Creates, IsCreated, Puts, after_append, after_say, after_complaint};
     ghost use Rattle.zk_base.specs.Contents.{Fills};
-    ghost use Rattle.zk_base.specs.Faults.{one_more};
+    ghost use Rattle.zk_base.specs.Faults.{after_absence, one_more};
     ghost use Rattle.zk_base.specs.SureShelf.{sure_outside, calls_of, after_start, after_write};
 
     ghost outside = { sure_outside };
 
     fn start(&mut self, name: &[u8]) -> Started
         ensures leaves { Starts (sure_outside self.old) name.now result (sure_outside self.new) }
+        ensures absent { result ≡ Started.Absent → sure_outside self.new ≡ after_absence (sure_outside self.old) name.now }
         ensures sure { result ≢ Started.Failed }
         ensures number { calls_of self.new ≡ after_start result (calls_of self.old) }
     {

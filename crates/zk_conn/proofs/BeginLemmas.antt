@@ -18,7 +18,7 @@ use Rattle.zk_conn.specs.Holds.{Has, Holds, Follows, removal_of, touched_between
 use Rattle.zk_conn.specs.Instance.{Opening, opening, originator}
 use Rattle.zk_conn.specs.Segment.{key_of, same_key}
 use Rattle.zk_conn.specs.Standing.{StandsFor, IsGone, Keeps}
-use Rattle.zk_conn.specs.Table.{has_number, key_cmp, kept, slot_of, slot_numbered, instance_at, key_at, number_at, HasLive, IsTable, Inserts, SameTable}
+use Rattle.zk_conn.specs.Table.{has_number, slot_in, kept, slot_of, slot_numbered, instance_at, key_at, number_at, HasLive, IsTable, Inserts, SameTable}
 use Rattle.zk_conn.specs.Told.{Told, Packet}
 use Rattle.zk_conn.proofs.HoldsLemmas.{has-append}
 use Rattle.zk_conn.proofs.KeyLemmas.{is_eq-key_cmp, same_key_is, same_key-refl}
@@ -32,11 +32,11 @@ not_both : {A : Type 0} {o : Option A} (a : A) → o ≡ None → o ≡ Some a �
 not_both a none some = cc
 
 -- a key that finds no slot of an instance finds none
-pub key_absent : (conns : Conns) (key : Key) → IsTable conns → slot_of conns key ≡ None → tree.get key_cmp conns.keys key ≡ None
+pub key_absent : (conns : Conns) (key : Key) → IsTable conns → slot_of conns key ≡ None → slot_in conns.keys key ≡ None
 unfolding slot_of
-key_absent conns key table is = by_slot (tree.get key_cmp conns.keys key) refl
+key_absent conns key table is = by_slot (slot_in conns.keys key) refl
   where
-    by_slot : (o : Option ℕ) → tree.get key_cmp conns.keys key ≡ o → o ≡ None
+    by_slot : (o : Option ℕ) → slot_in conns.keys key ≡ o → o ≡ None
     by_slot None none = refl
     by_slot (Some s) some = by_instance (get conns.slots s) refl
       where
@@ -77,10 +77,10 @@ number_absent conns told number stands above = by_slot (tree.get nat_cmp conns.n
             absurd (omega (arith, last_place-le instance.key (begun told), is.number_is, same, above, stands.begun_is))
 
 -- the table with one instance more is in order
-table_inserted : (old new : Conns) (instance : Instance) → tree.get key_cmp old.keys instance.key ≡ None → tree.get nat_cmp old.numbers instance.number ≡ None
+table_inserted : (old new : Conns) (instance : Instance) → slot_in old.keys instance.key ≡ None → tree.get nat_cmp old.numbers instance.number ≡ None
     → Inserts old new instance → IsTable old → IsTable new
 table_inserted old new instance key_new number_new inserts table = record {
-  keys = matches_more same_key same_key_is same_key-refl (tree.get key_cmp old.keys) (tree.get key_cmp new.keys) (key_at old.slots) (key_at new.slots) instance.key inserts.slot table.keys
+  keys = matches_more same_key same_key_is same_key-refl (slot_in old.keys) (slot_in new.keys) (key_at old.slots) (key_at new.slots) instance.key inserts.slot table.keys
       (λ other apart. inserts.other_keys other (is_eq-key_cmp instance.key other ∙ apart)) (λ other apart. ap (option_map (λ (i : Instance). i.key)) (inserts.others other apart))
       key_new (ap (option_map (λ (i : Instance). i.key)) inserts.vacant) inserts.key_found (ap (option_map (λ (i : Instance). i.key)) inserts.there);
   numbers = matches_more nat_eq (λ a b is. eqb-true a b is) (λ a. eq-eqb a a refl) (tree.get nat_cmp old.numbers) (tree.get nat_cmp new.numbers) (number_at old.slots) (number_at new.slots) instance.number inserts.slot table.numbers
@@ -94,9 +94,9 @@ instance_other : (old new : Conns) (instance : Instance) (key : Key) → IsTable
     → instance_at new key ≡ instance_at old key
 unfolding instance_at
 instance_other old new instance key table inserts other =
-    ap (option_and_then (get new.slots)) (inserts.other_keys key (is_eq-key_cmp instance.key key ∙ other)) ∙ by_slot (tree.get key_cmp old.keys key) refl
+    ap (option_and_then (get new.slots)) (inserts.other_keys key (is_eq-key_cmp instance.key key ∙ other)) ∙ by_slot (slot_in old.keys key) refl
   where
-    by_slot : (o : Option ℕ) → tree.get key_cmp old.keys key ≡ o → option_and_then (get new.slots) o ≡ option_and_then (get old.slots) o
+    by_slot : (o : Option ℕ) → slot_in old.keys key ≡ o → option_and_then (get new.slots) o ≡ option_and_then (get old.slots) o
     by_slot None none = refl
     by_slot (Some s) some = inserts.others s
         (λ here. not_both key (ap (key_at old.slots) here ∙ ap (option_map (λ (i : Instance). i.key)) inserts.vacant) (table.keys.there key s some))
@@ -138,7 +138,7 @@ stands_begun old mid told t p instance number stands comes absent inserts holds 
     new = record mid { begun = number }
 
     table : IsTable mid
-    table = table_inserted old mid instance (ap (tree.get key_cmp old.keys) of_key ∙ key_absent old (key_of p) stands.table absent)
+    table = table_inserted old mid instance (ap (slot_in old.keys) of_key ∙ key_absent old (key_of p) stands.table absent)
         (number_absent old told instance.number stands (omega (arith, numbered, next))) inserts stands.table
 
     begins : cond (comes_late (latest (key_of p) told) t) (key_of p ∷ []) [] ≡ key_of p ∷ []
@@ -177,14 +177,14 @@ pub stands_same : (old new : Conns) (told : List Told) → SameTable old new →
 unfolding instance_at
 stands_same old new told same stands = record {
   table = record {
-    keys = matches_same (tree.get key_cmp old.keys) (tree.get key_cmp new.keys) (key_at old.slots) (key_at new.slots) same.keys_are
+    keys = matches_same (slot_in old.keys) (slot_in new.keys) (key_at old.slots) (key_at new.slots) same.keys_are
         (λ slot. ap (option_map (λ (i : Instance). i.key)) (same.slots_are slot)) stands.table.keys;
     numbers = matches_same (tree.get nat_cmp old.numbers) (tree.get nat_cmp new.numbers) (number_at old.slots) (number_at new.slots) same.numbers_are
         (λ slot. ap (option_map (λ (i : Instance). i.number)) (same.slots_are slot)) stands.table.numbers;
     tree = same.tree stands.table.tree;
   };
   begun_is = same.begun_is ∙ stands.begun_is;
-  keeps = λ key. subst (Keeps told key) (sym (ap (option_and_then (get new.slots)) (same.keys_are key) ∙ by_slot (tree.get key_cmp old.keys key))) (stands.keeps key);
+  keeps = λ key. subst (Keeps told key) (sym (ap (option_and_then (get new.slots)) (same.keys_are key) ∙ by_slot (slot_in old.keys key))) (stands.keeps key);
 }
   where
     by_slot : (o : Option ℕ) → option_and_then (get new.slots) o ≡ option_and_then (get old.slots) o

@@ -1,5 +1,5 @@
 -- The order of keys, and the test whether they are the same.
-use Rattle.std.proofs.Common.{◌≡◌, Bool, true, ◌&&◌, eqb, refl, sym, ap, ◌∙◌}
+use Rattle.std.proofs.Common.{◌≡◌, Bool, true, false, ◌&&◌, eqb, refl, sym, ap, ◌∙◌}
 use Rattle.std.specs.declared.cmp.Ordering.{Ordering}
 use Rattle.std.specs.declared.cmp.Ordering.TheVariants.{Less, Equal, Greater}
 use Rattle.std.specs.Cmp.{unsigned_ties}
@@ -13,9 +13,8 @@ use Rattle.zk_base.specs.contracts.network.AddrOrd.TheImpl as address_ord
 use Rattle.zk_base.specs.contracts.network.ProtoOrd.TheImpl as proto_ord
 use Rattle.zk_conn.specs.declared.key.Endpoint.{Endpoint}
 use Rattle.zk_conn.specs.declared.key.Key.{Key}
-use Rattle.zk_conn.specs.contracts.key.EndpointOrd.TheImpl as endpoint_ord
 use Rattle.zk_conn.specs.Segment.{same_address, same_endpoint, same_proto, same_key}
-use Rattle.zk_conn.specs.Table.{key_cmp}
+use Rattle.zk_conn.specs.Table.{key_cmp, rank_cmp}
 
 address_ties : (a b : Addr) → is_eq ((address_ord.ghosts).cmp a b) ≡ same_address a b
 address_ties (V4 a) (V4 b) = sym (unsigned_ties a b)
@@ -34,13 +33,28 @@ both Less p x y first second = ap (λ b. b && y) first
 both Equal p x y first second = second ∙ ap (λ b. b && y) first
 both Greater p x y first second = ap (λ b. b && y) first
 
-endpoint_ties : (a b : Endpoint) → is_eq ((endpoint_ord.ghosts).cmp a b) ≡ same_endpoint a b
-endpoint_ties a b = both _ _ _ _ (address_ties a.addr b.addr) (sym (unsigned_ties a.port b.port))
+-- the same five tests in the order of a key
+in_order : (low_port high_port proto low high : Bool) → (low_port && (high_port && (proto && (low && high)))) ≡ (proto && ((low && low_port) && (high && high_port)))
+in_order true true true true true = refl
+in_order true true true true false = refl
+in_order true true true false high = refl
+in_order true true false low high = refl
+in_order true false true true true = refl
+in_order true false true true false = refl
+in_order true false true false high = refl
+in_order true false false low high = refl
+in_order false high_port true true high = refl
+in_order false high_port true false high = refl
+in_order false high_port false low high = refl
 
--- two keys are equal in the order of keys exactly where they are the same
+-- two keys are equal in the order of the tree of keys exactly where they are the same
 pub is_eq-key_cmp : (a b : Key) → is_eq (key_cmp a b) ≡ same_key a b
-unfolding key_cmp
-is_eq-key_cmp a b = both _ _ _ _ (proto_ties a.proto b.proto) (both _ _ _ _ (endpoint_ties a.low b.low) (endpoint_ties a.high b.high))
+unfolding rank_cmp
+is_eq-key_cmp a b =
+    both _ _ _ _ (sym (unsigned_ties a.low.port b.low.port))
+    (both _ _ _ _ (sym (unsigned_ties a.high.port b.high.port))
+    (both _ _ _ _ (proto_ties a.proto b.proto) (both _ _ _ _ (address_ties a.low.addr b.low.addr) (address_ties a.high.addr b.high.addr))))
+    ∙ in_order (eqb a.low.port b.low.port) (eqb a.high.port b.high.port) (same_proto a.proto b.proto) (same_address a.low.addr b.low.addr) (same_address a.high.addr b.high.addr)
 
 same_address_is : (a b : Addr) → same_address a b ≡ true → a ≡ b
 same_address_is (V4 a) (V4 b) same = ap V4 (eqb-true a b same)

@@ -1,6 +1,5 @@
 -- What a packet does, and the instance that it begins.
 use Rattle.std.proofs.Common.{◌≡◌, ℕ, ◌^◌, pos, ◌≤ℤ◌, Bool, false, cond, not, ◌&&◌, ◌||◌, List, [], ◌∷◌, ◌++◌, Option, None, Some, is_some, refl, sym, ap, subst, ◌∙◌}
-use Rattle.std.specs.BTreeMap as tree
 use Rattle.std.specs.Option.{option_map, option_and_then}
 use Rattle.slab.specs.Slab.{get}
 use Rattle.zk_base.specs.declared.network.Side.{Side}
@@ -20,7 +19,7 @@ use Rattle.zk_conn.specs.Instance.{Opening, opening, originator, side_of, end_of
 use Rattle.zk_conn.specs.Segment.{key_of}
 use Rattle.zk_conn.specs.Standing.{StandsFor, Keeps}
 use Rattle.zk_conn.specs.State.{are_established, is_fin, is_rst}
-use Rattle.zk_conn.specs.Table.{key_cmp, kept, slot_of, instance_at, HasLive, Tells}
+use Rattle.zk_conn.specs.Table.{slot_in, kept, slot_of, instance_at, HasLive, Tells}
 use Rattle.zk_conn.specs.Told.{Told, Packet}
 use Rattle.zk_conn.proofs.HoldsLemmas.{has-append, seen-is}
 use Rattle.zk_conn.proofs.InstanceLemmas.{removal_moment-is}
@@ -75,7 +74,7 @@ touched_between-is first old new opened p before after had has =
 pub found_by_key : (conns : Conns) (told : List Told) (key : Key) (slot : ℕ) → StandsFor conns told → slot_of conns key ≡ Some slot
     → (found : Found conns told key) × (found.slot ≡ slot)
 unfolding slot_of instance_at
-found_by_key conns told key slot stands is = by_slot (tree.get key_cmp conns.keys key) refl
+found_by_key conns told key slot stands is = by_slot (slot_in conns.keys key) refl
   where
     one_key : (k : Key) (i : Instance) → option_map (λ (j : Instance). j.key) (Some i) ≡ Some k → i.key ≡ k
     one_key k i same = cc
@@ -83,7 +82,7 @@ found_by_key conns told key slot stands is = by_slot (tree.get key_cmp conns.key
     no_slot : (o : Option ℕ) → o ≡ None → o ≡ Some slot → ⊥
     no_slot o none some = cc
 
-    by_slot : (o : Option ℕ) → tree.get key_cmp conns.keys key ≡ o → (found : Found conns told key) × (found.slot ≡ slot)
+    by_slot : (o : Option ℕ) → slot_in conns.keys key ≡ o → (found : Found conns told key) × (found.slot ≡ slot)
     by_slot None none = absurd (no_slot None refl (sym (ap (kept conns.slots) none) ∙ is))
     by_slot (Some s) some = by_instance (get conns.slots s) refl
       where

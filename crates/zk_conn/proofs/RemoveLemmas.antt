@@ -19,7 +19,7 @@ use Rattle.zk_conn.specs.Histories.{latest, begun, begun_by, joined_by, number_o
 use Rattle.zk_conn.specs.Holds.{Holds, Follows, facts_in, removal_of}
 use Rattle.zk_conn.specs.Segment.{same_key}
 use Rattle.zk_conn.specs.Standing.{StandsFor, Keeps}
-use Rattle.zk_conn.specs.Table.{key_cmp, instance_at, key_at, number_at, IsTable, Removes, Files, SameFacts, IsLeast, is_stale}
+use Rattle.zk_conn.specs.Table.{slot_in, instance_at, key_at, number_at, IsTable, Removes, Files, SameFacts, IsLeast, is_stale}
 use Rattle.zk_conn.specs.Told.{Told, Removal, Ending, key_told}
 use Rattle.zk_conn.proofs.HoldsLemmas.{holds-append, facts_in-is}
 use Rattle.zk_conn.proofs.InstanceLemmas.{removal_moment-is}
@@ -46,7 +46,7 @@ found_in_slot conns told slot instance stands there = record {
 -- the table with one instance less is in order
 table_removed : (old new : Conns) (slot : ℕ) (was : Instance) → get old.slots slot ≡ Some was → Removes old new slot was → IsTable old → IsTable new
 table_removed old new slot was there removes table = record {
-  keys = matches_less same_key same_key_is same_key-refl (tree.get key_cmp old.keys) (tree.get key_cmp new.keys) (key_at old.slots) (key_at new.slots) was.key slot table.keys
+  keys = matches_less same_key same_key_is same_key-refl (slot_in old.keys) (slot_in new.keys) (key_at old.slots) (key_at new.slots) was.key slot table.keys
       (λ other apart. removes.other_keys other (is_eq-key_cmp was.key other ∙ apart)) (λ other apart. ap (option_map (λ (i : Instance). i.key)) (removes.others other apart))
       (ap (option_map (λ (i : Instance). i.key)) there) removes.key_gone (ap (option_map (λ (i : Instance). i.key)) removes.gone);
   numbers = matches_less nat_eq (λ a b is. eqb-true a b is) (λ a. eq-eqb a a refl) (tree.get nat_cmp old.numbers) (tree.get nat_cmp new.numbers) (number_at old.slots) (number_at new.slots) was.number slot table.numbers
@@ -60,18 +60,18 @@ instance_other : (old new : Conns) (slot : ℕ) (was : Instance) (key : Key) →
     → instance_at new key ≡ instance_at old key
 unfolding instance_at
 instance_other old new slot was key table there removes other =
-    ap (option_and_then (get new.slots)) (removes.other_keys key (is_eq-key_cmp was.key key ∙ other)) ∙ by_slot (tree.get key_cmp old.keys key) refl
+    ap (option_and_then (get new.slots)) (removes.other_keys key (is_eq-key_cmp was.key key ∙ other)) ∙ by_slot (slot_in old.keys key) refl
   where
     one_key : (k : Key) (i : Instance) → option_map (λ (j : Instance). j.key) (Some i) ≡ Some k → i.key ≡ k
     one_key k i same = cc
 
-    by_slot : (o : Option ℕ) → tree.get key_cmp old.keys key ≡ o → option_and_then (get new.slots) o ≡ option_and_then (get old.slots) o
+    by_slot : (o : Option ℕ) → slot_in old.keys key ≡ o → option_and_then (get new.slots) o ≡ option_and_then (get old.slots) o
     by_slot None none = refl
     by_slot (Some s) some = removes.others s
         (λ here. true≢false (sym (same_key-refl key) ∙ ap (λ k. same_key k key)
         (sym (one_key key was (sym (ap (option_map (λ (j : Instance). j.key)) there) ∙ ap (key_at old.slots) (sym here) ∙ table.keys.there key s some))) ∙ other))
 
-gone_instance : (new : Conns) (key : Key) → tree.get key_cmp new.keys key ≡ None → instance_at new key ≡ None
+gone_instance : (new : Conns) (key : Key) → slot_in new.keys key ≡ None → instance_at new key ≡ None
 unfolding instance_at
 gone_instance new key gone = ap (option_and_then (get new.slots)) gone
 
@@ -94,7 +94,7 @@ stands_removed old new told event key stands found removes of_key joined quiet r
     events = latest-append key told event true (ap (λ k. same_key k key) of_key ∙ same_key-refl key) ∙ joined
 
     here : Keeps (told ++ event ∷ []) key (instance_at new key)
-    here = subst (Keeps (told ++ event ∷ []) key) (sym (gone_instance new key (ap (tree.get key_cmp new.keys) (sym found.key_is) ∙ removes.key_gone)))
+    here = subst (Keeps (told ++ event ∷ []) key) (sym (gone_instance new key (ap (slot_in new.keys) (sym found.key_is) ∙ removes.key_gone)))
         (record {
           gone = ap is_live events ∙ is_live-removed (latest key told) event removed;
           late = λ t order. ap (λ l. comes_late l t) events ∙ late t (at_last told event t order);

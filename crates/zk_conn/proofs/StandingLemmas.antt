@@ -22,9 +22,9 @@ use Rattle.zk_conn.specs.Histories.{latest, begun, begun_by, joined_by, is_live,
 use Rattle.zk_conn.specs.Holds.{Has, Holds, Follows, end_in, facts_in, removal_of}
 use Rattle.zk_conn.specs.Instance.{Opening, opening, originator, end_of, moment_after, facts_of}
 use Rattle.zk_conn.specs.Removals.{filing_of}
-use Rattle.zk_conn.specs.Segment.{same_key}
+use Rattle.zk_conn.specs.Segment.{same_key, ranked}
 use Rattle.zk_conn.specs.Standing.{StandsFor, IsLatest, Keeps}
-use Rattle.zk_conn.specs.Table.{has_number, key_cmp, kept, slot_numbered, HasLive, instance_at, key_at, number_at, Matches, IsTable, Changes, Tells}
+use Rattle.zk_conn.specs.Table.{has_number, rank_cmp, slot_in, kept, slot_numbered, HasLive, instance_at, key_at, number_at, Matches, IsTable, Changes, Tells}
 use Rattle.zk_conn.specs.Told.{Told, key_told}
 use Rattle.zk_conn.proofs.HoldsLemmas.{holds-append, facts_in-is}
 use Rattle.zk_conn.proofs.KeyLemmas.{same_key_is, same_key-refl}
@@ -41,7 +41,7 @@ matches_same find find' at at' finds ats matches = record {
 -- the table is in order after the instance of a slot changed
 pub table_changed : (old new : Conns) (slot : ℕ) (was is : Instance) → get old.slots slot ≡ Some was → Changes old new slot was is → IsTable old → IsTable new
 table_changed old new slot was is there changes table = record {
-  keys = matches_same (tree.get key_cmp old.keys) (tree.get key_cmp new.keys) (key_at old.slots) (key_at new.slots) changes.keys_are
+  keys = matches_same (slot_in old.keys) (slot_in new.keys) (key_at old.slots) (key_at new.slots) changes.keys_are
       (at_slot (λ (i : Instance). i.key) changes.key_is) table.keys;
   numbers = matches_same (tree.get nat_cmp old.numbers) (tree.get nat_cmp new.numbers) (number_at old.slots) (number_at new.slots) changes.numbers_are
       (at_slot (λ (i : Instance). i.number) changes.number_is) table.numbers;
@@ -72,9 +72,9 @@ pub record Found (conns : Conns) (told : List Told) (key : Key) : Type 0 where
 -- a live instance is found
 pub found_live : (conns : Conns) (told : List Told) (key : Key) → StandsFor conns told → is_live (latest key told) ≡ true → Found conns told key
 unfolding instance_at
-found_live conns told key stands live = by_slot (tree.get key_cmp conns.keys key) refl
+found_live conns told key stands live = by_slot (slot_in conns.keys key) refl
   where
-    by_slot : (o : Option ℕ) → tree.get key_cmp conns.keys key ≡ o → Found conns told key
+    by_slot : (o : Option ℕ) → slot_in conns.keys key ≡ o → Found conns told key
     by_slot None none =
         let gone = subst (Keeps told key) (ap (option_and_then (get conns.slots)) none) (stands.keeps key) in
         absurd (true≢false (sym live ∙ gone.gone))
@@ -128,12 +128,12 @@ pub instance_changed : (old new : Conns) (slot : ℕ) (was is : Instance) (key :
     → same_key was.key key ≡ false → same_key key key ≡ true → instance_at new key ≡ instance_at old key
 unfolding instance_at
 instance_changed old new slot was is key table there changes other itself =
-    ap (option_and_then (get new.slots)) (changes.keys_are key) ∙ by_slot (tree.get key_cmp old.keys key) refl
+    ap (option_and_then (get new.slots)) (changes.keys_are key) ∙ by_slot (slot_in old.keys key) refl
   where
     one_key : {k : Key} {i : Instance} {o : Option Instance} → o ≡ Some i → option_map (λ (j : Instance). j.key) o ≡ Some k → i.key ≡ k
     one_key {k} {i} {o} some same = let parts : option_map (λ (j : Instance). j.key) (Some i) ≡ Some k = subst (λ x. option_map (λ (j : Instance). j.key) x ≡ Some k) some same in cc
 
-    by_slot : (o : Option ℕ) → tree.get key_cmp old.keys key ≡ o → option_and_then (get new.slots) o ≡ option_and_then (get old.slots) o
+    by_slot : (o : Option ℕ) → slot_in old.keys key ≡ o → option_and_then (get new.slots) o ≡ option_and_then (get old.slots) o
     by_slot None none = refl
     by_slot (Some s) some = changes.others s
         (λ here. true≢false (sym itself ∙ ap (λ k. same_key k key) (sym (one_key there (ap (λ x. key_at old.slots x) (sym here) ∙ table.keys.there key s some))) ∙ other))
@@ -322,7 +322,7 @@ pub stands_empty : (conns : Conns) → conns.slots.slots ≡ [] → conns.keys.e
 unfolding instance_at
 stands_empty conns slots keys numbers firsts none_begun = record {
   table = record {
-    keys = empty (tree.get key_cmp conns.keys) (key_at conns.slots) (λ key. ap (lookup (tree.is_at (key_cmp key))) keys) (λ slot. ap (option_map (λ (i : Instance). i.key)) (nothing slot));
+    keys = empty (slot_in conns.keys) (key_at conns.slots) (λ key. ap (lookup (tree.is_at (rank_cmp (ranked key)))) keys) (λ slot. ap (option_map (λ (i : Instance). i.key)) (nothing slot));
     numbers = empty (tree.get nat_cmp conns.numbers) (number_at conns.slots) (λ number. ap (lookup (tree.is_at (nat_cmp number))) numbers) (λ slot. ap (option_map (λ (i : Instance). i.number)) (nothing slot));
     tree = record {
       nodes = λ slot within. absurd (omega (arith, within, ap length firsts));
@@ -330,7 +330,7 @@ stands_empty conns slots keys numbers firsts none_begun = record {
     };
   };
   begun_is = none_begun;
-  keeps = λ key. subst (Keeps [] key) (sym (ap (λ o. option_and_then (get conns.slots) o) (ap (lookup (tree.is_at (key_cmp key))) keys)))
+  keeps = λ key. subst (Keeps [] key) (sym (ap (λ o. option_and_then (get conns.slots) o) (ap (lookup (tree.is_at (rank_cmp (ranked key)))) keys)))
       (record { gone = refl; late = λ t order. refl });
 }
   where

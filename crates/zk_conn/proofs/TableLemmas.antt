@@ -27,7 +27,7 @@ use Rattle.zk_conn.specs.Holds.{Follows, half_after, removal_of, touched_between
 use Rattle.zk_conn.specs.Instance.{same_side, wait}
 use Rattle.zk_conn.specs.Segment.{is_tcp}
 use Rattle.zk_conn.specs.Removals.{earlier, filing_at, filing_of, AllBut, IsTree}
-use Rattle.zk_conn.specs.Table.{key_cmp, Changes, SameFacts, Files, Hastens, Tells}
+use Rattle.zk_conn.specs.Table.{slot_in, Changes, SameFacts, Files, Hastens, Tells}
 use Rattle.zk_conn.specs.Told.{Told, Front}
 use Rattle.zk_conn.proofs.MomentLemmas.{int_le-refl}
 
@@ -80,7 +80,7 @@ changes_written old new slot was is there written key_is number_is same_keys sam
   others = λ other apart. ap (λ s. get s other) written ∙ with_value-other old.slots slot other is apart;
   key_is = key_is;
   number_is = number_is;
-  keys_are = λ key. ap (λ m. btree.get key_cmp m key) same_keys;
+  keys_are = λ key. ap (λ m. slot_in m key) same_keys;
   numbers_are = λ number. ap (λ m. btree.get nat_cmp m number) same_numbers;
   begun_is = same_begun;
   recent_is = same_recent;

@@ -7,6 +7,7 @@ use Rattle.zk_base.specs.declared.network.Proto.TheVariants.{Tcp, Udp}
 use Rattle.zk_l4.specs.declared.flags.TheConstants.{FIN, SYN, RST, ACK}
 use Rattle.zk_conn.specs.declared.key.Endpoint.{Endpoint}
 use Rattle.zk_conn.specs.declared.key.Key.{Key}
+use Rattle.zk_conn.specs.declared.key.Ranked.{Ranked}
 use Rattle.zk_conn.specs.declared.view.L4View.{L4View}
 
 -- where a packet comes from
@@ -44,6 +45,16 @@ key_of p = record {
   high = if is_before (receiver p) (sender p) then sender p else receiver p;
 }
 
+-- the parts of a key in the order of the tree of keys
+abbrev pub ranked : Key → Ranked
+ranked key = record {
+  low_port = key.low.port;
+  high_port = key.high.port;
+  proto = key.proto;
+  low = key.low.addr;
+  high = key.high.addr;
+}
+
 abbrev pub is_tcp : Proto → Bool
 is_tcp Tcp = true
 is_tcp Udp = false
@@ -75,3 +86,7 @@ has_fin p = has p FIN
 
 abbrev pub has_rst : L4View → Bool
 has_rst p = has p RST
+
+-- a packet that opens and closes no end
+abbrev pub is_plain : L4View → Bool
+is_plain p = not (has_syn p || has_fin p || has_rst p)

@@ -10,16 +10,25 @@ use Rattle.zk_base.specs.declared.time.Moment.{Moment}
 use Rattle.zk_conn.specs.declared.conns.Conns.{Conns}
 use Rattle.zk_conn.specs.declared.instance.Instance.{Instance}
 use Rattle.zk_conn.specs.declared.key.Key.{Key}
+use Rattle.zk_conn.specs.declared.key.Ranked.{Ranked}
 use Rattle.zk_conn.specs.declared.removals.Filing.{Filing}
 use Rattle.zk_conn.specs.Holds.{Follows, removal_of}
 use Rattle.zk_conn.specs.Removals.{IsTree}
+use Rattle.zk_conn.specs.Segment.{ranked}
 use Rattle.zk_conn.specs.Told.{Told}
-use Rattle.zk_conn.specs.contracts.key.KeyOrd.TheImpl as key_ord
+use Rattle.zk_conn.specs.contracts.key.RankedOrd.TheImpl as ranked_ord
 use Rattle.zk_conn.specs.contracts.key.KeyPartialEq.TheImpl as key_partial_eq
 
--- the order of the keys in the table
-unfoldable pub key_cmp : Key → Key → Ordering
-key_cmp = (key_ord.ghosts).cmp
+-- the order of the tree of keys
+unfoldable pub rank_cmp : Ranked → Ranked → Ordering
+rank_cmp = (ranked_ord.ghosts).cmp
+
+abbrev pub key_cmp : Key → Key → Ordering
+key_cmp a b = rank_cmp (ranked a) (ranked b)
+
+-- the slot that the tree of keys has for a key
+abbrev pub slot_in : tree.BTreeMap Ranked ℕ → Key → Option ℕ
+slot_in keys key = tree.get rank_cmp keys (ranked key)
 
 -- the test whether two keys are the same
 unfoldable pub key_eq : Key → Key → Bool
@@ -37,7 +46,7 @@ kept slots (Some slot) = if is_some (get slots slot) then Some slot else None
 
 -- the slot of a live connection
 unfoldable pub slot_of : Conns → Key → Option ℕ
-slot_of conns key = kept conns.slots (tree.get key_cmp conns.keys key)
+slot_of conns key = kept conns.slots (slot_in conns.keys key)
 
 -- the instance is there and has this number
 abbrev pub has_number : Option Instance → ℕ → Bool
@@ -54,7 +63,7 @@ HasLive conns conn = IsSome (slot_numbered conns conn)
 
 -- the live instance of a key
 unfoldable pub instance_at : Conns → Key → Option Instance
-instance_at conns key = option_and_then (get conns.slots) (tree.get key_cmp conns.keys key)
+instance_at conns key = option_and_then (get conns.slots) (slot_in conns.keys key)
 
 -- the key of the instance of a slot
 abbrev pub key_at : Slab Instance → ℕ → Option Key
@@ -71,7 +80,7 @@ pub record Matches {K : Type 0} (find : K → Option ℕ) (at : ℕ → Option K
 
 -- the slots, their keys, their numbers and the index of their removals belong together
 pub record IsTable (conns : Conns) : Type 0 where
-  pub keys : Matches (tree.get key_cmp conns.keys) (key_at conns.slots)
+  pub keys : Matches (slot_in conns.keys) (key_at conns.slots)
   pub numbers : Matches (tree.get nat_cmp conns.numbers) (number_at conns.slots)
   pub tree : IsTree conns.slots conns.firsts.items
 
@@ -81,7 +90,7 @@ pub record Changes (old new : Conns) (slot : ℕ) (was is : Instance) : Type 0 w
   pub others : (other : ℕ) → other ≢ slot → get new.slots other ≡ get old.slots other
   pub key_is : is.key ≡ was.key
   pub number_is : is.number ≡ was.number
-  pub keys_are : (key : Key) → tree.get key_cmp new.keys key ≡ tree.get key_cmp old.keys key
+  pub keys_are : (key : Key) → slot_in new.keys key ≡ slot_in old.keys key
   pub numbers_are : (number : ℕ) → tree.get nat_cmp new.numbers number ≡ tree.get nat_cmp old.numbers number
   pub begun_is : new.begun ≡ old.begun
   pub recent_is : new.recent ≡ old.recent
@@ -124,7 +133,7 @@ pub record Tells (old new : Conns) (slot : ℕ) (was : Instance) (event : Told) 
 -- the tables find the same instances
 pub record SameTable (old new : Conns) : Type 0 where
   pub slots_are : (slot : ℕ) → get new.slots slot ≡ get old.slots slot
-  pub keys_are : (key : Key) → tree.get key_cmp new.keys key ≡ tree.get key_cmp old.keys key
+  pub keys_are : (key : Key) → slot_in new.keys key ≡ slot_in old.keys key
   pub numbers_are : (number : ℕ) → tree.get nat_cmp new.numbers number ≡ tree.get nat_cmp old.numbers number
   pub begun_is : new.begun ≡ old.begun
   pub tree : IsTree old.slots old.firsts.items → IsTree new.slots new.firsts.items
@@ -135,8 +144,8 @@ pub record Inserts (old new : Conns) (instance : Instance) : Type 0 where
   pub vacant : get old.slots slot ≡ None
   pub there : get new.slots slot ≡ Some instance
   pub others : (other : ℕ) → other ≢ slot → get new.slots other ≡ get old.slots other
-  pub key_found : tree.get key_cmp new.keys instance.key ≡ Some slot
-  pub other_keys : (other : Key) → is_eq (key_cmp instance.key other) ≡ false → tree.get key_cmp new.keys other ≡ tree.get key_cmp old.keys other
+  pub key_found : slot_in new.keys instance.key ≡ Some slot
+  pub other_keys : (other : Key) → is_eq (key_cmp instance.key other) ≡ false → slot_in new.keys other ≡ slot_in old.keys other
   pub number_found : tree.get nat_cmp new.numbers instance.number ≡ Some slot
   pub other_numbers : (other : ℕ) → is_eq (nat_cmp instance.number other) ≡ false → tree.get nat_cmp new.numbers other ≡ tree.get nat_cmp old.numbers other
   pub begun_is : new.begun ≡ old.begun
@@ -146,8 +155,8 @@ pub record Inserts (old new : Conns) (instance : Instance) : Type 0 where
 pub record Removes (old new : Conns) (slot : ℕ) (was : Instance) : Type 0 where
   pub gone : get new.slots slot ≡ None
   pub others : (other : ℕ) → other ≢ slot → get new.slots other ≡ get old.slots other
-  pub key_gone : tree.get key_cmp new.keys was.key ≡ None
-  pub other_keys : (other : Key) → is_eq (key_cmp was.key other) ≡ false → tree.get key_cmp new.keys other ≡ tree.get key_cmp old.keys other
+  pub key_gone : slot_in new.keys was.key ≡ None
+  pub other_keys : (other : Key) → is_eq (key_cmp was.key other) ≡ false → slot_in new.keys other ≡ slot_in old.keys other
   pub number_gone : tree.get nat_cmp new.numbers was.number ≡ None
   pub other_numbers : (other : ℕ) → is_eq (nat_cmp was.number other) ≡ false → tree.get nat_cmp new.numbers other ≡ tree.get nat_cmp old.numbers other
   pub begun_is : new.begun ≡ old.begun

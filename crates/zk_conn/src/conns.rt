@@ -14,7 +14,7 @@ ghost use Rattle.zk_conn.specs.Told.{key_told, Told, Packet, Front, Reached, Rem
 
 use crate::facts::Facts;
 use crate::instance::Instance;
-use crate::key::Key;
+use crate::key::{Key, Ranked};
 use crate::removals::{Filing, earlier, refile};
 use crate::view::L4View;
 use slab::Slab;
@@ -141,7 +141,7 @@ fn make_places(hints: &mut Vec<Hints>, slots: usize) -> Result<(), Mem> {
 #[derive(Debug, Drop)]
 pub struct Conns {
     slots: Slab<Instance>,
-    keys: BTreeMap<Key, usize>,
+    keys: BTreeMap<Ranked, usize>,
     numbers: BTreeMap<u64, usize>,
     /// The index of removals, by slots.
     firsts: Vec<Option<Filing>>,
@@ -382,12 +382,12 @@ impl Conns {
     }
 
     /// The slot of a live connection, by its key.
-    #[tactic(auto, unfolding(crate::specs::Table::slot_of, crate::specs::Table::key_cmp))]
+    #[tactic(auto, unfolding(crate::specs::Table::slot_of, crate::specs::Table::rank_cmp))]
     fn slot_of(&self, key: &Key) -> Option<usize>
         ensures slot { result ≡ slot_of self.now key.now }
         ensures there { IfSome result (ContainsKey self.now.slots) }
     {
-        match self.keys.get(key) {
+        match self.keys.get(&Ranked::of(key)) {
             Some(slot) if self.slots.contains(*slot) => Some(*slot),
             _ => None,
         }
@@ -503,7 +503,7 @@ impl Conns {
         self.make_room()?;
         let slot = self.slots.vacant_key();
         self.numbers.insert(instance.number, slot)?;
-        if self.keys.insert(instance.key, slot).is_err() {
+        if self.keys.insert(Ranked::of(&instance.key), slot).is_err() {
             self.numbers.remove(&instance.number);
             return Err(Mem);
         }
@@ -536,7 +536,7 @@ impl Conns {
             → result ≡ record { conn = record { 0 = was.number }; at = at; facts = facts_in was } }
     {
         let instance = self.slots.remove(slot);
-        self.keys.remove(&instance.key);
+        self.keys.remove(&Ranked::of(&instance.key));
         self.numbers.remove(&instance.number);
         refile(&self.slots, &mut self.firsts, slot);
         Removed {

@@ -104,6 +104,17 @@ impl Half {
         let syn = self.syn;
         self.close(closed_by(syn != SynSent::No, p));
         self.syn = syn_after(syn, p);
+        self.count(p);
+    }
+
+    /// Counts a packet of this side, whatever it opens or closes.
+    pub fn count(&mut self, p: &L4View)
+        ensures { self.new ≡ record self.old {
+          packets = counted (self.old.packets + 1);
+          ip_bytes = counted (self.old.ip_bytes + p.now.ip_len);
+          payload_bytes = counted (self.old.payload_bytes + p.now.payload_len);
+        } }
+    {
         self.packets = counted(self.packets, 1);
         self.ip_bytes = counted(self.ip_bytes, p.ip_len);
         self.payload_bytes = counted(self.payload_bytes, p.payload_len);

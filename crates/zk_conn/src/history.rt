@@ -1,6 +1,7 @@
-ghost use Rattle.std.specs.Prelude.{◌≡◌, true, nat_eq, [], fold};
+ghost use Rattle.std.specs.Prelude.{◌≡◌, ◌∷◌, true, nat_eq, [], filter, fold, IfNone, IfSome};
 ghost use Rattle.std.specs.List.{list_any};
-ghost use Rattle.zk_conn.specs.History.{letter_code, letters_of, shows, added, all_codes};
+ghost use Rattle.zk_conn.specs.History.{letter_code, letters_of, shows, added, all_codes, all_letters};
+ghost use Rattle.zk_conn.specs.Segment.{is_plain};
 
 use crate::view::L4View;
 use std::marker::Model;
@@ -70,6 +71,21 @@ impl Letter {
                 && !p.has(RST),
             Letter::Fin => p.has(FIN),
             Letter::Rst => p.has(RST),
+        }
+    }
+
+    /// The one thing that a packet without SYN, FIN and RST may show.
+    fn of_plain(p: &L4View) -> Option<Letter>
+        requires { is_plain p.now ≡ true }
+        ensures some { IfSome result (λ letter. filter (shows p.now) all_letters ≡ letter ∷ []) }
+        ensures none { IfNone result (filter (shows p.now) all_letters ≡ []) }
+    {
+        if p.proto == Proto::Udp || p.payload_len > 0 {
+            Some(Letter::Data)
+        } else if p.has(ACK) {
+            Some(Letter::Ack)
+        } else {
+            None
         }
     }
 }
@@ -142,6 +158,16 @@ impl History {
             if letter.shown_by(p) {
                 self.add(letter.code(side));
             }
+        }
+    }
+
+    /// Adds what a packet of this side shows that has no SYN, FIN and RST.
+    pub(crate) fn note_plain(&mut self, side: Side, p: &L4View)
+        requires { is_plain p.now ≡ true }
+        ensures { self.new ≡ fold added self.old (letters_of side p.now) }
+    {
+        if let Some(letter) = Letter::of_plain(p) {
+            self.add(letter.code(side));
         }
     }
 }

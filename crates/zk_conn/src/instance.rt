@@ -1,7 +1,7 @@
-ghost use Rattle.std.specs.Prelude.{◌≡◌, pos, ◌||◌, []};
+ghost use Rattle.std.specs.Prelude.{◌≡◌, true, pos, ◌||◌, []};
 ghost use Rattle.zk_conn.specs.Half.{seen};
 ghost use Rattle.zk_conn.specs.Instance.{side_of, wait};
-ghost use Rattle.zk_conn.specs.Segment.{is_tcp};
+ghost use Rattle.zk_conn.specs.Segment.{is_plain, is_tcp};
 ghost use Rattle.zk_conn.specs.State.{are_established, is_fin, is_open, is_rst, state_of};
 ghost use Rattle.zk_conn.specs.Told.{Packet, Front, Reached};
 
@@ -105,6 +105,43 @@ impl Instance {
 
     /// Counts a packet, which begins the instance or not, and says what it did.
     pub fn touch(&mut self, opened: bool, t: Moment, p: &L4View) -> Touched
+        ensures follows { Follows self.old self.new (Packet t p.now) }
+        ensures filed { self.new.filed ≡ self.old.filed }
+        ensures touched { result ≡ touched_between self.old self.new opened p.now }
+    {
+        if p.is_plain() {
+            self.touch_plain(opened, t, p)
+        } else {
+            self.touch_any(opened, t, p)
+        }
+    }
+
+    /// Counts a packet without SYN, FIN and RST: it establishes, resets and ends nothing.
+    fn touch_plain(&mut self, opened: bool, t: Moment, p: &L4View) -> Touched
+        requires { is_plain p.now ≡ true }
+        ensures follows { Follows self.old self.new (Packet t p.now) }
+        ensures filed { self.new.filed ≡ self.old.filed }
+        ensures touched { result ≡ touched_between self.old self.new opened p.now }
+    {
+        let side = self.side_of(p);
+        match side {
+            Side::Orig => self.orig.count(p),
+            Side::Resp => self.resp.count(p),
+        }
+        self.history.note_plain(side, p);
+        self.last = t;
+        Touched {
+            conn: ConnNo(self.number),
+            side,
+            opened,
+            established: false,
+            reset: false,
+            ended: false,
+        }
+    }
+
+    /// Counts a packet, whatever it opens or closes.
+    fn touch_any(&mut self, opened: bool, t: Moment, p: &L4View) -> Touched
         ensures follows { Follows self.old self.new (Packet t p.now) }
         ensures filed { self.new.filed ≡ self.old.filed }
         ensures touched { result ≡ touched_between self.old self.new opened p.now }

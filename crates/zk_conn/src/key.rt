@@ -1,11 +1,11 @@
 ghost use Rattle.std.specs.Prelude.{◌≡◌};
-ghost use Rattle.zk_conn.specs.Segment.{sender, receiver, is_before, address_is_before, key_of};
+ghost use Rattle.zk_conn.specs.Segment.{sender, receiver, is_before, address_is_before, key_of, ranked};
 
 use crate::view::L4View;
 use zk_base::{Addr, Proto};
 
 /// One end of a connection.
-#[derive(Clone, Copy, Debug, PartialEq, Eq, PartialOrd, Ord)]
+#[derive(Clone, Copy, Debug, PartialEq, Eq)]
 pub struct Endpoint {
     pub addr: Addr,
     pub port: u16,
@@ -67,7 +67,7 @@ impl Endpoint {
 
 /// What the packets of a connection have in common: the protocol and the two ends, whichever of
 /// them sends.
-#[derive(Clone, Copy, Debug, PartialEq, Eq, PartialOrd, Ord)]
+#[derive(Clone, Copy, Debug, PartialEq, Eq)]
 pub struct Key {
     pub proto: Proto,
     pub low: Endpoint,
@@ -99,5 +99,31 @@ impl Key {
         // The upper half as a part of 2^32, of so many places.
         let part = ends.wrapping_mul(SPREAD) >> 32;
         (part.wrapping_mul(places as u64) >> 32) as usize
+    }
+}
+
+/// The parts of a key, what tells two keys apart most often first: the order of the tree of keys. So a comparison
+/// seldom comes to the addresses, which many connections share, and no choice of them makes one dear.
+#[derive(Clone, Copy, Debug, PartialEq, Eq, PartialOrd, Ord)]
+pub struct Ranked {
+    pub low_port: u16,
+    pub high_port: u16,
+    pub proto: Proto,
+    pub low: Addr,
+    pub high: Addr,
+}
+
+impl Ranked {
+    /// The parts of a key.
+    pub fn of(key: &Key) -> Ranked
+        ensures { result ≡ ranked key.now }
+    {
+        Ranked {
+            low_port: key.low.port,
+            high_port: key.high.port,
+            proto: key.proto,
+            low: key.low.addr,
+            high: key.high.addr,
+        }
     }
 }

@@ -1,7 +1,8 @@
 ghost use Rattle.std.specs.Prelude.{◌≡◌};
-ghost use Rattle.zk_conn.specs.Segment.{control, has};
+ghost use Rattle.zk_conn.specs.Segment.{control, has, is_plain};
 
 use zk_base::{Addr, Proto};
+use zk_l4::flags::{FIN, RST, SYN};
 
 /// A TCP or UDP packet, as far as connections look at it (RFC 9293, section 3.1; RFC 768).
 #[derive(Clone, Copy, Debug, PartialEq, Eq)]
@@ -37,5 +38,12 @@ impl L4View {
         ensures { result ≡ has self.now bit }
     {
         self.control() & bit != 0
+    }
+
+    /// Whether it has no SYN, FIN and RST, as most have: such a packet opens and closes no end.
+    pub(crate) fn is_plain(&self) -> bool
+        ensures { result ≡ is_plain self.now }
+    {
+        !(self.has(SYN) || self.has(FIN) || self.has(RST))
     }
 }

@@ -1,4 +1,4 @@
-ghost use Rattle.std.specs.Prelude.{◌≡◌, ◌==◌, ◌<◌, ◌++◌, ◌∷◌, [], ℕ, if◌then◌else◌, map, filter, length, slice_get, Some, IfOk, OnOk, All};
+ghost use Rattle.std.specs.Prelude.{◌≡◌, ◌==◌, ◌<◌, ◌≤◌, ◌^◌, ◌++◌, ◌∷◌, [], ℕ, if◌then◌else◌, map, filter, length, slice_get, Some, IfOk, IfSome, IfNone, OnOk, All};
 ghost use Rattle.zk_base.specs.declared.numbers.EventNo.{EventNo as Event};
 ghost use Rattle.zk_typed.specs.Dispatch.{handlers_of};
 ghost use Rattle.zk_typed.specs.Meaning as meaning;
@@ -20,13 +20,21 @@ pub struct Numbered {
     pub handler: HandlerCode,
 }
 
+/// The number of what stands at a place of a list: none past the numbers of 32 bits.
+fn number_at(index: usize) -> Option<u32>
+    ensures some { IfSome result (λ number. number ≡ index) }
+    ensures none { IfNone result (2 ^ 32 ≤ index) }
+{
+    u32::try_from(index).ok()
+}
+
 /// Handlers with their numbers. More than a `u32` numbers are refused for want of memory.
 fn with_numbers(alloc: Global, handlers: &[HandlerCode]) -> Result<Vec<Numbered>, Mem>
     ensures { IfOk result (λ list. map numbered_of list.items ≡ handling.numbered 0 (map handler_of handlers.now)) }
 {
     let mut list = Vec::new(alloc);
     for (index, handler) in handlers.iter().enumerate() {
-        let Ok(number) = u32::try_from(index) else {
+        let Some(number) = number_at(index) else {
             return Err(Mem);
         };
         list.push(Numbered {
@@ -124,7 +132,7 @@ fn expiring(alloc: Global, globals: &[GlobalCode]) -> Result<Vec<u32>, Mem>
 {
     let mut list = Vec::new(alloc);
     for (index, global) in globals.iter().enumerate() {
-        let Ok(number) = u32::try_from(index) else {
+        let Some(number) = number_at(index) else {
             return Err(Mem);
         };
         let copy = global_copy(global);

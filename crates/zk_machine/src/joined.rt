@@ -238,6 +238,7 @@ impl Running {
         self.update_local_by_element(number, other, place, *of, *local, *by)
     }
 
+    /// A local is changed by the element of a table that a local has, at the count that another one has.
     fn update_local_by_element(
         &mut self,
         number: u32,
@@ -288,6 +289,7 @@ impl Running {
         self.unit_and_step_of(code, place, *number, *by)
     }
 
+    /// A unit is taken for a statement, and a local that has a count is stepped, whose value nobody asks for.
     fn unit_and_step_of(
         &mut self,
         code: &Code,

@@ -4,6 +4,7 @@ use Rattle.zk_base.specs.Shelf.{Outside}
 use Rattle.zk_pcap.specs.declared.records.Packet.{Packet}
 use Rattle.zk_top.specs.declared.listing.Listing.{Listing}
 use Rattle.zk_top.specs.Line.{lines_of, list_options}
+use Rattle.zk_io.specs.Said.{HasSaid}
 use Rattle.zk_load.specs.Parts.{IsPrefix}
 use Rattle.zk_traffic.specs.declared.item.Item.{Item}
 use Rattle.zk_traffic.specs.declared.options.Options.{Options}

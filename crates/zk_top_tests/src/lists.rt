@@ -1,7 +1,5 @@
-use crate::case::{Case, difference, inputs, words};
+use crate::case::{Case, difference};
 use std::test::Fail;
-use zk_base::{Ending, SureShelf};
-use zk_top::run;
 
 /// A DNS query of 33 bytes and its answer of 63.
 pub const QUERY: &[u8] = b"\
@@ -76,7 +74,7 @@ const GAP_PAST_BODY: &[u8] = b"\
     \0\xf1SeP\xc3\0\06\0\0\06\0\0\0\0\0\0\0\0\0\0\0\0\0\0\0\x08\0E\0\0(\0\0\0\0\0\x06\xa6\x80\n\0\0\x01\n\0\0P\x9cA\0P\0\0\0\x89\0\0\x02)P\x10\0\0\xfc@\0\0";
 
 /// A capture, and its lines.
-const ROWS: &[(&[u8], &[u8])] = &[
+pub const ROWS: &[(&[u8], &[u8])] = &[
     (
         QUERY,
         b"1700000000.000000\tpacket\t1700000000.000000\t75\t75\n\
@@ -248,20 +246,5 @@ fn a_capture_that_is_cut_is_listed_up_to_there(rt: HostRuntime) -> Result<(), Fa
         files: &[],
     };
     assert_eq!(rt; difference(rt.alloc(), &case)?, None);
-    Ok(())
-}
-
-/// No capture.
-const ZEROS: [u8; 100] = [0; 100];
-
-/// A file that does not begin with a magic is refused behind one read. The last call complains.
-#[test]
-fn a_header_is_refused_as_soon_as_it_is_sure(rt: HostRuntime) -> Result<(), Fail> {
-    let alloc = rt.alloc();
-    let words = words(alloc, b"list c.pcap")?;
-    let mut shelf = SureShelf::new(alloc, inputs(alloc, &[(b"c.pcap", &ZEROS)])?)?;
-    let ending = run(alloc, &words, &mut shelf);
-    assert!(rt; matches!(ending, Ending::CaptureRefused { place: 0, .. }));
-    assert_eq!(rt; shelf.calls(), 3);
     Ok(())
 }

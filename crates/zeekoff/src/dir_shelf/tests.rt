@@ -1,7 +1,11 @@
 use super::*;
+use crate::arguments::ArgumentFault;
+use crate::status;
+use std::alloc::Global;
 use std::path::PathBuf;
 use std::test::Fail;
 use std::{env, fs, process};
+use zk_base::{Bytes, Mem, Word};
 
 /// Makes a folder of this process's own in the system's folder for what is temporary.
 fn own_folder(rt: &HostRuntime) -> Result<PathBuf, Fail> {
@@ -81,5 +85,29 @@ fn standard_output_and_error_are_told_apart(rt: HostRuntime) -> Result<(), Fail>
     assert_eq!(rt; shelf.say(b"two"), Wrote::Done);
     assert_eq!(rt; shelf.out.as_slice(), b"one, two".as_slice());
     assert_eq!(rt; shelf.err.as_slice(), b"wrong".as_slice());
+    Ok(())
+}
+
+/// The words that list a capture.
+fn list(alloc: Global, file: &[u8]) -> Result<Vec<Word>, Mem> {
+    let mut words = Vec::new(alloc);
+    words.push(Word::from(Bytes::copy_of(alloc, b"list")?))?;
+    words.push(Word::from(Bytes::copy_of(alloc, file)?))?;
+    Ok(words)
+}
+
+#[test]
+fn a_run_over_real_files_ends_with_the_status_of_its_fault(rt: HostRuntime) -> Result<(), Fail> {
+    let alloc = rt.alloc();
+    let mut shelf = DirShelf::new(&rt, Vec::new(alloc), Vec::new(alloc));
+    assert_eq!(rt; status(alloc, Ok(list(alloc, b"/")?), &mut shelf), 5);
+    assert!(rt; shelf.err.is_empty());
+    let absent = list(alloc, b"/dev/nothing.pcap")?;
+    assert_eq!(rt; status(alloc, Ok(absent), &mut shelf), 9);
+    assert_eq!(rt;
+        shelf.err.as_slice(),
+        b"zeekoff: no file /dev/nothing.pcap\n".as_slice()
+    );
+    assert_eq!(rt; status(alloc, Err(ArgumentFault::NotText), &mut shelf), 10);
     Ok(())
 }

@@ -11,7 +11,7 @@ pub loop-index-preserved : goal.loop-index-preserved
 loop-index-preserved c =
     let handlers = c.args.handlers.now in
     let i = c.loop-index.index in
-    let n = c.in-Ok.number in
+    let n = c.in-Some.number in
     let before = map handler_of (take i handlers) in
     let same : n ≡ length before = counted handler_of handlers i n c.loop-index-test.true (search rules) in
     let place : n ≡ 0 + length before = omega (arith, same) in

@@ -1,6 +1,7 @@
 pub mod NewsLemmas
 pub mod PlaceLemmas
 pub mod ReadLemmas
+pub mod ReadingLemmas
 pub mod StreamLemmas
 pub mod TakeLemmas
 pub mod StreamTableLemmas

@@ -19,12 +19,13 @@ use Rattle.zk_traffic.specs.Moves.{stretch}
 use Rattle.zk_traffic.specs.Segments.{Segment}
 use Rattle.zk_traffic.proofs.PlaceLemmas.{gap_of-some, run_of-some, stretch-byte, stretch-gap}
 use Rattle.zk_units.specs.declared.protocol.Protocol.{Protocol}
-use Rattle.zk_units.specs.declared.readers.Readers.{Readers}
+use Rattle.zk_traffic.specs.declared.reading.Reading.{Reading}
 use Rattle.zk_units.specs.declared.stream_unit.StreamUnit.{StreamUnit}
 use Rattle.zk_units.specs.Cuts.{byte_places, gap_places}
-use Rattle.zk_units.specs.Standing.{Gets, StandsFor, behind, ended_by, with_stream}
+use Rattle.zk_traffic.specs.Reading.{Gets, StandsFor}
+use Rattle.zk_units.specs.Standing.{behind, ended_by, with_stream}
 
-pub gets_none : (side : Side) (readers : Readers) → Gets side [] readers readers
+pub gets_none : (side : Side) (readers : Reading) → Gets side [] readers readers
 gets_none side readers = record { stands = λ protocol streams units none is. subst (λ x. StandsFor readers protocol x units) (sym (same side streams)) is }
   where
     same : (side : Side) (streams : Both Stream) → with_stream side (behind (of_side side streams) []) streams ≡ streams
@@ -45,7 +46,7 @@ second_none (x ∷ p) q is = absurd (apart is)
     apart : x ∷ (p ++ q) ≡ [] → ⊥
     apart e = cc
 
-pub gets_more : (side : Side) (p q : List Place) (a b c : Readers) → Gets side p a b → Gets side q b c → Gets side (p ++ q) a c
+pub gets_more : (side : Side) (p q : List Place) (a b c : Reading) → Gets side p a b → Gets side q b c → Gets side (p ++ q) a c
 gets_more Orig p q a b c first second = record {
   stands = λ protocol streams units none is.
       subst (λ l. StandsFor c protocol (record { orig = record { places = l; ended = streams.orig.ended }; resp = streams.resp }) units) (append_assoc streams.orig.places p q)
@@ -111,7 +112,7 @@ stream_grown d limit more stream ended is ended_is =
     (ap (λ b. ended_of d.base limit d.told || b) ended_is ∙ ended_or (ended_of d.base limit d.told) (ended_of d.base limit (d.told ++ more)) (λ e. (stays_ended d.base limit d.told more e).1))
 
 -- the readers of a stream that was told more
-pub reads_some : (limit : ℕ) (side : Side) (d : Direction) (more : List Told) (front : ℕ) (ended : Bool) (was between is : Readers) → front ≡ front_of d.base limit d.told
+pub reads_some : (limit : ℕ) (side : Side) (d : Direction) (more : List Told) (front : ℕ) (ended : Bool) (was between is : Reading) → front ≡ front_of d.base limit d.told
     → ended ≡ ended_of d.base limit (d.told ++ more) → Gets side (content d.base limit (d.told ++ more) front) was between
     → ((protocol : Option Protocol) (streams : Both Stream) (units : Both (List StreamUnit)) → StandsFor between protocol streams units
     → StandsFor is protocol (with_stream side (ended_by (of_side side streams) ended) streams) units)
@@ -130,13 +131,13 @@ reads_some limit side d more front ended was between is front_is ended_is gets e
     twice Resp streams y e = refl
 
 -- the readers of a stream that is not there
-pub reads_none : (side : Side) (readers : Readers) (protocol : Option Protocol) (streams : Both Stream) (units : Both (List StreamUnit)) → of_side side streams ≡ record { places = []; ended = false }
+pub reads_none : (side : Side) (readers : Reading) (protocol : Option Protocol) (streams : Both Stream) (units : Both (List StreamUnit)) → of_side side streams ≡ record { places = []; ended = false }
     → StandsFor readers protocol streams units → StandsFor readers protocol (with_stream side (record { places = []; ended = false }) streams) units
 reads_none Orig readers protocol streams units none stands = subst (λ x. StandsFor readers protocol (record { orig = x; resp = streams.resp }) units) none stands
 reads_none Resp readers protocol streams units none stands = subst (λ x. StandsFor readers protocol (record { orig = streams.orig; resp = x }) units) none stands
 
 -- both streams of a conversation
-pub both_read : (limit : ℕ) (c : Conversation) (s : Segment) (side : Side) (was between is : Readers)
+pub both_read : (limit : ℕ) (c : Conversation) (s : Segment) (side : Side) (was between is : Reading)
     → ((protocol : Option Protocol) (streams : Both Stream) (units : Both (List StreamUnit)) → of_side side streams ≡ stream_of limit (direction c side)
     → StandsFor was protocol streams units → StandsFor between protocol (with_stream side (stream_of limit (direction_with c s side)) streams) units)
     → ((protocol : Option Protocol) (streams : Both Stream) (units : Both (List StreamUnit)) → of_side (other side) streams ≡ stream_of limit (direction c (other side))

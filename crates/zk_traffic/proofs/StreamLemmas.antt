@@ -23,10 +23,11 @@ use Rattle.zk_http.specs.Places.{Both, Stream as Placed, of_side}
 use Rattle.zk_reasm.proofs.LawLemmas.{front_never_falls}
 use Rattle.zk_traffic.proofs.ReadLemmas.{gets_more, gets_none, reads_none, reads_some}
 use Rattle.zk_units.specs.declared.protocol.Protocol.{Protocol}
-use Rattle.zk_units.specs.declared.readers.Readers.{Readers}
+use Rattle.zk_traffic.specs.declared.reading.Reading.{Reading}
 use Rattle.zk_units.specs.declared.stream_unit.StreamUnit.{StreamUnit}
 use Rattle.zk_units.specs.Cuts.{byte_places}
-use Rattle.zk_units.specs.Standing.{Gets, StandsFor as ReadersStand, ended_by, with_stream}
+use Rattle.zk_traffic.specs.Reading.{Gets, StandsFor as ReadersStand}
+use Rattle.zk_units.specs.Standing.{ended_by, with_stream}
 use Rattle.zk_traffic.proofs.PlaceLemmas.{content_behind, gaps-bytes, gaps-first, length-content, runs-bytes, runs-first}
 use Rattle.std.proofs.lemmas.Bool.{true≢false}
 use Rattle.std.proofs.lemmas.List.{append-nil, length-map, map-append, take-append-drop}
@@ -94,7 +95,7 @@ adds_behind conn side base limit told place next old between new next_is first r
     (adds_more conn side (first_run place places) (runs_from next (content base limit told next)) (first_gap place places) (gaps_from next (content base limit told next)) old between new first rest))
 
 -- the readers get the first run, and all behind it
-pub gets_behind : (side : Side) (base limit : ℕ) (told : List Told) (place next : ℕ) (was between is : Readers) → next ≡ place + stretch (content base limit told place)
+pub gets_behind : (side : Side) (base limit : ℕ) (told : List Told) (place next : ℕ) (was between is : Reading) → next ≡ place + stretch (content base limit told place)
     → Gets side (take (stretch (content base limit told place)) (content base limit told place)) was between → Gets side (content base limit told next) between is
     → Gets side (content base limit told place) was is
 gets_behind side base limit told place next was between is next_is first rest =
@@ -111,11 +112,11 @@ content-none base limit told at is = empty (content base limit told at) (omega (
     empty [] none = refl
     empty (x ∷ l) none = absurd (omega (arith, none))
 
-pub drained : (conn : ConnNo) (side : Side) (base limit : ℕ) (told : List Told) (from at : ℕ) (stream : Stream) (old news new : News) (was readers is_r : Readers)
+pub drained : (conn : ConnNo) (side : Side) (base limit : ℕ) (told : List Told) (from at : ℕ) (stream : Stream) (old news new : News) (was readers is_r : Reading)
     → at ≡ front_of base limit told → StandsFor stream base limit told at → new ≡ news
     → ((n : News) → Adds conn side (runs_from at (content base limit told at)) (gaps_from at (content base limit told at)) news n
     → Adds conn side (runs_from from (content base limit told from)) (gaps_from from (content base limit told from)) old n)
-    → is_r ≡ readers → ((r : Readers) → Gets side (content base limit told at) readers r → Gets side (content base limit told from) was r)
+    → is_r ≡ readers → ((r : Reading) → Gets side (content base limit told at) readers r → Gets side (content base limit told from) was r)
     → IsDrained conn side base limit told from stream old new was is_r
 drained conn side base limit told from at stream old news new was readers is_r is stands same adds same_r gets = record {
   stands = subst (StandsFor stream base limit told) is stands;
@@ -126,7 +127,7 @@ drained conn side base limit told from at stream old news new was readers is_r i
 }
 
 -- a stream that passed on all that was new
-pub passed_on : (conn : ConnNo) (side : Side) (base limit : ℕ) (told : List Told) (from : ℕ) (run : List ℕ) (stream : Stream) (old new : News) (was is_r : Readers)
+pub passed_on : (conn : ConnNo) (side : Side) (base limit : ℕ) (told : List Told) (from : ℕ) (run : List ℕ) (stream : Stream) (old new : News) (was is_r : Reading)
     → content base limit told from ≡ byte_places run → StandsFor stream base limit told (from + length run) → from ≤ front_of base limit told
     → runs_of new ≡ runs_of old ++ cond (length run == 0) [] (record { conn = conn; side = side; from = from; bytes = run } ∷ [])
     → new.gaps.items ≡ old.gaps.items → new.«units».items ≡ old.«units».items → Gets side (byte_places run) was is_r
@@ -184,7 +185,7 @@ pub front-within : (base limit front : ℕ) (told first more : List Told) → fr
 front-within base limit front told first more is = omega (arith, is, front_never_falls base limit told first, front_never_falls base limit (told ++ first) more)
 
 -- a stream that was told more, and was taken up to its front
-pub moves_some : (limit : ℕ) (conn : ConnNo) (side : Side) (d : Direction) (first more : List Told) (front : ℕ) (had_ended ended : Bool) (stream : Stream) (moved : Moved) (old new : News) (was between is_r : Readers)
+pub moves_some : (limit : ℕ) (conn : ConnNo) (side : Side) (d : Direction) (first more : List Told) (front : ℕ) (had_ended ended : Bool) (stream : Stream) (moved : Moved) (old new : News) (was between is_r : Reading)
     → front ≡ front_of d.base limit d.told → had_ended ≡ ended_of d.base limit d.told
     → IsDrained conn side d.base limit (d.told ++ first ++ more) front stream old new was between → ended ≡ ended_of d.base limit (d.told ++ first ++ more)
     → ((protocol : Option Protocol) (streams : Both Placed) (units : Both (List StreamUnit)) → ReadersStand between protocol streams units
@@ -203,7 +204,7 @@ moves_some limit conn side d first more front had_ended ended stream moved old n
 }
 
 -- a stream that is not there
-pub unmoved : (limit : ℕ) (conn : ConnNo) (side : Side) (d : Option Direction) (first more : List Told) (news : News) (readers : Readers) → IsStream limit None d
+pub unmoved : (limit : ℕ) (conn : ConnNo) (side : Side) (d : Option Direction) (first more : List Told) (news : News) (readers : Reading) → IsStream limit None d
     → HasMoved limit conn side d (told_more more (told_more first d)) (record { front = None; ended = false }) None news news readers readers
 unmoved limit conn side None first more news readers is = record {
   stands = tt;

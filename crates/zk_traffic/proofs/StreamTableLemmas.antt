@@ -26,10 +26,11 @@ use Rattle.zk_traffic.specs.Segments.{Segment}
 use Rattle.zk_traffic.specs.StreamTable.{HasRead, HasStreams, StandAt, Takes, entry_at}
 use Rattle.zk_traffic.specs.Streams.{AreStreams, IsStream}
 use Rattle.zk_http.specs.Places.{Both, Stream as Placed, of_side}
-use Rattle.zk_units.specs.declared.readers.Readers.{Readers}
+use Rattle.zk_traffic.specs.declared.reading.Reading.{Reading}
 use Rattle.zk_units.specs.declared.protocol.Protocol.{Protocol}
 use Rattle.zk_units.specs.declared.stream_unit.StreamUnit.{StreamUnit}
-use Rattle.zk_units.specs.Standing.{Reads, StandsFor as ReadersStand, held_in as reader_held, no_streams}
+use Rattle.zk_traffic.specs.Reading.{Reads, StandsFor as ReadersStand, held_in as reader_held}
+use Rattle.zk_units.specs.Standing.{no_streams}
 use Rattle.zk_units.specs.Units.{add_all, all_freed, bytes_unread, no_units}
 use Rattle.zk_units.proofs.ReaderLemmas.{none_freed, none_unread}
 
@@ -101,11 +102,11 @@ unfolding with_segment
 held_none-with limit c s orig resp = held_none limit (with_segment limit c s) orig resp
 
 -- what the streams and their readers hold is what the conversation's streams and units say
-pub held_is : (limit : ℕ) (c : Conversation) (reads : Readers) → HasRead limit reads c
+pub held_is : (limit : ℕ) (c : Conversation) (reads : Reading) → HasRead limit reads c
     → held_by limit c.orig + held_by limit c.resp + (reader_held Orig reads + reader_held Resp reads) ≡ held_in limit c
 held_is limit c reads has = omega (arith, has.left Orig, has.left Resp)
 
-unread_with : (limit : ℕ) (c : Conversation) (s : Segment) (reads : Readers)
+unread_with : (limit : ℕ) (c : Conversation) (s : Segment) (reads : Reading)
     → ((side : Side) → reader_held side reads ≡ bytes_unread (protocol_of c) side (streams_of limit (direction_with c s Orig) (direction_with c s Resp)) (add_all (freed_with limit c s) c.«units»))
     → (side : Side) → reader_held side reads ≡ unread_in limit (with_segment limit c s) side
 unfolding with_segment

@@ -18,7 +18,7 @@ use Rattle.zk_traffic.specs.Places.{gaps_from, runs_from}
 use Rattle.zk_traffic.specs.Segments.{Segment}
 use Rattle.zk_traffic.specs.Streams.{AreStreams, IsStream}
 use Rattle.zk_traffic.proofs.ReadLemmas.{both_read}
-use Rattle.zk_units.specs.declared.readers.Readers.{Readers}
+use Rattle.zk_traffic.specs.declared.reading.Reading.{Reading}
 
 same_as_itself : (side : Side) → same_side side side ≡ true
 same_as_itself Orig = refl
@@ -51,7 +51,7 @@ begun_by-syn resets was was' s None same = by_syn (has_syn s.view) refl
 begun_by-syn resets was was' s (Some d) same = refl
 
 -- a stream that has moved from what it was before it began, and to the same
-moved_begun : (limit : ℕ) (conn : ConnNo) (side : Side) (before now after to : Option Direction) (moved : Moved) (stream : Option Stream) (old new : News) (was is : Readers)
+moved_begun : (limit : ℕ) (conn : ConnNo) (side : Side) (before now after to : Option Direction) (moved : Moved) (stream : Option Stream) (old new : News) (was is : Reading)
     → stream_of limit now ≡ stream_of limit before → front_at limit now ≡ front_at limit before → has_ended limit now ≡ has_ended limit before → to ≡ after → HasMoved limit conn side now to moved stream old new was is
     → HasMoved limit conn side before after moved stream old new was is
 moved_begun limit conn side before now after to moved stream old new was is stream_is front ended same moves = subst (λ a. HasMoved limit conn side before a moved stream old new was is) same (record {
@@ -63,7 +63,7 @@ moved_begun limit conn side before now after to moved stream old new was is stre
 })
 
 -- both streams have moved
-has_taken : (limit : ℕ) (conn : ConnNo) (c : Conversation) (s : Segment) (moves : Moves) (streams : Streams) (sender receiver : Option Stream) (old between new : News) (was mid : Readers)
+has_taken : (limit : ℕ) (conn : ConnNo) (c : Conversation) (s : Segment) (moves : Moves) (streams : Streams) (sender receiver : Option Stream) (old between new : News) (was mid : Reading)
     → HasMoved limit conn (sender_in c s) (direction c (sender_in c s)) (direction_with c s (sender_in c s)) moves.sender sender old between was mid
     → HasMoved limit conn (other (sender_in c s)) (direction c (other (sender_in c s))) (direction_with c s (other (sender_in c s))) moves.receiver receiver between new mid streams.readers
     → moves.gave_up ≡ (not (has_rst s.view) && put_with limit s (told_more (fin_told s) (begun_by (resets c s) (was_reset_with c s) s (direction c (sender_in c s)))))
@@ -83,7 +83,7 @@ has_taken limit conn c s moves streams sender receiver old between new was mid f
 }
 
 -- both streams by what each was told
-pub taken_by : (limit : ℕ) (conn : ConnNo) (c : Conversation) (s : Segment) (side : Side) (stops was stop : Bool) (begun sender receiver : Option Stream) (moves : Moves) (streams : Streams) (old between new : News) (was_r mid : Readers)
+pub taken_by : (limit : ℕ) (conn : ConnNo) (c : Conversation) (s : Segment) (side : Side) (stops was stop : Bool) (begun sender receiver : Option Stream) (moves : Moves) (streams : Streams) (old between new : News) (was_r mid : Reading)
     → side ≡ sender_in c s → stops ≡ resets c s → (has_syn s.view ≡ true → was ≡ was_reset_with c s) → (begins : Begins limit stops was s (direction c side) stop begun)
     → HasMoved limit conn side begins.now (told_more (sent_told s) (told_more (stop_told stop) begins.now)) moves.sender sender old between was_r mid
     → HasMoved limit conn (other side) (direction c (other side)) (told_more (acknowledged_told s) (told_more (stop_told stops) (direction c (other side)))) moves.receiver receiver between new mid streams.readers

@@ -8,6 +8,7 @@ pub mod Moves
 pub mod News
 pub mod Own
 pub mod Places
+pub mod Reading
 pub mod Segments
 pub mod Standing
 pub mod Steps

@@ -11,20 +11,21 @@ use Rattle.zk_reasm.specs.Standing.{StandsFor}
 use Rattle.zk_reasm.specs.Told.{Told}
 use Rattle.zk_traffic.specs.declared.news.Gap.{Gap as Code}
 use Rattle.zk_traffic.specs.declared.news.News.{News}
+use Rattle.zk_traffic.specs.declared.reading.Reading.{Reading}
 use Rattle.zk_traffic.specs.declared.streams.Moved.{Moved}
 use Rattle.zk_traffic.specs.declared.streams.Moves.{Moves}
 use Rattle.zk_traffic.specs.declared.streams.Streams.{Streams}
 use Rattle.zk_traffic.specs.Conversation.{Conversation, Direction, begun_by, direction, direction_with, front_at, gives_up, has_ended, other, sender_in, stop_told, stream_of, streams_of, told_more}
 use Rattle.zk_traffic.specs.Items.{fresh_run, fresh_with, gaps, news_of}
 use Rattle.zk_traffic.specs.News.{runs_of}
+use Rattle.zk_traffic.specs.Reading.{Gets}
+use Rattle.zk_traffic.specs.Reading as reading
 use Rattle.zk_traffic.specs.Segments.{Segment}
 use Rattle.zk_traffic.specs.Streams.{AreStreams, IsStream}
 use Rattle.zk_traffic.specs.Places.{Gap, Run, gaps_from, runs_from}
 use Rattle.zk_units.specs.declared.protocol.Protocol.{Protocol}
-use Rattle.zk_units.specs.declared.readers.Readers.{Readers}
 use Rattle.zk_units.specs.declared.stream_unit.StreamUnit.{StreamUnit}
-use Rattle.zk_units.specs.Standing.{Gets, with_stream}
-use Rattle.zk_units.specs.Standing as readers
+use Rattle.zk_units.specs.Standing.{with_stream}
 
 -- a gap of a side's stream
 abbrev pub gap_in : Side → Gap → Code
@@ -49,7 +50,7 @@ abbrev pub stretch : List Place → ℕ
 stretch places = length (run_of places) + gap_of places
 
 -- a stream's first run and the gap behind it were taken, up to a place; nothing was there where there is no place to go on from
-abbrev pub IsTaken : ConnNo → Side → ℕ → ℕ → List Told → ℕ → Option ℕ → Stream → News → News → Readers → Readers → Type 0
+abbrev pub IsTaken : ConnNo → Side → ℕ → ℕ → List Told → ℕ → Option ℕ → Stream → News → News → Reading → Reading → Type 0
 IsTaken conn side base limit told place None stream old new was is =
     (place ≡ front_of base limit told) × StandsFor stream base limit told place × (new ≡ old) × (is ≡ was)
 IsTaken conn side base limit told place (Some next) stream old new was is =
@@ -58,7 +59,7 @@ IsTaken conn side base limit told place (Some next) stream old new was is =
     × Gets side (take (stretch (content base limit told place)) (content base limit told place)) was is
 
 -- a stream was taken up to its front
-pub record IsDrained (conn : ConnNo) (side : Side) (base limit : ℕ) (told : List Told) (from : ℕ) (stream : Stream) (old new : News) (was is : Readers) : Type 0 where
+pub record IsDrained (conn : ConnNo) (side : Side) (base limit : ℕ) (told : List Told) (from : ℕ) (stream : Stream) (old new : News) (was is : Reading) : Type 0 where
   pub stands : StandsFor stream base limit told (front_of base limit told)
   pub adds : Adds conn side (runs_from from (content base limit told from)) (gaps_from from (content base limit told from)) old new
   pub gets : Gets side (content base limit told from) was is
@@ -73,14 +74,14 @@ pub record IsMove (limit : ℕ) (c : Conversation) (s : Segment) (side : Side) (
   pub ended_is : moved.ended ≡ (has_ended limit (direction_with c s side) && not (has_ended limit (direction c side)))
 
 -- a side's stream has moved so, and was taken up to its front
-pub record HasMoved (limit : ℕ) (conn : ConnNo) (side : Side) (before after : Option Direction) (moved : Moved) (stream : Option Stream) (old new : News) (was is : Readers) : Type 0 where
+pub record HasMoved (limit : ℕ) (conn : ConnNo) (side : Side) (before after : Option Direction) (moved : Moved) (stream : Option Stream) (old new : News) (was is : Reading) : Type 0 where
   pub stands : IsStream limit stream after
   pub front_is : moved.front ≡ front_moved (front_at limit before) (front_at limit after)
   pub ended_is : moved.ended ≡ (has_ended limit after && not (has_ended limit before))
   pub adds : Adds conn side (runs_from (front_at limit before) (news_of limit (front_at limit before) after))
       (gaps_from (front_at limit before) (news_of limit (front_at limit before) after)) old new
   pub reads : (protocol : Option Protocol) (streams : Both Placed) (units : Both (List StreamUnit)) → of_side side streams ≡ stream_of limit before
-      → readers.StandsFor was protocol streams units → readers.StandsFor is protocol (with_stream side (stream_of limit after) streams) units
+      → reading.StandsFor was protocol streams units → reading.StandsFor is protocol (with_stream side (stream_of limit after) streams) units
 
 -- The sender's stream is there where it was, or the segment begins it; so it is to be stopped. A stream that begins has nothing, as before.
 pub record Begins (limit : ℕ) (resets was_reset : Bool) (s : Segment) (before : Option Direction) (stop : Bool) (stream : Option Stream) : Type 0 where
@@ -96,7 +97,7 @@ abbrev pub segment_gaps : ℕ → Conversation → Segment → List Code
 segment_gaps limit c s = map (gap_in (sender_in c s)) (gaps limit c s (sender_in c s)) ++ map (gap_in (other (sender_in c s))) (gaps limit c s (other (sender_in c s)))
 
 -- a segment of a conversation has moved both streams so
-pub record HasTaken (limit : ℕ) (conn : ConnNo) (c : Conversation) (s : Segment) (moves : Moves) (was : Readers) (streams : Streams) (old new : News) : Type 0 where
+pub record HasTaken (limit : ℕ) (conn : ConnNo) (c : Conversation) (s : Segment) (moves : Moves) (was : Reading) (streams : Streams) (old new : News) : Type 0 where
   pub stands : AreStreams limit streams (direction_with c s Orig) (direction_with c s Resp)
   pub sender : IsMove limit c s (sender_in c s) moves.sender
   pub receiver : IsMove limit c s (other (sender_in c s)) moves.receiver
@@ -104,5 +105,5 @@ pub record HasTaken (limit : ℕ) (conn : ConnNo) (c : Conversation) (s : Segmen
   pub runs_are : runs_of new ≡ runs_of old ++ fresh_with limit conn.0 c s
   pub gaps_are : new.gaps.items ≡ old.gaps.items ++ segment_gaps limit c s
   pub units_are : new.«units».items ≡ old.«units».items
-  pub reads : (protocol : Option Protocol) (units : Both (List StreamUnit)) → readers.StandsFor was protocol (streams_of limit c.orig c.resp) units
-      → readers.StandsFor streams.readers protocol (streams_of limit (direction_with c s Orig) (direction_with c s Resp)) units
+  pub reads : (protocol : Option Protocol) (units : Both (List StreamUnit)) → reading.StandsFor was protocol (streams_of limit c.orig c.resp) units
+      → reading.StandsFor streams.readers protocol (streams_of limit (direction_with c s Orig) (direction_with c s Resp)) units

@@ -4,6 +4,7 @@ use Rattle.indexmap.specs.IndexMap as indexed
 use Rattle.zk_base.specs.declared.network.Side.{Side}
 use Rattle.zk_base.specs.declared.numbers.ConnNo.{ConnNo}
 use Rattle.zk_traffic.specs.declared.news.News.{News}
+use Rattle.zk_traffic.specs.declared.reading.Reading.{Reading}
 use Rattle.zk_traffic.specs.declared.stream_table.StreamTable.{StreamTable}
 use Rattle.zk_traffic.specs.declared.streams.Moves.{Moves}
 use Rattle.zk_traffic.specs.declared.streams.Streams.{Streams}
@@ -12,10 +13,9 @@ use Rattle.zk_traffic.specs.Items.{fresh_with}
 use Rattle.zk_traffic.specs.Kept.{held_in, unread_in}
 use Rattle.zk_traffic.specs.Moves.{IsMove, segment_gaps}
 use Rattle.zk_traffic.specs.News.{runs_of}
+use Rattle.zk_traffic.specs.Reading as reading
 use Rattle.zk_traffic.specs.Segments.{Segment}
 use Rattle.zk_traffic.specs.Streams.{AreStreams}
-use Rattle.zk_units.specs.declared.readers.Readers.{Readers}
-use Rattle.zk_units.specs.Standing as readers
 use Rattle.zk_units.specs.Units.{no_units}
 
 unfoldable pub entry_at : StreamTable → ℕ → Option Streams
@@ -26,10 +26,10 @@ abbrev pub StandAt : StreamTable → ℕ → ℕ → Type 0
 StandAt table index number = (streams : Streams) × (slice_get table.streams.entries index ≡ Some (number, streams)) × (entry_at table number ≡ Some streams)
 
 -- all units of the streams were read, and the bytes that are kept are those that are not read, few of each side
-pub record HasRead (limit : ℕ) (reads : Readers) (c : Conversation) : Type 0 where
-  pub stands : readers.StandsFor reads (protocol_of c) (streams_of limit c.orig c.resp) c.«units»
-  pub few : (side : Side) → readers.held_in side reads ≤ 65536
-  pub left : (side : Side) → readers.held_in side reads ≡ unread_in limit c side
+pub record HasRead (limit : ℕ) (reads : Reading) (c : Conversation) : Type 0 where
+  pub stands : reading.StandsFor reads (protocol_of c) (streams_of limit c.orig c.resp) c.«units»
+  pub few : (side : Side) → reading.held_in side reads ≤ 65536
+  pub left : (side : Side) → reading.held_in side reads ≡ unread_in limit c side
 
 -- the streams of a connection, where it has an entry
 abbrev pub HasStreams : ℕ → Option Streams → Conversation → Type 0

@@ -7,6 +7,7 @@ mod item;
 mod news;
 mod options;
 mod queue;
+mod reading;
 mod segment;
 mod stream_table;
 mod streams;

@@ -118,8 +118,8 @@ impl StreamTable {
         ensures others { OnOk result ((number : ℕ) → number ≢ conn.0 → entry_at self.new number ≡ entry_at self.old number) }
     {
         if !self.streams.contains_key(&conn.0) {
-            self.streams
-                .insert(conn.0, Streams::new(self.alloc, protocol))?;
+            let streams = Streams::new(self.alloc, protocol)?;
+            self.streams.insert(conn.0, streams)?;
         }
         Ok(())
     }

@@ -16,24 +16,26 @@ ghost use Rattle.zk_traffic.specs.Places.{gaps_from, runs_from};
 ghost use Rattle.zk_traffic.specs.Streams.{AreStreams, IsStream};
 ghost use Rattle.zk_traffic.specs.Taken.{segment_of};
 ghost use Rattle.zk_units.specs.Cuts.{byte_places};
-ghost use Rattle.zk_units.specs.Standing.{Reads, StandsFor as ReadersStand, ended_by, held_in, no_streams, with_stream};
+ghost use Rattle.zk_traffic.specs.Reading.{Reads, StandsFor as ReadersStand, held_in};
+ghost use Rattle.zk_units.specs.Standing.{ended_by, no_streams, with_stream};
 ghost use Rattle.zk_units.specs.Units.{no_units};
 ghost use Rattle.zk_units.specs.declared.protocol.Protocol.{Protocol as Speaks};
 ghost use Rattle.zk_units.specs.declared.stream_unit.StreamUnit.{StreamUnit as Said};
 
 use crate::news::News;
+use crate::reading::Reading;
 use crate::segment::Segment;
 use std::alloc::Global;
 use zk_base::{ConnNo, Mem, Side};
 use zk_reasm::{Put, Stream};
-use zk_units::{Protocol, Readers};
+use zk_units::Protocol;
 
 /// The streams of a connection's two sides, each from its side's first SYN on.
 #[derive(Debug, Drop)]
 pub struct Streams {
     orig: Option<Stream>,
     resp: Option<Stream>,
-    readers: Readers,
+    readers: Reading,
 }
 
 /// How a stream has moved.
@@ -70,17 +72,17 @@ const UNMOVED: Moved = Moved {
 };
 
 impl Streams {
-    /// No streams, of a connection that speaks this protocol. No memory is taken.
-    pub fn new(alloc: Global, protocol: Option<Protocol>) -> Streams
-        ensures streams { (limit : ℕ) → AreStreams limit result None None }
-        ensures readers { ReadersStand result.readers protocol no_streams no_units }
-        ensures held { (side : SideData) → held_in side result.readers ≡ 0 }
+    /// No streams, of a connection that speaks this protocol.
+    pub fn new(alloc: Global, protocol: Option<Protocol>) -> Result<Streams, Mem>
+        ensures streams { IfOk result (λ streams. (limit : ℕ) → AreStreams limit streams None None) }
+        ensures readers { IfOk result (λ streams. ReadersStand streams.readers protocol no_streams no_units) }
+        ensures held { IfOk result (λ streams. (side : SideData) → held_in side streams.readers ≡ 0) }
     {
-        Streams {
+        Ok(Streams {
             orig: None,
             resp: None,
-            readers: Readers::new(alloc, protocol),
-        }
+            readers: Reading::new(alloc, protocol)?,
+        })
     }
 
     /// How many bytes the streams hold, with those that wait to be read: nothing where that passes the
@@ -214,7 +216,7 @@ fn send(
     side: Side,
     stop: bool,
     segment: &Segment<'_>,
-    readers: &mut Readers,
+    readers: &mut Reading,
     news: &mut News,
 ) -> Result<(Moved, bool), Mem>
     ensures moves { IfOk result (λ done. (t : Moment) (limit : ℕ) (d : Option Direction) → IsStream limit stream.old d
@@ -241,7 +243,7 @@ fn take_payload(
     side: Side,
     front: u64,
     segment: &Segment<'_>,
-    readers: &mut Readers,
+    readers: &mut Reading,
     news: &mut News,
 ) -> Result<bool, Mem>
     ensures drained { OnOk result ((t : Moment) (base limit : ℕ) (told : List Told) → StandsFor stream.old base limit told front → front ≤ front_of base limit told
@@ -285,7 +287,7 @@ fn acknowledge(
     side: Side,
     stops: Stops,
     segment: &Segment<'_>,
-    readers: &mut Readers,
+    readers: &mut Reading,
     news: &mut News,
 ) -> Result<Moved, Mem>
     ensures { IfOk result (λ moved. (t : Moment) (limit : ℕ) (d : Option Direction) → IsStream limit stream.old d
@@ -372,7 +374,7 @@ fn moved_from(stream: &Stream, front: u64, had_ended: bool) -> Moved
 }
 
 /// Tells the readers that a side has ended, where it has.
-fn end_if(readers: &mut Readers, side: Side, ended: bool)
+fn end_if(readers: &mut Reading, side: Side, ended: bool)
     ensures { (protocol : Option Speaks) (streams : Both Placed) (units : Both (List Said)) → ReadersStand readers.old protocol streams units
         → ReadersStand readers.new protocol (with_stream side (ended_by (of_side side streams) ended) streams) units }
 {
@@ -387,7 +389,7 @@ fn drain(
     conn: ConnNo,
     side: Side,
     front: u64,
-    readers: &mut Readers,
+    readers: &mut Reading,
     news: &mut News,
 ) -> Result<(), Mem>
     ensures { OnOk result ((base limit : ℕ) (told : List Told) → StandsFor stream.old base limit told front → front ≤ front_of base limit told
@@ -407,7 +409,7 @@ fn take_run(
     conn: ConnNo,
     side: Side,
     place: u64,
-    readers: &mut Readers,
+    readers: &mut Reading,
     news: &mut News,
 ) -> Result<Option<u64>, Mem>
     ensures taken { IfOk result (λ next. (base limit : ℕ) (told : List Told) → StandsFor stream.old base limit told place → place ≤ front_of base limit told

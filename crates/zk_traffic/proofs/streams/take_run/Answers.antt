@@ -8,7 +8,7 @@ use Rattle.zk_traffic.proofs.PlaceLemmas.{content_behind, gap-passed, length-con
 use Rattle.zk_traffic.proofs.ReadLemmas.{gets_more, stretch-places}
 use Rattle.zk_traffic.proofs.StreamLemmas.{adds_first}
 use Rattle.zk_units.specs.Cuts.{byte_places, gap_places}
-use Rattle.zk_units.specs.Standing.{Gets}
+use Rattle.zk_traffic.specs.Reading.{Gets}
 use Rattle.zk_traffic.proofs.streams.take_run.Goals as goal
 
 gaps_kept : {Z : Type 0} (more new : List Code) (between old : Vec Code Z) → between ≡ old → new ≡ between.items ++ more → new ≡ old.items ++ more

@@ -8,4 +8,4 @@ unfolding entry_at
 returns-in_ok-insert-clause-entry c = λ limit talk is has.
     let none = none_has limit _ talk (not_some _ (sym c.contains_key.ensures ∙ c.if-not-contains_key.true)) has in
     subst (λ o. HasStreams limit o talk) (sym c.in_ok-insert.ensures.updates.1)
-    (has_new limit talk c.new.result c.args.protocol is none (c.new.ensures.streams limit) c.new.ensures.readers c.new.ensures.held)
+    (has_new limit talk c.in_ok-streams.streams c.args.protocol is none (c.in_ok-streams.ensures.streams limit) c.in_ok-streams.ensures.readers c.in_ok-streams.ensures.held)

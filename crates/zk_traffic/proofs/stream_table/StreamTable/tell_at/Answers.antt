@@ -8,7 +8,7 @@ use Rattle.zk_traffic.specs.Kept.{held_by, held_in}
 use Rattle.zk_traffic.specs.StreamTable.{entry_at}
 use Rattle.zk_traffic.specs.Taken.{segment_of}
 use Rattle.zk_traffic.proofs.StreamTableLemmas.{apart_eq, held_is, kept_as, same_streams, some_has, some_sum, stand_entry, takes_some}
-use Rattle.zk_units.specs.Standing.{held_in as reader_held}
+use Rattle.zk_traffic.specs.Reading.{held_in as reader_held}
 use Rattle.zk_traffic.proofs.stream_table.StreamTable.tell_at.Goals as goal
 
 pub returns-clause-others : goal.returns-clause-others

@@ -97,8 +97,8 @@ impl CaptureReader {
         })
     }
 
-    /// Reads on until a packet stands next. Answers whether one does; else no other follows. Once the
-    /// end of the input was met, nothing is asked of the shelf.
+    /// Reads on until a packet stands next. Answers whether one does; else no other follows. Where one
+    /// stands already, or once the end of the input was met, nothing is asked of the shelf.
     ///
     /// `ReadFault` is an input that fails, `NoMemory` want of memory.
     pub fn fill<S: Shelf>(&mut self, shelf: &mut S) -> Result<bool, Stop>
@@ -113,6 +113,7 @@ impl CaptureReader {
             → IsReading whole header bytes packets self.new (S.outside shelf.new) → IsReadThrough header bytes packets self.new) }
         ensures unread { IsTrue (has_ended self.old) → shelf.new ≡ shelf.old }
         ensures ended { IsTrue (has_ended self.old) → IsTrue (has_ended self.new) }
+        ensures there { IsTrue (has_next self.old) → shelf.new ≡ shelf.old }
         ensures stopped { IfErr result (λ stop. DoesPart [] [] [] (S.outside shelf.old) stop (S.outside shelf.new)) }
     {
         'pieces: loop {

@@ -19,6 +19,7 @@ pub fn make_room<S: Shelf>(shelf: &mut S, piece: &mut Vec<u8>) -> Result<(), Sto
     ensures room { OnOk result (length piece.new.items + ROOM ≤ PIECE) }
     ensures said { OnOk result (HandsOver (S.outside shelf.old) piece.old.items (S.outside shelf.new) piece.new.items) }
     ensures input { OnOk result (SameInput (S.outside shelf.old) (S.outside shelf.new)) }
+    ensures waits { length piece.old.items + ROOM ≤ PIECE → (shelf.new ≡ shelf.old) × (piece.new ≡ piece.old) }
     ensures stopped { IfErr result (λ stop. DoesPart [] piece.old.items [] (S.outside shelf.old) stop (S.outside shelf.new)) }
 {
     if PIECE - ROOM < piece.len() {
@@ -33,6 +34,8 @@ pub fn make_room<S: Shelf>(shelf: &mut S, piece: &mut Vec<u8>) -> Result<(), Sto
 pub fn push_line<S: Shelf>(shelf: &mut S, piece: &mut Vec<u8>, line: &[u8]) -> Result<(), Stop>
     ensures said { OnOk result (HandsOver (S.outside shelf.old) (piece.old.items ++ (line.now ++ line_end)) (S.outside shelf.new) piece.new.items) }
     ensures input { OnOk result (SameInput (S.outside shelf.old) (S.outside shelf.new)) }
+    ensures short { OnOk result (length piece.new.items + ROOM ≤ PIECE + (length line.now + 1)) }
+    ensures waits { length piece.old.items + ROOM ≤ PIECE → shelf.new ≡ shelf.old }
     ensures stopped { IfErr result (λ stop. DoesPart [] piece.old.items [] (S.outside shelf.old) stop (S.outside shelf.new)) }
 {
     make_room(shelf, piece)?;

@@ -1,5 +1,10 @@
-use Rattle.std.proofs.Common.{◌≡◌, ◌⊎◌, ℕ, ◌+◌, ◌<◌, ◌≤◌, Bool, true, false, cond, [], inl, inr, arith}
+use Rattle.std.proofs.Common.{◌≡◌, ◌⊎◌, ◌↔◌, ℕ, ◌+◌, ◌<◌, ◌≤◌, Bool, true, false, cond, [], IsTrue, IsSome, inl, inr, sym, subst, arith}
+use Rattle.zk_pcap.specs.declared.feed.Next.{Next}
+use Rattle.zk_pcap.specs.declared.feed.Next.TheVariants as next
+use Rattle.zk_pcap.specs.Standing.{first_record, is_packet}
 use Rattle.zk_load.proofs.Doing.{does_both_all}
+use Rattle.zk_io.specs.declared.capture.CaptureReader.{CaptureReader}
+use Rattle.zk_io.specs.Reading.{has_next}
 use Rattle.zk_io.proofs.capture.CaptureReader.fill.Goals as goal
 
 smaller : (left less : ℕ) (out after : Bool) → out ≡ false → less ≤ left → (after ≡ true) ⊎ (less < left) → less + cond after 0 1 < left + cond out 0 1
@@ -10,6 +15,13 @@ smaller left less false false going no_more (inr fewer) = omega arith
 
 still_more : (out : Bool) → out ≡ false → out ≡ true → ⊥
 still_more out going ended = cc
+
+-- no packet stands next where more has to come
+none_next : (reader first : CaptureReader) (stands : Next) → reader ≡ first → (is_packet stands ≡ true) ↔ IsSome (first_record reader.feed) → stands ≡ next.NeedMore → IsTrue (has_next first) → ⊥
+none_next reader first stands same packet more there =
+    let is : is_packet next.NeedMore ≡ true = subst (λ n. is_packet n ≡ true) more (packet.1 (subst (λ r. IsTrue (has_next r)) (sym same) there)) in
+    let never : ⊥ = cc in
+    never
 
 pub pieces-smaller : goal.pieces-smaller
 pieces-smaller g c =
@@ -25,6 +37,7 @@ pieces-preserved g c = record {
       let far = c.pieces.invariant.goes_on whole header bytes packets is in
       c.in_ok-read_piece.ensures.goes_on whole header far.0 packets far.1;
   over = λ ended. absurd (still_more c.pieces.self.is_read_out c.if-self.false (c.pieces.invariant.over ended).1);
+  there = λ there. absurd (none_next c.pieces.self c.args.self.now c.next.result (c.pieces.invariant.there there).1 c.next.ensures.packet c.in-NeedMore.is there);
 }
 
 pub returns-in-Packet-clause-unread : goal.returns-in-Packet-clause-unread
@@ -33,11 +46,17 @@ returns-in-Packet-clause-unread g c ended = (c.pieces.invariant.over ended).0
 pub returns-in-Packet-clause-ended : goal.returns-in-Packet-clause-ended
 returns-in-Packet-clause-ended g c ended = (c.pieces.invariant.over ended).1
 
+pub returns-in-Packet-clause-there : goal.returns-in-Packet-clause-there
+returns-in-Packet-clause-there g c there = (c.pieces.invariant.there there).0
+
 pub returns-in-Bad-clause-unread : goal.returns-in-Bad-clause-unread
 returns-in-Bad-clause-unread g c ended = (c.pieces.invariant.over ended).0
 
 pub returns-in-Bad-clause-ended : goal.returns-in-Bad-clause-ended
 returns-in-Bad-clause-ended g c ended = (c.pieces.invariant.over ended).1
+
+pub returns-in-Bad-clause-there : goal.returns-in-Bad-clause-there
+returns-in-Bad-clause-there g c there = (c.pieces.invariant.there there).0
 
 pub returns-then-self-clause-unread : goal.returns-then-self-clause-unread
 returns-then-self-clause-unread g c ended = (c.pieces.invariant.over ended).0
@@ -45,8 +64,15 @@ returns-then-self-clause-unread g c ended = (c.pieces.invariant.over ended).0
 pub returns-then-self-clause-ended : goal.returns-then-self-clause-ended
 returns-then-self-clause-ended g c ended = (c.pieces.invariant.over ended).1
 
+pub returns-then-self-clause-there : goal.returns-then-self-clause-there
+returns-then-self-clause-there g c there = (c.pieces.invariant.there there).0
+
 pub returns-in_err-read_piece-clause-unread : goal.returns-in_err-read_piece-clause-unread
 returns-in_err-read_piece-clause-unread g c ended = absurd (still_more c.pieces.self.is_read_out c.if-self.false (c.pieces.invariant.over ended).1)
 
 pub returns-in_err-read_piece-clause-ended : goal.returns-in_err-read_piece-clause-ended
 returns-in_err-read_piece-clause-ended g c ended = absurd (still_more c.pieces.self.is_read_out c.if-self.false (c.pieces.invariant.over ended).1)
+
+pub returns-in_err-read_piece-clause-there : goal.returns-in_err-read_piece-clause-there
+returns-in_err-read_piece-clause-there g c there =
+    absurd (none_next c.pieces.self c.args.self.now c.next.result (c.pieces.invariant.there there).1 c.next.ensures.packet c.in-NeedMore.is there)

@@ -1,4 +1,4 @@
-ghost use Rattle.std.specs.Prelude.{◌≡◌, IfOk};
+ghost use Rattle.std.specs.Prelude.{◌≡◌, ◌≤◌, ◌^◌, length, IfOk, OnErr};
 ghost use Rattle.std.specs.Option.{option_map};
 ghost use Rattle.zk_typed.specs.Making as making;
 ghost use Rattle.zk_typed.specs.Expressions.{added_type};
@@ -17,7 +17,8 @@ use zk_typed::script::{Binary, Expr, Primitive, Shape, SimpleType, ValueType};
 /// What a table or set is made with that has neither an expiry nor a default. More keys than their number
 /// can be are more than memory holds.
 pub fn plain_shape(keys: &[SimpleType]) -> Result<Shape, Mem>
-    ensures { IfOk result (λ shape. shape ≡ making.plain_shape keys.now) }
+    ensures shape { IfOk result (λ shape. shape ≡ making.plain_shape keys.now) }
+    ensures err { OnErr result (2 ^ 32 ≤ length keys.now) }
 {
     match u32::try_from(keys.len()) {
         Ok(keys) => Ok(Shape {

@@ -1,4 +1,4 @@
-ghost use Rattle.std.specs.Prelude.{◌≡◌, ℕ, ◌+◌, ◌<◌, ◌≤◌, ◌^◌, ◌++◌, ◌∷◌, [], List, length, None, Some, IsSome, IfSome, IsTrue, true, IfOk, OnOk, OnErr, ◌↔◌, drop};
+ghost use Rattle.std.specs.Prelude.{◌≡◌, ℕ, ◌+◌, ◌<◌, ◌≤◌, ◌^◌, ◌++◌, ◌∷◌, [], List, length, None, Some, IsSome, IfSome, IsTrue, true, IfOk, IsOk, OnOk, OnErr, ◌↔◌, drop};
 ghost use Rattle.std.specs.Option.{option_map};
 ghost use Rattle.zk_pcap.specs.Header.{number_of};
 ghost use Rattle.zk_pcap.specs.Capture.{end_from, StandBetween};
@@ -57,7 +57,8 @@ impl Feed {
     /// The records of a file with this header, of which no byte behind the header has come yet. No
     /// memory is taken.
     pub fn new(alloc: Global, header: &Header) -> Result<Feed, Mem>
-        ensures { IfOk result (λ feed. (front : List ℕ) → length front ≡ 24 → StandsFor feed header.now front []) }
+        ensures stands { IfOk result (λ feed. (front : List ℕ) → length front ≡ 24 → StandsFor feed header.now front []) }
+        ensures succeeds { IsOk result }
     {
         Ok(Feed {
             big: header.big,

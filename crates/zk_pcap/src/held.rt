@@ -84,6 +84,7 @@ impl Held {
     fn make_room(&mut self, more: usize) -> Result<(), Mem>
         ensures bytes { bytes_of self.new ≡ bytes_of self.old }
         ensures room { OnOk result (self.new.end + more ≤ vec_len self.new.bytes) }
+        ensures lean { self.new.taken + self.new.taken ≤ self.new.end }
     {
         self.let_go();
         let end = self.end.checked_add(more).ok_or(Mem)?;
@@ -95,7 +96,8 @@ impl Held {
 
     /// Lets go of what was taken, where it is more than what is left.
     fn let_go(&mut self)
-        ensures { bytes_of self.new ≡ bytes_of self.old }
+        ensures bytes { bytes_of self.new ≡ bytes_of self.old }
+        ensures lean { self.new.taken + self.new.taken ≤ self.new.end }
     {
         let left = self.end - self.taken;
         if left < self.taken {

@@ -1,4 +1,4 @@
-ghost use Rattle.std.specs.Prelude.{◌≡◌, Option, List, ℕ, IfOk};
+ghost use Rattle.std.specs.Prelude.{◌≡◌, ◌≤◌, ◌^◌, Option, List, ℕ, IfOk, IfSome, IfNone};
 ghost use Rattle.zk_typed.specs.Logs.{is_named, first_filter, all_columns};
 
 use std::alloc::Global;
@@ -70,13 +70,21 @@ fn copy_of_path(alloc: Global, path: &Option<Bytes>) -> Result<Option<Bytes>, Me
     }
 }
 
+/// The number of what stands at a place of a list: none past the numbers of 32 bits.
+fn number_at(place: usize) -> Option<u32>
+    ensures some { IfSome result (λ number. number ≡ place) }
+    ensures none { IfNone result (2 ^ 32 ≤ place) }
+{
+    u32::try_from(place).ok()
+}
+
 /// The places of columns, from 0.
 fn places_of(alloc: Global, columns: &[u32]) -> Result<Vec<u32>, Mem>
     ensures { IfOk result (λ places. places.items ≡ all_columns 0 columns.now) }
 {
     let mut places = Vec::new(alloc);
     for place in 0..columns.len() {
-        let Ok(place) = u32::try_from(place) else {
+        let Some(place) = number_at(place) else {
             return Err(Mem);
         };
         places.push(place)?;

@@ -106,6 +106,7 @@ impl Unread {
     fn front_behind(&self, more: u64) -> Result<u64, Mem>
         ensures front { IfOk result (λ front. front ≡ self.now.front + more) }
         ensures within { IfOk result (λ front. front ≤ 2147483648) }
+        ensures memory { OnErr result (2147483648 < self.now.front + more) }
     {
         match self.front.checked_add(more) {
             Some(front) if front <= PLACES => Ok(front),

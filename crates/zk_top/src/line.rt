@@ -39,8 +39,7 @@ const LINE_MAX: usize = SPAN_TEXT_MAX + FIELDS_MAX + 1;
 /// What stands before a packet's own time.
 const PACKET: &[u8; 8] = b"\tpacket\t";
 
-/// Adds the line of an item. It is a function of its own: an item stays in memory where it is made.
-#[inline(never)]
+/// Adds the line of an item.
 pub fn push_item_line(out: &mut Vec<u8>, item: &Item) -> Result<(), AllocError>
     ensures ok { OnOk result (out.new.items ≡ out.old.items ++ line_of item.now) }
 {
@@ -132,16 +131,19 @@ impl LineText {
         self.start = write_span(moment.0, &mut self.bytes, self.start);
     }
 
-    /// Puts so many of the bytes behind the first ones once more.
+    /// Puts the text of a moment once more, which are so many of the bytes behind the first ones. What ends
+    /// with it is copied in the length of the longest one, and cut again: a copy of a known length is no call.
     fn put_again(&mut self, behind: usize, count: usize)
         requires there { behind + count ≤ length self.old }
-        requires room { count + length self.old ≤ LINE_MAX }
+        requires short { count ≤ SPAN_TEXT_MAX }
+        requires room { SPAN_TEXT_MAX + length self.old ≤ LINE_MAX }
         ensures { self.new ≡ take count (drop behind self.old) ++ self.old }
     {
-        let from = self.start + behind;
-        let start = self.start - count;
-        self.bytes.copy_within(from..from + count, start);
-        self.start = start;
+        let end = self.start + behind + count;
+        let mut copy = [0; SPAN_TEXT_MAX];
+        copy.copy_from_slice(&self.bytes[end - SPAN_TEXT_MAX..end]);
+        self.put(&copy);
+        self.start += SPAN_TEXT_MAX - count;
     }
 
     /// Puts an address behind a tab.

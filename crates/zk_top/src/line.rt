@@ -131,8 +131,8 @@ impl LineText {
         self.start = write_span(moment.0, &mut self.bytes, self.start);
     }
 
-    /// Puts the text of a moment once more, which are so many of the bytes behind the first ones. What ends
-    /// with it is copied in the length of the longest one, and cut again: a copy of a known length is no call.
+    /// Puts the text of a moment once more, which are so many of the bytes behind the first ones. As many
+    /// are copied as the longest text has, and what is too much is cut off: a known length needs no call.
     fn put_again(&mut self, behind: usize, count: usize)
         requires there { behind + count ≤ length self.old }
         requires short { count ≤ SPAN_TEXT_MAX }

@@ -1,4 +1,4 @@
-ghost use Rattle.std.specs.Prelude.{◌≡◌, ◌<◌, ◌≤◌, ◌+◌, ◌*◌, ℕ, List, ◌∷◌, ◌++◌, codes, decimal, drop, length, OnOk};
+ghost use Rattle.std.specs.Prelude.{◌≡◌, ◌<◌, ◌≤◌, ◌+◌, ◌*◌, ℕ, List, ◌∷◌, ◌++◌, codes, decimal, drop, length, take, OnOk};
 ghost use Rattle.zk_events.specs.Facts.{state_name};
 ghost use Rattle.zk_io.specs.Said.{line_end};
 ghost use Rattle.zk_text.specs.Address.{addr_text};
@@ -15,7 +15,7 @@ use zk_base::{Addr, ConnNo, Moment, Side};
 use zk_conn::{ConnState, Facts};
 use zk_events::{reason_number, state_name};
 use zk_http::{Unit, UnitKind};
-use zk_text::{ADDR_TEXT_MAX, COUNT_TEXT_MAX, SPAN_TEXT_MAX, addr_text, proto_name, span_text};
+use zk_text::{ADDR_TEXT_MAX, COUNT_TEXT_MAX, SPAN_TEXT_MAX, addr_text, proto_name, write_span};
 use zk_traffic::{Item, What};
 
 /// The most bytes of a name and its tab: `established` is the longest one.
@@ -36,31 +36,16 @@ const FIELDS_MAX: usize = NAMED_MAX + NAME_MAX + 2 * END_MAX;
 /// The most bytes of a line.
 const LINE_MAX: usize = SPAN_TEXT_MAX + FIELDS_MAX + 1;
 
+/// What stands before a packet's own time.
+const PACKET: &[u8; 8] = b"\tpacket\t";
+
 /// Adds the line of an item.
 pub fn push_item_line(out: &mut Vec<u8>, item: &Item) -> Result<(), AllocError>
     ensures ok { OnOk result (out.new.items ≡ out.old.items ++ line_of item.now) }
 {
-    let mut buffer = [0; SPAN_TEXT_MAX];
-    let Ok(len) = span_text(item.moment.0, &mut buffer) else {
-        unreachable!()
-    };
-    let now = Shown {
-        moment: item.moment,
-        text: &buffer[..len],
-    };
     let mut line = LineText::new();
-    line.put_fields(now, &item.what);
-    line.put(now.text);
+    line.put_item(item.moment, &item.what);
     out.extend_from_slice(line.as_slice())
-}
-
-/// A moment and its text.
-#[derive(Clone, Copy, Debug)]
-struct Shown<'a> {
-    moment: Moment,
-    text: &'a [u8],
-    ghost is_text: { text.now ≡ span_decimal moment.0 },
-    ghost short: { length text.now ≤ SPAN_TEXT_MAX },
 }
 
 /// The end of a line. It grows to the front, from the last field to the first: so a number, whose digits
@@ -137,17 +122,28 @@ impl LineText {
         self.put_tab();
     }
 
-    /// Puts a moment behind a tab.
+    /// Puts a moment: its seconds with six decimals.
     fn put_moment(&mut self, moment: Moment)
-        requires { SPAN_TEXT_MAX + length self.old < LINE_MAX }
-        ensures text { self.new ≡ field (span_decimal moment.0) ++ self.old }
-        ensures len { length self.new ≤ 1 + SPAN_TEXT_MAX + length self.old }
+        requires { SPAN_TEXT_MAX + length self.old ≤ LINE_MAX }
+        ensures text { self.new ≡ span_decimal moment.0 ++ self.old }
+        ensures len { length self.new ≤ SPAN_TEXT_MAX + length self.old }
     {
-        let mut text = [0; SPAN_TEXT_MAX];
-        let Ok(len) = span_text(moment.0, &mut text) else {
-            unreachable!()
-        };
-        self.put_field(&text[..len]);
+        self.start = write_span(moment.0, &mut self.bytes, self.start);
+    }
+
+    /// Puts the text of a moment once more, which are so many of the bytes behind the first ones. As many
+    /// are copied as the longest text has, and what is too much is cut off: a known length needs no call.
+    fn put_again(&mut self, behind: usize, count: usize)
+        requires there { behind + count ≤ length self.old }
+        requires short { count ≤ SPAN_TEXT_MAX }
+        requires room { SPAN_TEXT_MAX + length self.old ≤ LINE_MAX }
+        ensures { self.new ≡ take count (drop behind self.old) ++ self.old }
+    {
+        let end = self.start + behind + count;
+        let mut copy = [0; SPAN_TEXT_MAX];
+        copy.copy_from_slice(&self.bytes[end - SPAN_TEXT_MAX..end]);
+        self.put(&copy);
+        self.start += SPAN_TEXT_MAX - count;
     }
 
     /// Puts an address behind a tab.
@@ -165,14 +161,42 @@ impl LineText {
 }
 
 impl LineText {
-    /// Puts what an item is that happens now, and its fields.
-    fn put_fields(&mut self, now: Shown<'_>, what: &What)
+    /// Puts a moment, and what an item is that happens then.
+    fn put_item(&mut self, now: Moment, what: &What)
+        requires { SPAN_TEXT_MAX + FIELDS_MAX + length self.old ≤ LINE_MAX }
+        ensures { self.new ≡ (span_decimal now.0 ++ fields_of what.now) ++ self.old }
+    {
+        if let What::Seen { own, caplen, len } = what {
+            self.put_packet(now, *own, *caplen, *len);
+        } else {
+            self.put_fields(what);
+            self.put_moment(now);
+        }
+    }
+
+    /// Puts a packet. Its own time is mostly the network time that it makes: that one's text is there then.
+    fn put_packet(&mut self, now: Moment, own: Moment, caplen: u32, len: u32)
+        requires { SPAN_TEXT_MAX + FIELDS_MAX + length self.old ≤ LINE_MAX }
+        ensures { self.new ≡ (span_decimal now.0 ++ fields_of (Seen own caplen len)) ++ self.old }
+    {
+        let own_len = self.put_seen(own, caplen, len);
+        if own == now {
+            self.put_again(PACKET.len(), own_len);
+        } else {
+            self.put_moment(now);
+        }
+    }
+
+    /// Puts what an item is, and its fields.
+    fn put_fields(&mut self, what: &What)
         requires { FIELDS_MAX + length self.old ≤ LINE_MAX }
         ensures text { self.new ≡ fields_of what.now ++ self.old }
         ensures len { length self.new ≤ FIELDS_MAX + length self.old }
     {
         match what {
-            What::Seen { own, caplen, len } => self.put_packet(now, *own, *caplen, *len),
+            What::Seen { own, caplen, len } => {
+                self.put_seen(*own, *caplen, *len);
+            }
             What::Opened { conn, facts } => self.put_opened(*conn, facts),
             What::Established { conn, facts: _ } => self.put_named(b"established", conn.0),
             What::Gap {
@@ -217,28 +241,21 @@ impl LineText {
         }
     }
 
-    fn put_packet(&mut self, now: Shown<'_>, own: Moment, caplen: u32, len: u32)
+    /// Puts the fields of a packet, and answers how many bytes its own time has.
+    fn put_seen(&mut self, own: Moment, caplen: u32, len: u32) -> usize
         requires { FIELDS_MAX + length self.old ≤ LINE_MAX }
+        ensures own { result ≡ length (span_decimal own.0) }
+        ensures short { result ≤ SPAN_TEXT_MAX }
         ensures text { self.new ≡ fields_of (Seen own caplen len) ++ self.old }
         ensures len { length self.new ≤ FIELDS_MAX + length self.old }
     {
         self.put_number(u64::from(len));
         self.put_number(u64::from(caplen));
-        self.put_own(now, own);
-        self.put_field(b"packet");
-    }
-
-    /// Puts a packet's own time, which is mostly the network time that it makes: that one's text is there.
-    fn put_own(&mut self, now: Shown<'_>, own: Moment)
-        requires { SPAN_TEXT_MAX + length self.old < LINE_MAX }
-        ensures text { self.new ≡ field (span_decimal own.0) ++ self.old }
-        ensures len { length self.new ≤ 1 + SPAN_TEXT_MAX + length self.old }
-    {
-        if own == now.moment {
-            self.put_field(now.text);
-        } else {
-            self.put_moment(own);
-        }
+        let end = self.start;
+        self.put_moment(own);
+        let start = self.start;
+        self.put(PACKET);
+        end - start
     }
 
     fn put_opened(&mut self, conn: ConnNo, facts: &Facts)

@@ -1,2 +1,3 @@
+pub mod ChecksumLemmas
 pub mod FrameRows
 pub mod Ip4Rows

@@ -1,4 +1,6 @@
-ghost use Rattle.std.specs.Prelude.{◌≡◌, ◌≢◌, ◌≤◌, ◌<◌, ◌^◌, length, false, IfOk, MatchResult, None, Some};
+ghost use Rattle.std.specs.Prelude.{◌≡◌, ◌≢◌, ◌≤◌, ◌<◌, ◌*◌, ◌^◌, length, drop, sum, false, IfOk, MatchResult, None, Some};
+ghost use Rattle.byteorder.specs.Endian.{big_number};
+ghost use Rattle.zk_base.specs.Checksum.{words, is_right_sum};
 ghost use Rattle.zk_link_ip.specs.Ip4.{header_len, ihl, total_length};
 
 use byteorder::{BigEndian, ByteOrder};
@@ -92,7 +94,7 @@ impl<'a> Ip4<'a> {
         if total_length != 0 && total_length < header_len {
             return Err(IpFault::Total);
         }
-        if check && !is_right_checksum(word_sum(&bytes[..header_len])) {
+        if check && !is_checksum_right(&bytes[..header_len]) {
             return Err(IpFault::Checksum);
         }
         Ok(Ip4 { bytes })
@@ -206,6 +208,32 @@ impl<'a> Ip4<'a> {
     {
         BigEndian::read_u16(&self.bytes[FLAGS_AND_FRAGMENT_OFFSET..])
     }
+}
+
+/// Whether the checksum in a header is right (RFC 791, section 3.1). The five words of 32 bits that
+/// each header has are added, in each of which 2^16 counts as 1 (RFC 1071, section 2), and the words
+/// of the options, which few headers have.
+fn is_checksum_right(header: &[u8]) -> bool
+    requires least { HEADER_LEN_MIN ≤ length header.now }
+    requires limit { length header.now ≤ 60 }
+    ensures { result ≡ is_right_sum (sum (words header.now)) }
+{
+    let without_options = word(header, 0)
+        + word(header, 1)
+        + word(header, 2)
+        + word(header, 3)
+        + word(header, 4);
+    is_right_checksum(without_options + word_sum(&header[HEADER_LEN_MIN..]))
+}
+
+/// One of the words of a header without options.
+fn word(header: &[u8], index: usize) -> u64
+    requires least { HEADER_LEN_MIN ≤ length header.now }
+    requires within { index < IHL_MIN }
+    ensures value { result ≡ big_number 4 (drop (4 * index) header.now) }
+    ensures bound { result < 2 ^ 32 }
+{
+    u64::from(BigEndian::read_u32(&header[WORD_LEN * index..]))
 }
 
 /// The length of the header at the front, in bytes.

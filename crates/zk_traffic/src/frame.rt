@@ -38,7 +38,9 @@ pub fn is_fragment(ip: &Ip4<'_>) -> bool
 }
 
 /// The segment in a datagram of which the packet is a part, or the whole: of the datagram's payload
-/// this was captured, and it has `full` bytes.
+/// this was captured, and it has `full` bytes. It stands in line, so that the segment is made where it is
+/// used, and not copied there.
+#[inline(always)]
 pub fn segment_in<'a>(
     options: &Options,
     ip: &Ip4<'_>,

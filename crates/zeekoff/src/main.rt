@@ -4,8 +4,9 @@
 mod arguments;
 mod dir_shelf;
 
-ghost use Rattle.std.specs.Prelude.{◌≡◌, IfErr};
+ghost use Rattle.std.specs.Prelude.{◌≡◌, IfErr, IfOk};
 ghost use Rattle.zeekoff.specs.Arguments.{exit_status};
+ghost use Rattle.zeekoff.specs.Status.{HasEnded};
 
 use arguments::{ArgumentFault, words};
 use dir_shelf::DirShelf;
@@ -21,7 +22,8 @@ fn main(rt: HostRuntime) -> ExitCode {
 
 /// The exit status of a run with these words, or of the fault for which there are none.
 fn status<S: Shelf>(alloc: Global, words: Result<Vec<Word>, ArgumentFault>, shelf: &mut S) -> u8
-    ensures { IfErr words (λ fault. result ≡ exit_status fault) }
+    ensures ended { IfOk words (λ words. HasEnded words.items (S.outside shelf.old) (S.outside shelf.new) result) }
+    ensures fault { IfErr words (λ fault. result ≡ exit_status fault) }
 {
     match words {
         Ok(words) => run(alloc, &words, shelf).status(),

@@ -13,3 +13,4 @@ pub mod Once
 pub mod OnceInRuns
 pub mod TablesStaying
 pub mod InTime
+pub mod Whole

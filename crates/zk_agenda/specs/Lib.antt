@@ -1,5 +1,6 @@
 pub mod Onward
 pub mod Bodies
 pub mod Trace
+pub mod History
 pub mod Sparing
 pub mod Laws

@@ -2,6 +2,7 @@
 #![tactic(auto)]
 
 ghost use Rattle.zk_agenda.specs.Bodies.{HandlersGo, InitialsGo, ExpiriesGo};
+ghost use Rattle.zk_agenda.specs.History.{TraceIsWhole};
 ghost use Rattle.zk_agenda.specs.Laws.{DispatchedOnce, SparingTablesStay, TimeRises};
 
 /// No body moves network time, begins or ends the end, or takes an event that was scheduled from those that
@@ -12,6 +13,13 @@ pub fn bodies_go_onward()
     ensures handlers { HandlersGo }
     ensures initials { InitialsGo }
     ensures expiries { ExpiriesGo }
+{}
+
+/// The list of a run's dispatches has all of them, in their order: each is of the first event in the queue, or of
+/// the next turn where the queue is empty, and with the items and the end between them they make up all that
+/// happens from where the run begins to its last world.
+pub fn trace_is_whole()
+    ensures { TraceIsWhole }
 {}
 
 /// Each event that a run schedules is dispatched once or waits still, and where the run comes to its end none

@@ -4,7 +4,7 @@ use Rattle.jiff_core.specs.Calendar.{days_in_year, days_in_month}
 use Rattle.zk_base.specs.declared.time.Moment.{Moment}
 use Rattle.zk_ascii.specs.declared.dates.Clock.{Clock}
 
--- from 1970 on, before the day in which the year 10000 begins
+-- from 1970 on, up to 22:00 on December 30 of 9999, the last moment that `jiff` shows in every time zone
 abbrev pub HasDate : Moment → Type 0
 HasDate at = (pos 0 ≤ℤ at.0) × (at.0 ≤ℤ pos 253_402_207_200_000_000)
 

@@ -86,7 +86,7 @@ table_inserted old new instance key_new number_new inserts table = record {
   numbers = matches_more nat_eq (λ a b is. eqb-true a b is) (λ a. eq-eqb a a refl) (tree.get nat_cmp old.numbers) (tree.get nat_cmp new.numbers) (number_at old.slots) (number_at new.slots) instance.number inserts.slot table.numbers
       (λ other apart. inserts.other_numbers other (sym (unsigned_ties instance.number other) ∙ apart)) (λ other apart. ap (option_map (λ (i : Instance). i.number)) (inserts.others other apart))
       number_new (ap (option_map (λ (i : Instance). i.number)) inserts.vacant) inserts.number_found (ap (option_map (λ (i : Instance). i.number)) inserts.there);
-  tree = inserts.tree table.tree;
+  index = inserts.index table.index;
 }
 
 -- another key's instance is as before
@@ -124,7 +124,7 @@ pub stands_begun : (old mid : Conns) (told : List Told) (t : Moment) (p : L4View
     → StandsFor (record mid { begun = number }) (told ++ Packet t p ∷ [])
 unfolding instance_at
 stands_begun old mid told t p instance number stands comes absent inserts holds of_key at_t numbered next filed early in_time = record {
-  table = record { keys = table.keys; numbers = table.numbers; tree = table.tree };
+  table = record { keys = table.keys; numbers = table.numbers; index = table.index };
   begun_is = next ∙ ap (λ n. n + 1) stands.begun_is ∙ sym (ap length (begun-append told (Packet t p) ∙ ap (λ l. begun told ++ l) begins) ∙ length-append (begun told) (key_of p ∷ []));
   keeps = λ other. ⊎_elim
       (λ same. subst (λ k. Keeps (told ++ Packet t p ∷ []) k (instance_at new k)) (same_key_is (key_of p) other same) here)
@@ -181,7 +181,7 @@ stands_same old new told same stands = record {
         (λ slot. ap (option_map (λ (i : Instance). i.key)) (same.slots_are slot)) stands.table.keys;
     numbers = matches_same (tree.get nat_cmp old.numbers) (tree.get nat_cmp new.numbers) (number_at old.slots) (number_at new.slots) same.numbers_are
         (λ slot. ap (option_map (λ (i : Instance). i.number)) (same.slots_are slot)) stands.table.numbers;
-    tree = same.tree stands.table.tree;
+    index = same.index stands.table.index;
   };
   begun_is = same.begun_is ∙ stands.begun_is;
   keeps = λ key. subst (Keeps told key) (sym (ap (option_and_then (get new.slots)) (same.keys_are key) ∙ by_slot (slot_in old.keys key))) (stands.keeps key);

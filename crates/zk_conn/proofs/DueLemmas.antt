@@ -12,14 +12,14 @@ use Rattle.zk_conn.specs.declared.key.Key.{Key}
 use Rattle.zk_conn.specs.declared.removals.Filing.{Filing}
 use Rattle.zk_conn.specs.Histories.{latest, is_live, NoneLive, is_earlier, IsDue, IsFirstDue, IsRemoval, NoneDue}
 use Rattle.zk_conn.specs.Holds.{facts_in, removal_of}
-use Rattle.zk_conn.specs.Removals.{earlier, filing_at, filing_of, removal_at}
+use Rattle.zk_conn.specs.Removals.{earlier, filed_in, filing_at, filing_of, removal_at, AtMost}
 use Rattle.zk_conn.specs.Standing.{StandsFor}
 use Rattle.zk_conn.specs.Table.{first_by, slot_by, is_stale}
 use Rattle.zk_conn.specs.Told.{Told}
 use Rattle.zk_conn.proofs.HoldsLemmas.{facts_in-is}
 use Rattle.zk_conn.proofs.InstanceLemmas.{removal_moment-is}
 use Rattle.zk_conn.proofs.MomentLemmas.{behind, behind_later, is_earlier-later, int_le-antisym}
-use Rattle.zk_conn.proofs.RemovalLemmas.{AtMost, at_most-trans, earlier-left, earlier-right, earlier-among, top-least, top-filed}
+use Rattle.zk_conn.proofs.RemovalLemmas.{at_most-trans, earlier-left, earlier-right, earlier-among, top-least, top-filed}
 use Rattle.zk_conn.proofs.RemoveLemmas.{found_in_slot}
 use Rattle.zk_conn.proofs.StandingLemmas.{Found, found_live}
 
@@ -30,8 +30,8 @@ not_both : {A : Type 0} {o : Option A} (a : A) → o ≡ None → o ≡ Some a �
 not_both a none some = cc
 
 -- the filing of a live instance
-filed_live : (conns : Conns) (told : List Told) (key : Key) (found : Found conns told key) → filing_at conns.slots found.slot ≡ Some (filing_of found.slot found.instance)
-filed_live conns told key found = ap (option_map (filing_of found.slot)) found.there
+filed_live : (conns : Conns) (told : List Told) (key : Key) → StandsFor conns told → (found : Found conns told key) → filed_in conns.removals found.slot ≡ Some (filing_of found.slot found.instance)
+filed_live conns told key stands found = stands.table.index.filed found.slot ∙ ap (option_map (filing_of found.slot)) found.there
 
 -- the removal moment of a live instance
 due_at : (conns : Conns) (told : List Told) (key : Key) (number : ℕ) (at : Moment) → (found : Found conns told key) → IsDue told key number at → at ≡ removal_of found.instance
@@ -50,8 +50,8 @@ pub none_due : (conns : Conns) (told : List Told) (t : Moment) → StandsFor con
 unfolding first_by
 none_due conns told t stands none key number at due =
     let found = found_live conns told key stands due.live.live in
-    let top = top-least conns.slots conns.firsts.items stands.table.tree found.slot (filing_of found.slot found.instance) (filed_live conns told key found) in
-    let there = filed_is_there conns.slots top.0 (top-filed conns.slots conns.firsts.items stands.table.tree top.0 top.1) in
+    let top = top-least conns.removals.filings.items conns.removals.firsts.items stands.table.index.index found.slot (filing_of found.slot found.instance) (filed_live conns told key stands found) in
+    let there = filed_is_there conns.slots top.0 (top-filed conns.slots conns.removals stands.table.index top.0 top.1) in
     let late : int_le top.0.at.0 t.0 ≡ false =
     not_by (int_le top.0.at.0 t.0) (is_some (get conns.slots top.0.slot)) top.0.slot there (sym (ap (slot_by conns.slots t) top.1) ∙ none) in
     subst (λ (m : Moment). int_le m.0 t.0 ≡ false) (sym (due_at conns told key number at found due))
@@ -65,20 +65,20 @@ none_due conns told t stands none key number at due =
 -- the slot that is filed first, by a moment
 record FirstFiled (conns : Conns) (t : Moment) (slot : ℕ) : Type 0 where
   top : Filing
-  is_top : get_or conns.firsts.items 0 None ≡ Some top
+  is_top : get_or conns.removals.firsts.items 0 None ≡ Some top
   by : int_le top.at.0 t.0 ≡ true
   of_slot : top.slot ≡ slot
 
 first_filed : (conns : Conns) (t : Moment) (slot : ℕ) → first_by conns t ≡ Some slot → FirstFiled conns t slot
 unfolding first_by
-first_filed conns t slot is = by_top (get_or conns.firsts.items 0 None) refl
+first_filed conns t slot is = by_top (get_or conns.removals.firsts.items 0 None) refl
   where
     by_test : (g : Filing) (b there : Bool) → cond (b && there) (Some g.slot) None ≡ Some slot → (b ≡ true) × (g.slot ≡ slot)
     by_test g true true some = (refl, cc)
     by_test g true false some = absurd (not_both slot refl some)
     by_test g false there some = absurd (not_both slot refl some)
 
-    by_top : (o : Option Filing) → get_or conns.firsts.items 0 None ≡ o → FirstFiled conns t slot
+    by_top : (o : Option Filing) → get_or conns.removals.firsts.items 0 None ≡ o → FirstFiled conns t slot
     by_top None none = absurd (not_both slot refl (sym (ap (slot_by conns.slots t) none) ∙ is))
     by_top (Some g) some =
         let test = by_test g (int_le g.at.0 t.0) (is_some (get conns.slots g.slot)) (sym (ap (slot_by conns.slots t) some) ∙ is) in
@@ -94,7 +94,7 @@ is_removal conns told t slot was removed stands first fresh there is =
     (let found = found_in_slot conns told slot was stands there in
     let filed = first_filed conns t slot first in
     let top_is : filing_of slot was ≡ filed.top =
-    one filed.top (filing_of slot was) (ap (filing_at conns.slots) (sym filed.of_slot) ∙ top-filed conns.slots conns.firsts.items stands.table.tree filed.top filed.is_top)
+    one filed.top (filing_of slot was) (ap (filing_at conns.slots) (sym filed.of_slot) ∙ top-filed conns.slots conns.removals stands.table.index filed.top filed.is_top)
     (ap (option_map (filing_of slot)) there) in
     let at : was.filed.0 ≡ (removal_of was).0 =
     int_le-antisym was.filed.0 (removal_of was).0 found.latest.filed (sym (ap is_stale there) ∙ fresh) in
@@ -108,7 +108,7 @@ is_removal conns told t slot was removed stands first fresh there is =
         };
         first = λ other_key other other_at due.
             let other_found = found_live conns told other_key stands due.live.live in
-            let before = top-least conns.slots conns.firsts.items stands.table.tree other_found.slot (filing_of other_found.slot other_found.instance) (filed_live conns told other_key other_found) in
+            let before = top-least conns.removals.filings.items conns.removals.firsts.items stands.table.index.index other_found.slot (filing_of other_found.slot other_found.instance) (filed_live conns told other_key stands other_found) in
             let no_earlier = is_earlier-later other_found.instance.filed.0 (removal_of other_found.instance).0 before.0.at.0 other_found.instance.number before.0.number other_found.latest.filed before.2 in
             let same_top = one filed.top before.0 filed.is_top before.1 in
             subst (λ (m : Moment). is_earlier m other (removal_of was) was.number ≡ false) (sym (due_at conns told other_key other other_at other_found due))
@@ -147,14 +147,14 @@ removal_live : (conns : Conns) (told : List Told) (key : Key) (found : Found con
 removal_live conns told key found = ap (option_map (λ (i : Instance). let f : Filing = record { at = removal_of i; number = i.number; slot = found.slot } in f)) found.there
 
 -- a live instance's slot is in the index
-slot_in_index : (conns : Conns) (told : List Told) (key : Key) → StandsFor conns told → (found : Found conns told key) → found.slot < length conns.firsts.items
+slot_in_index : (conns : Conns) (told : List Told) (key : Key) → StandsFor conns told → (found : Found conns told key) → found.slot < length conns.removals.firsts.items
 slot_in_index conns told key stands found = ⊎_elim
     (λ within. within)
-    (λ past. absurd (not_both (filing_of found.slot found.instance) (stands.table.tree.beyond found.slot past) (filed_live conns told key found)))
-    (cases_lt found.slot (length conns.firsts.items))
+    (λ past. absurd (not_both (filing_of found.slot found.instance) (stands.table.index.index.beyond found.slot past) (filed_live conns told key stands found)))
+    (cases_lt found.slot (length conns.removals.firsts.items))
 
 -- where no slot has a removal, no instance is live
-pub none_first : (conns : Conns) (told : List Told) → StandsFor conns told → IsEarliest conns.slots (length conns.firsts.items) None → NoneLive told
+pub none_first : (conns : Conns) (told : List Told) → StandsFor conns told → IsEarliest conns.slots (length conns.removals.firsts.items) None → NoneLive told
 none_first conns told stands is key = ⊎_elim
     (λ live.
     let found = found_live conns told key stands live in
@@ -164,7 +164,7 @@ none_first conns told stands is key = ⊎_elim
     (cases_Bool (is_live (latest key told)))
 
 -- the removal that stands first is that of a live instance
-pub is_first : (conns : Conns) (told : List Told) (f : Filing) → StandsFor conns told → IsEarliest conns.slots (length conns.firsts.items) (Some f)
+pub is_first : (conns : Conns) (told : List Told) (f : Filing) → StandsFor conns told → IsEarliest conns.slots (length conns.removals.firsts.items) (Some f)
     → (key : Key) × IsFirstDue told key f.number f.at
 unfolding found_in_slot
 is_first conns told f stands is = by_instance (get conns.slots (is.among f refl).0) refl (is.among f refl).1

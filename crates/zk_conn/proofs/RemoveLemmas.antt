@@ -52,7 +52,7 @@ table_removed old new slot was there removes table = record {
   numbers = matches_less nat_eq (λ a b is. eqb-true a b is) (λ a. eq-eqb a a refl) (tree.get nat_cmp old.numbers) (tree.get nat_cmp new.numbers) (number_at old.slots) (number_at new.slots) was.number slot table.numbers
       (λ other apart. removes.other_numbers other (sym (unsigned_ties was.number other) ∙ apart)) (λ other apart. ap (option_map (λ (i : Instance). i.number)) (removes.others other apart))
       (ap (option_map (λ (i : Instance). i.number)) there) removes.number_gone (ap (option_map (λ (i : Instance). i.number)) removes.gone);
-  tree = removes.tree table.tree;
+  index = removes.index table.index;
 }
 
 -- another key's instance is as before

@@ -21,7 +21,8 @@ use Rattle.zk_conn.specs.declared.key.Key.{Key}
 use Rattle.zk_conn.specs.Histories.{latest, begun, begun_by, joined_by, is_live, is_removal, comes_late, Precedes, IsLive}
 use Rattle.zk_conn.specs.Holds.{Has, Holds, Follows, end_in, facts_in, removal_of}
 use Rattle.zk_conn.specs.Instance.{Opening, opening, originator, end_of, moment_after, facts_of}
-use Rattle.zk_conn.specs.Removals.{filing_of}
+use Rattle.zk_conn.specs.declared.removals.Filing.{Filing}
+use Rattle.zk_conn.specs.Removals.{filed_in, filing_of}
 use Rattle.zk_conn.specs.Segment.{same_key, ranked}
 use Rattle.zk_conn.specs.Standing.{StandsFor, IsLatest, Keeps}
 use Rattle.zk_conn.specs.Table.{has_number, rank_cmp, slot_in, kept, slot_numbered, HasLive, instance_at, key_at, number_at, Matches, IsTable, Changes, Tells}
@@ -45,7 +46,7 @@ table_changed old new slot was is there changes table = record {
       (at_slot (λ (i : Instance). i.key) changes.key_is) table.keys;
   numbers = matches_same (tree.get nat_cmp old.numbers) (tree.get nat_cmp new.numbers) (number_at old.slots) (number_at new.slots) changes.numbers_are
       (at_slot (λ (i : Instance). i.number) changes.number_is) table.numbers;
-  tree = changes.tree table.tree;
+  index = changes.index table.index;
 }
   where
     at_slot : {K : Type 0} (f : Instance → K) → f is ≡ f was → (other : ℕ) → option_map f (get new.slots other) ≡ option_map f (get old.slots other)
@@ -317,16 +318,19 @@ facts_live conns told key conn slot now facts numbered seen is stands live =
     ∙ facts_in-is found.instance (latest key told) found.latest.holds
 
 -- a value with nothing was told nothing
-pub stands_empty : (conns : Conns) → conns.slots.slots ≡ [] → conns.keys.entries ≡ [] → conns.numbers.entries ≡ [] → conns.firsts.items ≡ [] → conns.begun ≡ 0
+pub stands_empty : (conns : Conns) → conns.slots.slots ≡ [] → conns.keys.entries ≡ [] → conns.numbers.entries ≡ [] → conns.removals.filings.items ≡ [] → conns.removals.firsts.items ≡ [] → conns.begun ≡ 0
     → StandsFor conns []
 unfolding instance_at
-stands_empty conns slots keys numbers firsts none_begun = record {
+stands_empty conns slots keys numbers filings firsts none_begun = record {
   table = record {
     keys = empty (slot_in conns.keys) (key_at conns.slots) (λ key. ap (lookup (tree.is_at (rank_cmp (ranked key)))) keys) (λ slot. ap (option_map (λ (i : Instance). i.key)) (nothing slot));
     numbers = empty (tree.get nat_cmp conns.numbers) (number_at conns.slots) (λ number. ap (lookup (tree.is_at (nat_cmp number))) numbers) (λ slot. ap (option_map (λ (i : Instance). i.number)) (nothing slot));
-    tree = record {
-      nodes = λ slot within. absurd (omega (arith, within, ap length firsts));
-      beyond = λ slot past. ap (option_map (filing_of slot)) (nothing slot);
+    index = record {
+      index = record {
+        nodes = λ slot within. absurd (omega (arith, within, ap length firsts));
+        beyond = λ slot past. nothing_filed slot;
+      };
+      filed = λ slot. nothing_filed slot ∙ sym (ap (option_map (filing_of slot)) (nothing slot));
     };
   };
   begun_is = none_begun;
@@ -336,6 +340,12 @@ stands_empty conns slots keys numbers firsts none_begun = record {
   where
     none : (k : ℕ) (d : Option Instance) → get_or [] k d ≡ d
     none k d = grind (arith, common_steps)
+
+    none_filed : (k : ℕ) (d : Option Filing) → get_or [] k d ≡ d
+    none_filed k d = grind (arith, common_steps)
+
+    nothing_filed : (slot : ℕ) → filed_in conns.removals slot ≡ None
+    nothing_filed slot = ap (λ l. get_or l slot None) filings ∙ none_filed slot None
 
     nothing : (slot : ℕ) → get conns.slots slot ≡ None
     nothing slot = ap (λ l. get_or l slot None) slots ∙ none slot None

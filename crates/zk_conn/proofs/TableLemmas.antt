@@ -1,15 +1,13 @@
 -- The table after the instance of one slot changed.
-use Rattle.std.proofs.Common.{pos, ◌+ℤ◌, ◌≡◌, ◌≢◌, ℕ, ◌+◌, ◌*◌, ◌<◌, ◌≤◌, ◌-◌, ◌++◌, take, replicate, Bool, true, false, cond, List, length, get_or, Option, Some, None, refl, sym, ap, subst, ◌∙◌, arith, ⊎_elim}
+use Rattle.std.proofs.Common.{pos, ◌+ℤ◌, ◌≡◌, ◌≢◌, ℕ, ◌<◌, ◌≤◌, Bool, true, false, cond, List, length, get_or, Option, Some, None, refl, sym, ap, subst, ◌∙◌, arith, ⊎_elim}
 use Rattle.std.specs.BTreeMap as btree
 use Rattle.std.specs.Int.{saturate_signed, w64}
 use Rattle.std.specs.Prelude.{int_le, Result, Ok, Err, OnOk, is_err}
 use Rattle.std.specs.Option.{option_map}
-use Rattle.std.specs.Vec.{with_items}
-use Rattle.std.specs.Global.{Vec}
 use Rattle.std.specs.Ordering.{nat_cmp}
 use Rattle.std.proofs.lemmas.Bool.{cases_eq, cases_lt, true≢false}
 use Rattle.std.proofs.lemmas.Grind.{common_steps}
-use Rattle.std.proofs.lemmas.List.{get_or-set_same, get_or-set_other, with_items_is}
+use Rattle.std.proofs.lemmas.List.{get_or-set_same, get_or-set_other}
 use Rattle.slab.specs.Slab.{Slab, get, with_value}
 use Rattle.zk_base.specs.declared.network.Side.{Side}
 use Rattle.zk_base.specs.declared.network.Side.TheVariants.{Orig, Resp}
@@ -26,7 +24,8 @@ use Rattle.zk_conn.specs.declared.view.L4View.{L4View}
 use Rattle.zk_conn.specs.Holds.{Follows, half_after, removal_of, touched_between}
 use Rattle.zk_conn.specs.Instance.{same_side, wait}
 use Rattle.zk_conn.specs.Segment.{is_tcp}
-use Rattle.zk_conn.specs.Removals.{earlier, filing_at, filing_of, AllBut, IsTree}
+use Rattle.zk_conn.specs.declared.removals.Removals.{Removals}
+use Rattle.zk_conn.specs.Removals.{filed_in, filing_at, filing_of, HasPlace, IsIndex, IsIndexOf}
 use Rattle.zk_conn.specs.Table.{slot_in, Changes, SameFacts, Files, Hastens, Tells}
 use Rattle.zk_conn.specs.Told.{Told, Front}
 use Rattle.zk_conn.proofs.MomentLemmas.{int_le-refl}
@@ -44,28 +43,44 @@ with_value-here slots slot was is there = get_or-set_same slots.slots slot (Some
 pub with_value-other : (slots : Slab Instance) (slot other : ℕ) (is : Instance) → other ≢ slot → get (with_value slots slot is) other ≡ get slots other
 with_value-other slots slot other is apart = get_or-set_other slots.slots slot other (Some is) None apart
 
--- the index is right but at a slot whose filing alone changed
-pub all_but : (old new : Slab Instance) (firsts : List (Option Filing)) (slot : ℕ) (was : Instance) → get old slot ≡ Some was
-    → ((other : ℕ) → other ≢ slot → get new other ≡ get old other) → IsTree old firsts → AllBut new firsts slot
-all_but old new firsts slot was there others tree = record {
-  nodes = λ other in_index apart.
-      tree.nodes other in_index
-      ∙ ap (λ f. earlier (earlier f (get_or firsts (2 * other + 1) None)) (get_or firsts (2 * other + 2) None)) (ap (option_map (filing_of other)) (sym (others other apart)));
-  beyond = λ other past. ⊎_elim
-      (λ here. absurd (no_filing (ap (λ s. option_map (filing_of s) (get old s)) here ∙ ap (option_map (filing_of slot)) there) (tree.beyond other past)))
-      (λ apart. ap (option_map (filing_of other)) (others other apart) ∙ tree.beyond other past)
+no_filing : {o : Option Filing} {f : Filing} → o ≡ Some f → o ≡ None → ⊥
+no_filing some none = cc
+
+past_end : (firsts : List (Option Filing)) (slot : ℕ) → length firsts ≤ slot → get_or firsts slot None ≡ None
+past_end firsts slot past = grind (arith, common_steps, past)
+
+-- the index has a place for an instance of the table
+pub has_place : (slots : Slab Instance) (removals : Removals) (slot : ℕ) (was : Instance) → get slots slot ≡ Some was → IsIndexOf slots removals → HasPlace removals slot
+has_place slots removals slot was there index = (
+  ⊎_elim (λ within. within) (λ past. absurd (no_filing filed (past_end removals.filings.items slot past))) (cases_lt slot (length removals.filings.items)),
+  ⊎_elim (λ within. within) (λ past. absurd (no_filing filed (let tree = index.index in tree.beyond slot past))) (cases_lt slot (length removals.firsts.items)),
+)
+  where
+    filed : filed_in removals slot ≡ Some (filing_of slot was)
+    filed = index.filed slot ∙ ap (option_map (filing_of slot)) there
+
+-- the index in which a slot's instance was filed
+pub index_filed : (old new : Slab Instance) (before after : Removals) (slot : ℕ) (is : Instance) → get new slot ≡ Some is
+    → ((other : ℕ) → other ≢ slot → get new other ≡ get old other) → (IsIndex before → IsIndex after) → (HasPlace before slot → filed_in after slot ≡ Some (filing_of slot is))
+    → ((other : ℕ) → other ≢ slot → filed_in after other ≡ filed_in before other) → (IsIndexOf old before → HasPlace before slot) → IsIndexOf old before → IsIndexOf new after
+index_filed old new before after slot is there others kept filed others_filed place index = record {
+  index = kept index.index;
+  filed = λ other. ⊎_elim
+      (λ here. subst (λ s. filed_in after s ≡ filing_at new s) (sym here) (filed (place index) ∙ sym (ap (option_map (filing_of slot)) there)))
+      (λ apart. others_filed other apart ∙ index.filed other ∙ sym (ap (option_map (filing_of other)) (others other apart)))
       (cases_eq other slot);
 }
-  where
-    no_filing : {o : Option Filing} {f : Filing} → o ≡ Some f → o ≡ None → ⊥
-    no_filing some none = cc
 
--- the index in its vector, once it is put right
-pub tree_after : (slots : Slab Instance) (firsts : Vec (Option Filing)) (shown refiled : List (Option Filing)) (slot : ℕ)
-    → shown ≡ firsts.items → length refiled ≡ firsts.len → (AllBut slots shown slot → IsTree slots refiled) → AllBut slots firsts.items slot
-    → IsTree slots (with_items firsts refiled).items
-tree_after slots firsts shown refiled slot lent long refile all =
-    subst (IsTree slots) (sym (with_items_is firsts refiled long)) (refile (subst (λ f. AllBut slots f slot) (sym lent) all))
+-- the index that files nothing any more for a slot
+pub index_forgotten : (old new : Slab Instance) (before after : Removals) (slot : ℕ) → get new slot ≡ None → ((other : ℕ) → other ≢ slot → get new other ≡ get old other)
+    → (IsIndex before → IsIndex after) → filed_in after slot ≡ None → ((other : ℕ) → other ≢ slot → filed_in after other ≡ filed_in before other) → IsIndexOf old before → IsIndexOf new after
+index_forgotten old new before after slot gone others kept forgotten others_filed index = record {
+  index = kept index.index;
+  filed = λ other. ⊎_elim
+      (λ here. subst (λ s. filed_in after s ≡ filing_at new s) (sym here) (forgotten ∙ sym (ap (option_map (filing_of slot)) gone)))
+      (λ apart. others_filed other apart ∙ index.filed other ∙ sym (ap (option_map (filing_of other)) (others other apart)))
+      (cases_eq other slot);
+}
 
 -- a slot has one instance
 pub one_value : {o : Option Instance} {was now : Instance} → o ≡ Some was → o ≡ Some now → now ≡ was
@@ -74,8 +89,8 @@ one_value first second = cc
 -- the table in which the instance of a slot was written
 pub changes_written : (old new : Conns) (slot : ℕ) (was is : Instance) → get old.slots slot ≡ Some was → new.slots ≡ with_value old.slots slot is
     → is.key ≡ was.key → is.number ≡ was.number → new.keys ≡ old.keys → new.numbers ≡ old.numbers → new.begun ≡ old.begun → new.recent ≡ old.recent
-    → (IsTree old.slots old.firsts.items → IsTree new.slots new.firsts.items) → Changes old new slot was is
-changes_written old new slot was is there written key_is number_is same_keys same_numbers same_begun same_recent tree = record {
+    → (IsIndexOf old.slots old.removals → IsIndexOf new.slots new.removals) → Changes old new slot was is
+changes_written old new slot was is there written key_is number_is same_keys same_numbers same_begun same_recent index = record {
   is_there = ap (λ s. get s slot) written ∙ with_value-here old.slots slot was is there;
   others = λ other apart. ap (λ s. get s other) written ∙ with_value-other old.slots slot other is apart;
   key_is = key_is;
@@ -84,21 +99,23 @@ changes_written old new slot was is there written key_is number_is same_keys sam
   numbers_are = λ number. ap (λ m. btree.get nat_cmp m number) same_numbers;
   begun_is = same_begun;
   recent_is = same_recent;
-  tree = tree;
+  index = index;
 }
 
 -- the instance of a slot that was filed at its removal moment
 pub files_written : (old new : Conns) (slot : ℕ) (was now is : Instance) → get old.slots slot ≡ Some was → get old.slots slot ≡ Some now → SameFacts now is
     → is.filed ≡ removal_of now → new.slots ≡ with_value old.slots slot is → new.keys ≡ old.keys → new.numbers ≡ old.numbers → new.begun ≡ old.begun → new.recent ≡ old.recent
-    → (AllBut new.slots old.firsts.items slot → IsTree new.slots new.firsts.items) → Files old new slot was
-files_written old new slot was now is there seen same filed written same_keys same_numbers same_begun same_recent refiled =
+    → (IsIndex old.removals → IsIndex new.removals) → (HasPlace old.removals slot → filed_in new.removals slot ≡ Some (filing_of slot is))
+    → ((other : ℕ) → other ≢ slot → filed_in new.removals other ≡ filed_in old.removals other) → Files old new slot was
+files_written old new slot was now is there seen same filed written same_keys same_numbers same_begun same_recent kept refiled others_filed =
     subst (Files old new slot) (one_value there seen)
     (record {
       is = is;
       written = written;
       changes = changes_written old new slot now is seen written same.key_is same.number_is same_keys same_numbers same_begun same_recent
-          (λ tree. refiled (all_but old.slots new.slots old.firsts.items slot now seen
-          (λ other apart. ap (λ s. get s other) written ∙ with_value-other old.slots slot other is apart) tree));
+          (index_filed old.slots new.slots old.removals new.removals slot is (ap (λ s. get s slot) written ∙ with_value-here old.slots slot now is seen)
+          (λ other apart. ap (λ s. get s other) written ∙ with_value-other old.slots slot other is apart) kept refiled others_filed
+          (has_place old.slots old.removals slot now seen));
       same = same;
       filed = filed;
     })
@@ -125,11 +142,10 @@ hastens_filed old new slot was files = record {
 }
 
 -- the index is right where each slot is filed as before
-pub tree_same : (old new : Slab Instance) (firsts : List (Option Filing)) → ((slot : ℕ) → filing_at new slot ≡ filing_at old slot) → IsTree old firsts → IsTree new firsts
-tree_same old new firsts same tree = record {
-  nodes = λ slot in_index. tree.nodes slot in_index
-      ∙ ap (λ f. earlier (earlier f (get_or firsts (2 * slot + 1) None)) (get_or firsts (2 * slot + 2) None)) (sym (same slot));
-  beyond = λ slot past. same slot ∙ tree.beyond slot past;
+pub index_same : (old new : Slab Instance) (removals : Removals) → ((slot : ℕ) → filing_at new slot ≡ filing_at old slot) → IsIndexOf old removals → IsIndexOf new removals
+index_same old new removals same index = record {
+  index = index.index;
+  filed = λ slot. index.filed slot ∙ sym (same slot);
 }
 
 -- where the instance of a slot was written, each slot is filed as before if the instance is
@@ -167,25 +183,25 @@ changes_then old mid new slot was between is first second = record {
   numbers_are = λ number. second.numbers_are number ∙ first.numbers_are number;
   begun_is = second.begun_is ∙ first.begun_is;
   recent_is = second.recent_is ∙ first.recent_is;
-  tree = λ tree. second.tree (first.tree tree);
+  index = λ index. second.index (first.index index);
 }
 
 -- the table in which the instance of a slot had an event
 written_changes : (old mid : Conns) (slot : ℕ) (now between : Instance) (event : Told) → get old.slots slot ≡ Some now → Follows now between event
-    → between.filed ≡ now.filed → mid.slots ≡ with_value old.slots slot between → mid.keys ≡ old.keys → mid.numbers ≡ old.numbers → mid.firsts ≡ old.firsts
+    → between.filed ≡ now.filed → mid.slots ≡ with_value old.slots slot between → mid.keys ≡ old.keys → mid.numbers ≡ old.numbers → mid.removals ≡ old.removals
     → mid.begun ≡ old.begun → mid.recent ≡ old.recent → Changes old mid slot now between
-written_changes old mid slot now between event seen follows filed written same_keys same_numbers same_firsts same_begun same_recent =
+written_changes old mid slot now between event seen follows filed written same_keys same_numbers same_removals same_begun same_recent =
     changes_written old mid slot now between seen written follows.key_is follows.number_is same_keys same_numbers same_begun same_recent
-    (λ tree. subst (λ f. IsTree mid.slots f) (sym (ap (λ v. v.items) same_firsts))
-    (tree_same old.slots mid.slots old.firsts.items
-    (λ other. ap (λ s. filing_at s other) written ∙ filings_written old.slots slot now between seen filed follows.number_is other) tree))
+    (λ index. subst (λ r. IsIndexOf mid.slots r) (sym same_removals)
+    (index_same old.slots mid.slots old.removals
+    (λ other. ap (λ s. filing_at s other) written ∙ filings_written old.slots slot now between seen filed follows.number_is other) index))
 
 -- an event of an instance, which is then filed anew
 pub tells_hastened : (old mid new : Conns) (slot : ℕ) (was now between : Instance) (event : Told) → get old.slots slot ≡ Some was → get old.slots slot ≡ Some now
     → Follows now between event → between.filed ≡ now.filed → mid.slots ≡ with_value old.slots slot between → mid.keys ≡ old.keys → mid.numbers ≡ old.numbers
-    → mid.firsts ≡ old.firsts → mid.begun ≡ old.begun → mid.recent ≡ old.recent → ((w : Instance) → get mid.slots slot ≡ Some w → Hastens mid new slot w) → Tells old new slot was event
-tells_hastened old mid new slot was now between event there seen follows filed written same_keys same_numbers same_firsts same_begun same_recent hastens =
-    let first = written_changes old mid slot now between event seen follows filed written same_keys same_numbers same_firsts same_begun same_recent in
+    → mid.removals ≡ old.removals → mid.begun ≡ old.begun → mid.recent ≡ old.recent → ((w : Instance) → get mid.slots slot ≡ Some w → Hastens mid new slot w) → Tells old new slot was event
+tells_hastened old mid new slot was now between event there seen follows filed written same_keys same_numbers same_removals same_begun same_recent hastens =
+    let first = written_changes old mid slot now between event seen follows filed written same_keys same_numbers same_removals same_begun same_recent in
     let second = hastens between first.is_there in
     subst (λ w. Tells old new slot w event) (one_value there seen)
     (record {
@@ -216,12 +232,12 @@ removal_of-front was is key of front follows =
 -- a front of an instance
 pub tells_front : (old new : Conns) (slot : ℕ) (was now is : Instance) (of : Side) (front : ℕ) → get old.slots slot ≡ Some was → get old.slots slot ≡ Some now
     → Follows now is (Front now.key of front) → is.filed ≡ now.filed → new.slots ≡ with_value old.slots slot is → new.keys ≡ old.keys → new.numbers ≡ old.numbers
-    → new.firsts ≡ old.firsts → new.begun ≡ old.begun → new.recent ≡ old.recent → Tells old new slot was (Front was.key of front)
-tells_front old new slot was now is of front there seen follows filed written same_keys same_numbers same_firsts same_begun same_recent =
+    → new.removals ≡ old.removals → new.begun ≡ old.begun → new.recent ≡ old.recent → Tells old new slot was (Front was.key of front)
+tells_front old new slot was now is of front there seen follows filed written same_keys same_numbers same_removals same_begun same_recent =
     subst (λ (w : Instance). Tells old new slot w (Front w.key of front)) (one_value there seen)
     (record {
       is = is;
-      changes = written_changes old new slot now is (Front now.key of front) seen follows filed written same_keys same_numbers same_firsts same_begun same_recent;
+      changes = written_changes old new slot now is (Front now.key of front) seen follows filed written same_keys same_numbers same_removals same_begun same_recent;
       follows = follows;
       filed = λ early. subst (λ (m : Moment). int_le m.0 (removal_of is).0 ≡ true) (sym filed)
           (subst (λ (m : Moment). int_le now.filed.0 m.0 ≡ true) (sym (removal_of-front now is now.key of front follows)) early);
@@ -246,41 +262,6 @@ touched_hastened old mid new slot was now between is opened p there seen written
     touched-same now between second.is opened p second.same
     ∙ ap (λ i. touched_between now i opened p) (sym (one_value second.changes.is_there is_there))
     ∙ ap (λ i. touched_between i is opened p) (one_value there seen)
-
--- the index is right but at a slot of its own whose filing alone changed
-pub all_but_within : (old new : Slab Instance) (firsts : List (Option Filing)) (slot : ℕ) → slot < length firsts
-    → ((other : ℕ) → other ≢ slot → get new other ≡ get old other) → IsTree old firsts → AllBut new firsts slot
-all_but_within old new firsts slot within others tree = record {
-  nodes = λ other in_index apart.
-      tree.nodes other in_index
-      ∙ ap (λ f. earlier (earlier f (get_or firsts (2 * other + 1) None)) (get_or firsts (2 * other + 2) None)) (ap (option_map (filing_of other)) (sym (others other apart)));
-  beyond = λ other past. ap (option_map (filing_of other)) (others other (λ here. omega (arith, here, within, past))) ∙ tree.beyond other past;
-}
-
-past_end : (firsts : List (Option Filing)) (slot : ℕ) → length firsts ≤ slot → get_or firsts slot None ≡ None
-past_end firsts slot past = grind (arith, common_steps, past)
-
--- the index is right where it is longer by slots that have nothing
-pub tree_longer : (slots : Slab Instance) (firsts longer : List (Option Filing)) → ((slot : ℕ) → get_or longer slot None ≡ get_or firsts slot None)
-    → length firsts ≤ length longer → IsTree slots firsts → IsTree slots longer
-tree_longer slots firsts longer same long tree = record {
-  nodes = λ slot in_index. same slot ∙ ⊎_elim (λ within. tree.nodes slot within) (λ past. at_end slot past) (cases_lt slot (length firsts))
-      ∙ ap (λ f. earlier (earlier (filing_at slots slot) f) (get_or firsts (2 * slot + 2) None)) (sym (same (2 * slot + 1)))
-      ∙ ap (earlier (earlier (filing_at slots slot) (get_or longer (2 * slot + 1) None))) (sym (same (2 * slot + 2)));
-  beyond = λ slot past. tree.beyond slot (omega (arith, long, past));
-}
-  where
-    at_end : (slot : ℕ) → length firsts ≤ slot → get_or firsts slot None ≡ earlier (earlier (filing_at slots slot) (get_or firsts (2 * slot + 1) None)) (get_or firsts (2 * slot + 2) None)
-    at_end slot past =
-        past_end firsts slot past
-        ∙ sym (ap (λ f. earlier (earlier f (get_or firsts (2 * slot + 1) None)) (get_or firsts (2 * slot + 2) None)) (tree.beyond slot past)
-        ∙ ap (λ f. earlier (earlier None f) (get_or firsts (2 * slot + 2) None)) (past_end firsts (2 * slot + 1) (omega (arith, past)))
-        ∙ ap (λ f. earlier (earlier None None) f) (past_end firsts (2 * slot + 2) (omega (arith, past))))
-
--- a vector of the index that was made longer
-pub grown : (firsts : List (Option Filing)) (room n slot : ℕ) → length firsts ≡ n → n < room
-    → get_or (take room firsts ++ replicate (room - n) None) slot None ≡ get_or firsts slot None
-grown firsts room n slot long short = grind (arith, common_steps, short, long)
 
 -- what a result says where it is no error
 pub on_ok-not_err : {A E : Type 0} (r : Result A E) {P : Type 0} → is_err r ≡ false → OnOk r P → P

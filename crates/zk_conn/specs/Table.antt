@@ -13,7 +13,7 @@ use Rattle.zk_conn.specs.declared.key.Key.{Key}
 use Rattle.zk_conn.specs.declared.key.Ranked.{Ranked}
 use Rattle.zk_conn.specs.declared.removals.Filing.{Filing}
 use Rattle.zk_conn.specs.Holds.{Follows, removal_of}
-use Rattle.zk_conn.specs.Removals.{IsTree}
+use Rattle.zk_conn.specs.Removals.{IsIndexOf}
 use Rattle.zk_conn.specs.Segment.{ranked}
 use Rattle.zk_conn.specs.Told.{Told}
 use Rattle.zk_conn.specs.contracts.key.RankedOrd.TheImpl as ranked_ord
@@ -82,7 +82,7 @@ pub record Matches {K : Type 0} (find : K → Option ℕ) (at : ℕ → Option K
 pub record IsTable (conns : Conns) : Type 0 where
   pub keys : Matches (slot_in conns.keys) (key_at conns.slots)
   pub numbers : Matches (tree.get nat_cmp conns.numbers) (number_at conns.slots)
-  pub tree : IsTree conns.slots conns.firsts.items
+  pub index : IsIndexOf conns.slots conns.removals
 
 -- the tables differ in the instance of one slot, which keeps its key and its number
 pub record Changes (old new : Conns) (slot : ℕ) (was is : Instance) : Type 0 where
@@ -94,7 +94,7 @@ pub record Changes (old new : Conns) (slot : ℕ) (was is : Instance) : Type 0 w
   pub numbers_are : (number : ℕ) → tree.get nat_cmp new.numbers number ≡ tree.get nat_cmp old.numbers number
   pub begun_is : new.begun ≡ old.begun
   pub recent_is : new.recent ≡ old.recent
-  pub tree : IsTree old.slots old.firsts.items → IsTree new.slots new.firsts.items
+  pub index : IsIndexOf old.slots old.removals → IsIndexOf new.slots new.removals
 
 -- the instances know the same
 pub record SameFacts (was is : Instance) : Type 0 where
@@ -136,7 +136,7 @@ pub record SameTable (old new : Conns) : Type 0 where
   pub keys_are : (key : Key) → slot_in new.keys key ≡ slot_in old.keys key
   pub numbers_are : (number : ℕ) → tree.get nat_cmp new.numbers number ≡ tree.get nat_cmp old.numbers number
   pub begun_is : new.begun ≡ old.begun
-  pub tree : IsTree old.slots old.firsts.items → IsTree new.slots new.firsts.items
+  pub index : IsIndexOf old.slots old.removals → IsIndexOf new.slots new.removals
 
 -- the new table has one instance more
 pub record Inserts (old new : Conns) (instance : Instance) : Type 0 where
@@ -149,7 +149,7 @@ pub record Inserts (old new : Conns) (instance : Instance) : Type 0 where
   pub number_found : tree.get nat_cmp new.numbers instance.number ≡ Some slot
   pub other_numbers : (other : ℕ) → is_eq (nat_cmp instance.number other) ≡ false → tree.get nat_cmp new.numbers other ≡ tree.get nat_cmp old.numbers other
   pub begun_is : new.begun ≡ old.begun
-  pub tree : IsTree old.slots old.firsts.items → IsTree new.slots new.firsts.items
+  pub index : IsIndexOf old.slots old.removals → IsIndexOf new.slots new.removals
 
 -- the new table lacks the instance of a slot
 pub record Removes (old new : Conns) (slot : ℕ) (was : Instance) : Type 0 where
@@ -160,7 +160,7 @@ pub record Removes (old new : Conns) (slot : ℕ) (was : Instance) : Type 0 wher
   pub number_gone : tree.get nat_cmp new.numbers was.number ≡ None
   pub other_numbers : (other : ℕ) → is_eq (nat_cmp was.number other) ≡ false → tree.get nat_cmp new.numbers other ≡ tree.get nat_cmp old.numbers other
   pub begun_is : new.begun ≡ old.begun
-  pub tree : IsTree old.slots old.firsts.items → IsTree new.slots new.firsts.items
+  pub index : IsIndexOf old.slots old.removals → IsIndexOf new.slots new.removals
 
 -- the slot that is filed first, where that is by a moment
 abbrev pub slot_by : Slab Instance → Moment → Option Filing → Option ℕ
@@ -168,7 +168,7 @@ slot_by slots t None = None
 slot_by slots t (Some first) = if int_le first.at.0 t.0 && is_some (get slots first.slot) then Some first.slot else None
 
 unfoldable pub first_by : Conns → Moment → Option ℕ
-first_by conns t = slot_by conns.slots t (slice_index_or conns.firsts.items 0 None)
+first_by conns t = slot_by conns.slots t (slice_index_or conns.removals.firsts.items 0 None)
 
 -- the instance is filed before its removal moment
 abbrev pub is_stale : Option Instance → Bool

@@ -1,4 +1,4 @@
-ghost use Rattle.std.specs.Prelude.{◌≡◌, ◌↔◌, ◌≤ℤ◌, ◌^◌, ◌≤◌, ◌++◌, ◌∷◌, [], ℕ, true, false, pos, length, IsTrue, IsSome, IfOk, OnOk, OnErr, IfSome, IfNone, List, Some};
+ghost use Rattle.std.specs.Prelude.{◌≡◌, ◌↔◌, ◌≤ℤ◌, ◌^◌, ◌<◌, ◌≤◌, ◌++◌, ◌∷◌, [], ℕ, true, false, pos, length, IsTrue, IsSome, IfOk, OnOk, OnErr, IfSome, IfNone, List, Some};
 ghost use Rattle.slab.specs.Slab.{ContainsKey, HasRoomFor, get};
 ghost use Rattle.std.specs.BTreeMap as tree;
 ghost use Rattle.std.specs.Ordering.{nat_cmp};
@@ -15,7 +15,7 @@ ghost use Rattle.zk_conn.specs.Told.{key_told, Told, Packet, Front, Reached, Rem
 use crate::facts::Facts;
 use crate::instance::Instance;
 use crate::key::{Key, Ranked};
-use crate::removals::{Filing, earlier, refile};
+use crate::removals::{Filing, Removals, earlier};
 use crate::view::L4View;
 use slab::Slab;
 use std::alloc::Global;
@@ -143,8 +143,7 @@ pub struct Conns {
     slots: Slab<Instance>,
     keys: BTreeMap<Ranked, usize>,
     numbers: BTreeMap<u64, usize>,
-    /// The index of removals, by slots.
-    firsts: Vec<Option<Filing>>,
+    removals: Removals,
     /// Slots of keys, at their keys' places. They save the walk through `keys`, and no more: one counts
     /// where the slot's instance has that very key.
     hints: Vec<Hints>,
@@ -158,7 +157,7 @@ pub struct Conns {
 impl Conns {
     ghost use Rattle.zk_conn.specs.Holds.{touched_between, facts_in};
     ghost use Rattle.zk_conn.specs.Instance.{Opening, opening, originator, responder, end_of, is_reset, facts_of};
-    ghost use Rattle.zk_conn.specs.Removals.{removal_at};
+    ghost use Rattle.zk_conn.specs.Removals.{removal_at, HasPlace};
     ghost use Rattle.zk_conn.specs.State.{is_open};
     ghost use Rattle.zk_conn.specs.Table.{first_by, has_key, has_number, is_stale, slot_of, slot_numbered, IsLeast, IsTable, Files, Hastens, Tells, Inserts, SameTable, Removes};
 
@@ -170,7 +169,7 @@ impl Conns {
             slots: Slab::new(alloc),
             keys: BTreeMap::new(alloc),
             numbers: BTreeMap::new(alloc),
-            firsts: Vec::new(alloc),
+            removals: Removals::new(alloc),
             hints: Vec::new(alloc),
             recent: 0,
             begun: 0,
@@ -185,7 +184,7 @@ impl Conns {
             → (key : Key) × IsFirstDue told key due.1.0 due.0) }
     {
         let mut first = None;
-        for slot in 0..self.firsts.len() {
+        for slot in 0..self.removals.firsts.len() {
             first = earlier(first, self.removal(slot));
         }
         match first {
@@ -507,8 +506,9 @@ impl Conns {
             self.numbers.remove(&instance.number);
             return Err(Mem);
         }
+        let filing = instance.filing(slot);
         self.slots.insert_reserved(instance);
-        refile(&self.slots, &mut self.firsts, slot);
+        self.removals.file(slot, filing);
         self.recent = slot;
         Ok(())
     }
@@ -516,16 +516,13 @@ impl Conns {
     /// Makes room for one more instance in the slots and in the index.
     fn make_room(&mut self) -> Result<(), Mem>
         ensures room { OnOk result (HasRoomFor self.new.slots 1) }
-        ensures index { OnOk result (self.new.slots.capacity ≤ length self.new.firsts.items) }
+        ensures places { OnOk result ((slot : ℕ) → slot < self.new.slots.capacity → HasPlace self.new.removals slot) }
         ensures same { SameTable self.old self.new }
     {
         self.slots.reserve(1)?;
         let room = self.slots.capacity();
         make_places(&mut self.hints, room)?;
-        if self.firsts.len() < room {
-            self.firsts.resize(room, None)?;
-        }
-        Ok(())
+        self.removals.make_room(room)
     }
 
     /// Takes an instance out of the table.
@@ -538,7 +535,7 @@ impl Conns {
         let instance = self.slots.remove(slot);
         self.keys.remove(&Ranked::of(&instance.key));
         self.numbers.remove(&instance.number);
-        refile(&self.slots, &mut self.firsts, slot);
+        self.removals.forget(slot);
         Removed {
             conn: ConnNo(instance.number),
             at,
@@ -553,7 +550,8 @@ impl Conns {
     {
         let instance = &mut self.slots[slot];
         instance.filed = instance.removal();
-        refile(&self.slots, &mut self.firsts, slot);
+        let filing = instance.filing(slot);
+        self.removals.file(slot, filing);
     }
 
     /// Files an instance anew where its removal moment has come nearer.
@@ -573,10 +571,8 @@ impl Conns {
         ensures slot { result ≡ first_by self.now t }
         ensures there { IfSome result (ContainsKey self.now.slots) }
     {
-        match self.firsts.first() {
-            Some(Some(first)) if first.at <= t && self.slots.contains(first.slot) => {
-                Some(first.slot)
-            }
+        match self.removals.first() {
+            Some(first) if first.at <= t && self.slots.contains(first.slot) => Some(first.slot),
             _ => None,
         }
     }

@@ -10,6 +10,7 @@ use crate::facts::{ConnState, Facts};
 use crate::half::{Half, StreamEnd, SynSent, tcp_state, udp_state};
 use crate::history::History;
 use crate::key::{Endpoint, Key};
+use crate::removals::Filing;
 use crate::view::L4View;
 use zk_base::{ConnNo, Moment, Proto, Side};
 use zk_l4::flags::{ACK, SYN};
@@ -46,6 +47,7 @@ pub struct Instance {
 
 impl Instance {
     ghost use Rattle.zk_conn.specs.Holds.{Follows, Has, facts_in, removal_of, touched_between, end_in};
+    ghost use Rattle.zk_conn.specs.Removals.{filing_of};
 
     /// A connection that begins with a packet, before the packet is counted.
     pub fn before(number: u64, t: Moment, p: &L4View) -> Instance
@@ -101,6 +103,17 @@ impl Instance {
     {
         let wait = wait(self.key.proto, self.orig.end, self.resp.end);
         Moment(self.last.0.saturating_add(wait))
+    }
+
+    /// Where the index of removals has it, in a slot.
+    pub fn filing(&self, slot: usize) -> Filing
+        ensures { result ≡ filing_of slot self.now }
+    {
+        Filing {
+            at: self.filed,
+            number: self.number,
+            slot,
+        }
     }
 
     /// Counts a packet, which begins the instance or not, and says what it did.

@@ -54,7 +54,7 @@ pub enum Start {
 pub enum Reason {
     /// 65,536 bytes hold no whole head.
     HeadTooLong = 1,
-    /// The head is not of the grammar of RFC 9112.
+    /// It is no head by the grammar that is read (RFC 9112, sections 2 to 5, and what `httparse` takes beside it).
     HeadBad = 2,
     /// The head has more than 100 header lines.
     TooManyHeaders = 3,

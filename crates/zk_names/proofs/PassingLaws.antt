@@ -1,5 +1,5 @@
 -- Where those of a list stand that pass.
-use Rattle.std.proofs.Common.{◌≡◌, ℕ, zero, suc, ◌+◌, ◌<◌, Bool, true, false, List, [], ◌∷◌, ◌++◌, length, get_or, take, map, filter, Option, Some, None, slice_get, refl, ap, sym, ◌∙◌, arith, append-nil, append_assoc, if◌then◌else◌}
+use Rattle.std.proofs.Common.{◌≡◌, ℕ, zero, suc, ◌+◌, ◌<◌, ◌≤◌, Bool, true, false, List, [], ◌∷◌, ◌++◌, length, get_or, take, map, filter, cond, Option, Some, None, slice_get, refl, ap, sym, ◌∙◌, arith, append-nil, append_assoc, if◌then◌else◌}
 use Rattle.std.proofs.lemmas.List.{map-append, take_more}
 use Rattle.std.specs.Option.{option_and_then, option_map}
 use Rattle.zk_names.specs.Indexing.{passing}
@@ -30,6 +30,22 @@ one_more_passing view q items at one within is =
     let e : take (at + 1) items ≡ take at items ++ one ∷ [] = take_more items at one within ∙ ap (λ y. take at items ++ y ∷ []) (sym is) in
     sym (ap (λ ys. passing q (map view ys)) e ∙ ap (passing q) (map-append view (take at items) (one ∷ [])) ∙ passing_push q (map view (take at items)) (view one) ∙
     ap (λ (n : ℕ). passing q (map view (take at items)) ++ (if q (view one) then n ∷ [] else [])) (taken view items at within))
+
+some_first : {V : Type 0} (b : Bool) (one : V) (all : List V) → b ≡ true → 1 ≤ length (cond b (one ∷ all) all)
+some_first true one all passes = omega arith
+some_first false one all passes = cc
+
+by_first : {V : Type 0} (b : Bool) (one : V) (some all : List V) → length some + 1 ≤ length all → length (cond b (one ∷ some) some) + 1 ≤ length (cond b (one ∷ all) all)
+by_first true one some all more = omega (arith, more)
+by_first false one some all more = more
+
+-- those that pass before one that passes are fewer than all that pass
+pub fewer_before : {A V : Type 0} (view : A → V) (q : V → Bool) (items : List A) (at : ℕ) (one : A) → at < length items → one ≡ get_or items at one → q (view one) ≡ true →
+    length (filter q (map view (take at items))) + 1 ≤ length (filter q (map view items))
+fewer_before view q [] at one within is passes = absurd (omega (arith, within))
+fewer_before view q (first ∷ others) zero one within is passes = some_first (q (view first)) (view first) (filter q (map view others)) (ap (λ x. q (view x)) (sym is) ∙ passes)
+fewer_before view q (first ∷ others) (suc at) one within is passes =
+    by_first (q (view first)) (view first) (filter q (map view (take at others))) (filter q (map view others)) (fewer_before view q others at one (omega (arith, within)) is passes)
 
 later_by : {A : Type 0} (one : A) (others : List A) (found : Option ℕ) → option_and_then (slice_get (one ∷ others)) (option_map suc found) ≡ option_and_then (slice_get others) found
 later_by one others None = refl

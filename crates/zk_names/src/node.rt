@@ -1,4 +1,4 @@
-ghost use Rattle.std.specs.Prelude.{◌≡◌, ◌+◌, ◌++◌, [], ◌∷◌, filter, flat_map, length, OnOk, IfOk, if◌then◌else◌};
+ghost use Rattle.std.specs.Prelude.{◌≡◌, ◌+◌, ◌≤◌, ◌^◌, ◌++◌, [], ◌∷◌, filter, flat_map, length, OnOk, OnErr, IfOk, if◌then◌else◌};
 ghost use Rattle.zk_tree.specs.declared.decl.Decl.{out-Decl};
 ghost use Rattle.zk_typed.specs.Within.{within};
 ghost use Rattle.zk_typed.specs.Names.{all_nodes, decl_nodes, is_record, node, type_nodes};
@@ -161,12 +161,16 @@ pub fn record_places(alloc: Global, nodes: &[Node<'_>]) -> Result<Vec<usize>, Me
 
 /// How many record types there are, with the predefined ones. More than numbers are more than memory holds.
 pub fn record_count(nodes: &[Node<'_>]) -> Result<u32, Mem>
-    ensures { IfOk result (λ count. count ≡ 8 + length (filter is_record (nodes_lent nodes.now))) }
+    ensures count { IfOk result (λ count. count ≡ 8 + length (filter is_record (nodes_lent nodes.now))) }
+    ensures err { OnErr result (2 ^ 32 ≤ 8 + length (filter is_record (nodes_lent nodes.now))) }
 {
     let mut count = RECORDS;
     for node in nodes {
         if node.is_record() {
-            count = count.checked_add(1).ok_or(Mem)?;
+            let Some(more) = count.checked_add(1) else {
+                return Err(Mem);
+            };
+            count = more;
         }
     }
     Ok(count)

@@ -1,4 +1,4 @@
-ghost use Rattle.std.specs.Prelude.{◌≡◌, ◌++◌, ℕ, List, filter, IfOk, OnOk};
+ghost use Rattle.std.specs.Prelude.{◌≡◌, ◌≤◌, ◌^◌, ◌++◌, ℕ, List, filter, IfOk, OnOk, OnErr};
 ghost use Rattle.std.specs.Str.{bytes_eq};
 ghost use Rattle.zk_typed.specs.Names.{Declared as DeclaredName, Node as TypeNode, count_before, enum_number, record_number};
 ghost use Rattle.zk_names.specs.Kinds.{is_of};
@@ -133,19 +133,25 @@ impl Numbers {
 
     /// The number of the record type whose text begins at a place.
     pub fn record_number(&self, file: usize, place: u64) -> Result<u32, Mem>
-        ensures { IfOk result (λ number. (nodes : List TypeNode) (names : List DeclaredName) → IsNumbered self.now nodes names → number ≡ record_number nodes file place) }
+        ensures number { IfOk result (λ number. (nodes : List TypeNode) (names : List DeclaredName) → IsNumbered self.now nodes names → number ≡ record_number nodes file place) }
+        ensures err { OnErr result ((nodes : List TypeNode) (names : List DeclaredName) → IsNumbered self.now nodes names → 2 ^ 32 ≤ record_number nodes file place) }
     {
         let among = self.records.number(&(file, place));
-        let number = among.checked_add(RECORDS).ok_or(Mem)?;
-        Ok(number)
+        match among.checked_add(RECORDS) {
+            Some(number) => Ok(number),
+            None => Err(Mem),
+        }
     }
 
     /// The number of the enum whose text begins at a place.
     pub fn enum_number(&self, file: usize, place: u64) -> Result<u32, Mem>
-        ensures { IfOk result (λ number. (nodes : List TypeNode) (names : List DeclaredName) → IsNumbered self.now nodes names → number ≡ enum_number nodes file place) }
+        ensures number { IfOk result (λ number. (nodes : List TypeNode) (names : List DeclaredName) → IsNumbered self.now nodes names → number ≡ enum_number nodes file place) }
+        ensures err { OnErr result ((nodes : List TypeNode) (names : List DeclaredName) → IsNumbered self.now nodes names → 2 ^ 32 ≤ enum_number nodes file place) }
     {
         let among = self.enums.number(&(file, place));
-        let number = among.checked_add(ENUMS).ok_or(Mem)?;
-        Ok(number)
+        match among.checked_add(ENUMS) {
+            Some(number) => Ok(number),
+            None => Err(Mem),
+        }
     }
 }

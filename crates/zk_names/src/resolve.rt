@@ -1,4 +1,4 @@
-ghost use Rattle.std.specs.Prelude.{◌≡◌, slice_get, IfOk};
+ghost use Rattle.std.specs.Prelude.{◌≡◌, ◌≤◌, ◌^◌, slice_get, IfOk, OnErr};
 ghost use Rattle.std.specs.Option.{option_map};
 ghost use Rattle.zk_typed.specs.Names.{enum_number, find_whole, look_up, record_number};
 ghost use Rattle.zk_typed.specs.Resolving as spec;
@@ -141,18 +141,24 @@ impl<'a> Names<'a> {
 
     /// The number of the record type whose text begins at a place.
     pub fn record_number(&self, file: usize, place: u64) -> Result<u32, Mem>
-        ensures { IfOk result (λ number. number ≡ record_number (scripts_in self.now).nodes file place) }
+        ensures number { IfOk result (λ number. number ≡ record_number (scripts_in self.now).nodes file place) }
+        ensures err { OnErr result (2 ^ 32 ≤ record_number (scripts_in self.now).nodes file place) }
     {
-        let number = self.numbers.record_number(file, place)?;
-        Ok(number)
+        match self.numbers.record_number(file, place) {
+            Ok(number) => Ok(number),
+            Err(refused) => Err(refused),
+        }
     }
 
     /// The number of the enum whose text begins at a place.
     pub fn enum_number(&self, file: usize, place: u64) -> Result<u32, Mem>
-        ensures { IfOk result (λ number. number ≡ enum_number (scripts_in self.now).nodes file place) }
+        ensures number { IfOk result (λ number. number ≡ enum_number (scripts_in self.now).nodes file place) }
+        ensures err { OnErr result (2 ^ 32 ≤ enum_number (scripts_in self.now).nodes file place) }
     {
-        let number = self.numbers.enum_number(file, place)?;
-        Ok(number)
+        match self.numbers.enum_number(file, place) {
+            Ok(number) => Ok(number),
+            Err(refused) => Err(refused),
+        }
     }
 
     /// Whether a name leads to a declared type of a whole name, by way of the names that types mention.

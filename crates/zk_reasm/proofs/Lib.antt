@@ -1,5 +1,6 @@
 pub mod AckLemmas
 pub mod AdvanceLemmas
+pub mod ScatteredLemmas
 pub mod ApartLemmas
 pub mod ContentLemmas
 pub mod CutLemmas

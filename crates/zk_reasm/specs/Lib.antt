@@ -1,4 +1,5 @@
 pub mod Apart
+pub mod Scattered
 pub mod Between
 pub mod Direction
 pub mod Gaps

@@ -1,45 +1,35 @@
 ghost use Rattle.std.specs.Prelude.{◌≡◌, ℕ, ◌+◌, ◌-◌, ◌<◌, ◌≤◌, true, ◌++◌, length, None, IsSome, MatchOption, IfOk, OnOk, OnErr};
 ghost use Rattle.std.specs.Option.{option_or};
-ghost use Rattle.std.specs.VecDeque.{deque_len};
+ghost use Rattle.zk_reasm.specs.declared.place.TheConstants.{PLACES};
 ghost use Rattle.zk_reasm.specs.Between.{held_between, bytes_between};
-ghost use Rattle.zk_reasm.specs.Pages.{byte_paged};
 ghost use Rattle.zk_reasm.specs.Piece.{byte_in};
 ghost use Rattle.zk_base.specs.ByteQueue.{bytes_of, room_of};
 
-use crate::pages::Pages;
 use crate::piece::Piece;
 use crate::place::PLACES;
-use crate::stretch::Stretch;
+use crate::scattered::Scattered;
 use std::alloc::Global;
 use zk_base::{ByteQueue, Mem};
 
-/// Bytes by their places, with holes between them. What came last lies in one stretch, so that bytes
-/// that follow one another, upward or downward, cost no more than those of a run; what lies elsewhere
-/// is on pages.
+/// The bytes that lie apart from a run. Most streams never have one, so their table is made with the
+/// first, in a box.
 #[derive(Debug, Drop)]
 pub struct Apart {
-    pages: Pages,
-    last: Stretch,
-    /// Where the piece began that came to the pages last, and where it ended.
-    start: u64,
-    end: u64,
-    ghost once: { (at : ℕ) → last.at ≤ at → at < last.at + deque_len last.bytes → byte_paged pages at ≡ None },
+    alloc: Global,
+    scattered: Option<Box<Scattered>>,
 }
 
 #[tactic(auto, unfolding(crate::specs::Apart::byte_apart))]
 impl Apart {
     ghost use Rattle.zk_reasm.specs.Apart.{byte_apart};
-    ghost use Rattle.zk_reasm.specs.Stretch.{byte_in_stretch, MayExtend};
 
     /// No bytes. No memory is taken.
     pub fn new(alloc: Global) -> Apart
         ensures { (at : ℕ) → byte_apart result at ≡ None }
     {
         Apart {
-            pages: Pages::new(alloc),
-            last: Stretch::new(alloc),
-            start: 0,
-            end: 0,
+            alloc,
+            scattered: None,
         }
     }
 
@@ -47,7 +37,10 @@ impl Apart {
     pub fn is_empty(&self) -> bool
         ensures { result ≡ true → (at : ℕ) → byte_apart self.now at ≡ None }
     {
-        self.last.is_empty() && self.pages.is_empty()
+        match &self.scattered {
+            Some(scattered) => scattered.is_empty(),
+            None => true,
+        }
     }
 
     /// Puts bytes where nothing is yet. The answer is how many were put. At `Mem` the bytes stay.
@@ -57,74 +50,13 @@ impl Apart {
         ensures count { IfOk result (λ count. count + held_between (byte_apart self.old) piece.now.at (piece.now.at + length piece.now.bytes.now) ≡ length piece.now.bytes.now) }
         ensures err { OnErr result ((at : ℕ) → byte_apart self.new at ≡ byte_apart self.old at) }
     {
-        if piece.bytes.is_empty() {
-            return Ok(0);
+        if let Some(scattered) = &mut self.scattered {
+            return scattered.put(piece);
         }
-        if self.is_next(piece) && self.pages.is_free(piece.at, piece.end()) {
-            self.extend(piece)?;
-            return Ok(piece.bytes.len());
-        }
-        self.put_on_pages(piece)
-    }
-
-    /// Whether a piece stands right behind what came last or right before it.
-    fn is_next(&self, piece: &Piece<'_>) -> bool
-        requires { piece.now.at + length piece.now.bytes.now ≤ PLACES }
-        ensures { result ≡ true → MayExtend self.now.last piece.now.at (length piece.now.bytes.now) }
-    {
-        if self.last.is_empty() {
-            return self.pages.is_empty() || piece.at == self.end || piece.end() == self.start;
-        }
-        piece.at == self.last.end() || piece.end() == self.last.start()
-    }
-
-    /// Adds a piece to the stretch, where no page has a byte.
-    fn extend(&mut self, piece: &Piece<'_>) -> Result<(), Mem>
-        requires within { piece.now.at + length piece.now.bytes.now ≤ PLACES }
-        requires next { MayExtend self.old.last piece.now.at (length piece.now.bytes.now) }
-        requires free { (at : ℕ) → piece.now.at ≤ at → at < piece.now.at + length piece.now.bytes.now → byte_paged self.old.pages at ≡ None }
-        ensures bytes { OnOk result ((at : ℕ) → byte_apart self.new at ≡ option_or (byte_apart self.old at) (byte_in piece.now.at piece.now.bytes.now at)) }
-        ensures err { OnErr result ((at : ℕ) → byte_apart self.new at ≡ byte_apart self.old at) }
-    {
-        if self.last.is_empty() {
-            self.last.restart(piece.at);
-            self.last.add_behind(piece.bytes)
-        } else if piece.at == self.last.end() {
-            self.last.add_behind(piece.bytes)
-        } else {
-            self.last.add_before(piece.bytes)
-        }
-    }
-
-    /// Puts a piece on the pages, where nothing is yet. What came before it goes there too.
-    fn put_on_pages(&mut self, piece: &Piece<'_>) -> Result<usize, Mem>
-        requires { piece.now.at + length piece.now.bytes.now ≤ PLACES }
-        ensures bytes { OnOk result ((at : ℕ) → byte_apart self.new at ≡ option_or (byte_apart self.old at) (byte_in piece.now.at piece.now.bytes.now at)) }
-        ensures count { IfOk result (λ count. count + held_between (byte_apart self.old) piece.now.at (piece.now.at + length piece.now.bytes.now) ≡ length piece.now.bytes.now) }
-        ensures err { OnErr result ((at : ℕ) → byte_apart self.new at ≡ byte_apart self.old at) }
-    {
-        self.empty_stretch()?;
-        let count = self.pages.put(piece.at, piece.bytes)?;
-        self.start = piece.at;
-        self.end = piece.end();
+        let mut scattered = Box::new(self.alloc, Scattered::new(self.alloc))?;
+        let count = scattered.put(piece)?;
+        self.scattered = Some(scattered);
         Ok(count)
-    }
-
-    /// Moves the stretch to the pages. The bytes stay, at `Mem` too.
-    fn empty_stretch(&mut self) -> Result<(), Mem>
-        ensures bytes { (at : ℕ) → byte_apart self.new at ≡ byte_apart self.old at }
-        ensures empty { OnOk result ((at : ℕ) → byte_in_stretch self.new.last at ≡ None) }
-    {
-        if self.last.is_empty() {
-            return Ok(());
-        }
-        let start = self.last.start();
-        self.pages.make_room(start, self.last.end())?;
-        let (front, back) = self.last.slices();
-        self.pages.fill(start, front);
-        self.pages.fill(start + front.len() as u64, back);
-        self.last.restart(0);
-        Ok(())
     }
 
     /// The first place from `from` on without a byte.
@@ -135,12 +67,10 @@ impl Apart {
         ensures before { (at : ℕ) → from ≤ at → at < result → IsSome (byte_apart self.now at) }
         ensures free { byte_apart self.now result ≡ None }
     {
-        let place = self.pages.first_free(from);
-        let end = self.last.end();
-        if place < self.last.start() || end <= place {
-            return place;
+        match &self.scattered {
+            Some(scattered) => scattered.first_free(from),
+            None => from,
         }
-        self.pages.first_free(end)
     }
 
     /// The first place from `from` on with a byte.
@@ -150,14 +80,9 @@ impl Apart {
             (from ≤ found) × (found < PLACES) × IsSome (byte_apart self.now found)
             × ((at : ℕ) → from ≤ at → at < found → byte_apart self.now at ≡ None)) }
     {
-        let held = self.pages.first_held(from);
-        let start = from.max(self.last.start());
-        if self.last.end() <= start {
-            return held;
-        }
-        match held {
-            Some(place) => Some(place.min(start)),
-            None => Some(start),
+        match &self.scattered {
+            Some(scattered) => scattered.first_held(from),
+            None => None,
         }
     }
 
@@ -166,10 +91,10 @@ impl Apart {
         requires { to ≤ PLACES }
         ensures { result ≡ held_between (byte_apart self.now) from to }
     {
-        if to <= from {
-            return 0;
+        match &self.scattered {
+            Some(scattered) => scattered.count(from, to),
+            None => 0,
         }
-        self.pages.count(from, to) + self.last.count(from, to)
     }
 
     /// Moves bytes to a run, from a place on up to the first place without a byte or to `to`. The
@@ -186,15 +111,10 @@ impl Apart {
         ensures behind { (at : ℕ) → result ≤ at → byte_apart self.new at ≡ byte_apart self.old at }
         ensures stop { result < to → byte_apart self.old result ≡ None }
     {
-        if from == to {
-            return from;
+        match &mut self.scattered {
+            Some(scattered) => scattered.move_run(from, to, run),
+            None => from,
         }
-        let place = self.pages.move_run(from, to, run);
-        let end = self.last.move_run(place, to, run);
-        if end == place {
-            return place;
-        }
-        self.pages.move_run(end, to, run)
     }
 
     /// Drops the bytes from a place on.
@@ -203,7 +123,8 @@ impl Apart {
         ensures below { (at : ℕ) → at < from → byte_apart self.new at ≡ byte_apart self.old at }
         ensures above { (at : ℕ) → from ≤ at → byte_apart self.new at ≡ None }
     {
-        self.pages.cut(from);
-        self.last.cut(from);
+        if let Some(scattered) = &mut self.scattered {
+            scattered.cut(from);
+        }
     }
 }

@@ -8,6 +8,7 @@ mod page;
 mod pages;
 mod piece;
 mod place;
+mod scattered;
 mod stream;
 mod stretch;
 

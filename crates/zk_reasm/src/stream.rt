@@ -38,15 +38,15 @@ pub enum Put {
 #[derive(Debug, Drop)]
 pub struct Stream {
     base: u32,
-    limit: u64,
+    /// It was stopped, has ended or gave up.
+    is_over: bool,
+    /// The FIN's place.
+    fin: Option<u32>,
     /// The greatest place that the peer acknowledged.
     acked: u64,
     /// One past the greatest place of a payload byte.
     payload_end: u64,
-    /// The FIN's place.
-    fin: Option<u32>,
-    /// It was stopped, has ended or gave up.
-    is_over: bool,
+    limit: u64,
     held: Held,
     ghost acked_within: { acked ≤ PLACES },
     ghost settled: { IsSettled held },

@@ -155,11 +155,11 @@ TypedFieldsAgree = (files : List File) (program : Program) → TypedProgram file
 abbrev pub TypedFieldsBegin : Type 0
 TypedFieldsBegin = (files : List File) (program : Program) → TypedProgram files program → (number : RecordNo) → AllByRecursion FieldBegins (record_fields program number)
 
--- Where a typed program says what its scripts say, no body of it stops for a type: it is one that fits.
+-- Where a typed program says what its scripts say, it is one that fits.
 abbrev pub TypedProgramsFit : Type 0
 TypedProgramsFit = (files : List File) (program : Program) → TypedProgram files program → SaysItsScripts program (scripts_of files) → ProgramFits program
 
--- So each of its bodies keeps the types of the world, as does its whole run: no operation meets a value of another type.
+-- So each of its bodies keeps the types of the world, however it ends, as does its whole run.
 abbrev pub TypedHandlersKeepTypes : Type 0
 TypedHandlersKeepTypes = (files : List File) (program : Program) (kinds : Kinds) (budget : ℕ) (world : World) (what : Queued) → TypedProgram files program →
     SaysItsScripts program (scripts_of files) → WorldFits program kinds world → QueuedFits program kinds what → Stopped program kinds (dispatch program budget world what)

@@ -71,8 +71,8 @@ pub fn typed_bodies_fit()
     ensures programs { TypedProgramsFit }
 {}
 
-/// The bodies of the program of scripts that break no rule keep the types of the world, as does its whole run, where
-/// the program says what its scripts say: none of them stops for a type. There is nothing to run.
+/// The bodies of the program of scripts that break no rule keep the types of the world, however they end, as does its
+/// whole run, where the program says what its scripts say. There is nothing to run.
 pub fn typed_programs_keep_types()
     ensures handlers { TypedHandlersKeepTypes }
     ensures runs { TypedRunsKeepTypes }

@@ -15,4 +15,4 @@ pub use escapes::escape_into;
 pub use front::Short;
 pub use integers::{COUNT_TEXT_MAX, INT_TEXT_MAX, count_text, int_text};
 pub use ports::{PORT_TEXT_MAX, port_text, proto_name};
-pub use times::{SPAN_TEXT_MAX, span_text};
+pub use times::{SPAN_TEXT_MAX, span_text, write_span};

@@ -1,6 +1,6 @@
-ghost use Rattle.std.specs.Prelude.{◌≡◌, ◌<◌, ◌≤◌, ◌↔◌, ◌++◌, ◌+◌, ◌^◌, drop, length, ℤ, FitsSigned, IfOk, IsErr, IsOk, OnErr, OnOk};
+ghost use Rattle.std.specs.Prelude.{◌≡◌, ◌<◌, ◌≤◌, ◌↔◌, ◌++◌, ◌+◌, ◌^◌, codes, drop, length, take, ℤ, FitsSigned, IfOk, IsErr, IsOk, OnErr, OnOk};
 ghost use Rattle.std.specs.Int.{w64};
-ghost use Rattle.zk_text.specs.Span.{seconds_decimal, span_decimal};
+ghost use Rattle.zk_text.specs.Span.{padded_decimal, seconds_decimal, span_decimal};
 
 use crate::Short;
 use crate::front::write_front;
@@ -10,12 +10,6 @@ use itoa::write_digits;
 pub const SPAN_TEXT_MAX: usize = 21;
 
 const MICROSECONDS_PER_SECOND: u64 = 1_000_000;
-
-/// The place of the point in a text that ends where `ZEROS` ends.
-const POINT: usize = 14;
-
-/// The digits of a text are written over these, so that the rest of a second is filled up with zeros.
-const ZEROS: [u8; SPAN_TEXT_MAX] = *b"00000000000000.000000";
 
 /// Writes a time or an interval of `n` microseconds as seconds with six decimals to the front of a
 /// buffer, with `-` before a negative one, and answers the length in bytes.
@@ -31,33 +25,54 @@ pub fn span_text(n: i64, out: &mut [u8]) -> Result<usize, Short>
     // The text tells the number: no other of 64 bits has the same one.
     ensures alone { (other : ℤ) → FitsSigned w64 other → span_decimal other ≡ span_decimal n → other ≡ n }
 {
-    let mut text = ZEROS;
-    let start = write_span(n, &mut text);
+    let mut text = [0; SPAN_TEXT_MAX];
+    let start = write_span(n, &mut text, SPAN_TEXT_MAX);
     write_front(&text[start..], out)
 }
 
-/// Writes the text over the zeros so that it ends where they end, and answers where it starts.
-fn write_span(n: i64, text: &mut [u8; SPAN_TEXT_MAX]) -> usize
-    requires { text.old ≡ ZEROS }
-    ensures within { result ≤ SPAN_TEXT_MAX }
-    ensures written { drop result text.new ≡ span_decimal n }
+/// Writes the text that `span_text` writes so that it ends at a place of a buffer before which the longest
+/// one has room, and answers where it starts. The rest of the buffer stays.
+pub fn write_span(n: i64, buf: &mut [u8], end: usize) -> usize
+    requires room { SPAN_TEXT_MAX ≤ end }
+    requires within { end ≤ length buf.old }
+    ensures start { result + length (span_decimal n) ≡ end }
+    ensures written { drop result buf.new ≡ span_decimal n ++ drop end buf.old }
+    ensures before { take result buf.new ≡ take result buf.old }
+    ensures bound { length (span_decimal n) ≤ SPAN_TEXT_MAX }
 {
-    let start = write_seconds(n.unsigned_abs(), text);
+    let start = write_seconds(n.unsigned_abs(), buf, end);
     if n >= 0 {
         return start;
     }
-    text[start - 1] = b'-';
+    buf[start - 1] = b'-';
     start - 1
 }
 
 /// Writes the text of a number without its sign in the same way, and leaves room for the sign.
-fn write_seconds(size: u64, text: &mut [u8; SPAN_TEXT_MAX]) -> usize
+fn write_seconds(size: u64, buf: &mut [u8], end: usize) -> usize
     requires range { size ≤ 2 ^ 63 }
-    requires zeros { text.old ≡ ZEROS }
-    ensures room { 0 < result }
-    ensures within { result ≤ SPAN_TEXT_MAX }
-    ensures written { drop result text.new ≡ seconds_decimal size }
+    requires room { SPAN_TEXT_MAX ≤ end }
+    requires within { end ≤ length buf.old }
+    ensures start { result + length (seconds_decimal size) ≡ end }
+    ensures written { drop result buf.new ≡ seconds_decimal size ++ drop end buf.old }
+    ensures before { take result buf.new ≡ take result buf.old }
+    ensures short { length (seconds_decimal size) < SPAN_TEXT_MAX }
 {
-    write_digits(size % MICROSECONDS_PER_SECOND, text, SPAN_TEXT_MAX);
-    write_digits(size / MICROSECONDS_PER_SECOND, text, POINT)
+    let point = write_rest(size % MICROSECONDS_PER_SECOND, buf, end);
+    write_digits(size / MICROSECONDS_PER_SECOND, buf, point)
+}
+
+/// Writes the point and the six digits of the rest of a second. A whole second is added to the rest, so
+/// that its zeros are written: the point takes the place of that second's digit.
+fn write_rest(rest: u64, buf: &mut [u8], end: usize) -> usize
+    requires rest { rest < MICROSECONDS_PER_SECOND }
+    requires room { 7 ≤ end }
+    requires within { end ≤ length buf.old }
+    ensures start { result + 7 ≡ end }
+    ensures written { drop result buf.new ≡ (codes "." ++ padded_decimal 6 rest) ++ drop end buf.old }
+    ensures before { take result buf.new ≡ take result buf.old }
+{
+    let point = write_digits(MICROSECONDS_PER_SECOND + rest, buf, end);
+    buf[point] = b'.';
+    point
 }

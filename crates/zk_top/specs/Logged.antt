@@ -11,7 +11,7 @@ use Rattle.zk_value.specs.declared.cell.Cell.{Cell}
 use Rattle.zk_value.specs.declared.cell.Cell.TheVariants as cell
 use Rattle.zk_value.specs.declared.cell.Column.{Column}
 
--- The lines `#open` and `#close` have the dates from 1970 to 9999: a moment without one is shown as the nearest that has one.
+-- The lines `#open` and `#close` have the moments from 1970 to 22:00 on December 30 of 9999: any other is shown as the nearest of them.
 -- No record of a capture has such a moment.
 abbrev pub dated : Moment → Moment
 dated at =

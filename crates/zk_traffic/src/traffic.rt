@@ -1,4 +1,4 @@
-ghost use Rattle.std.specs.Prelude.{◌≡◌, ◌≤ℤ◌, ◌≤◌, ◌<◌, ◌*◌, ◌+◌, ◌-◌, ◌^◌, ℕ, Bool, true, false, pos, length, slice_get, Option, Some, None, Err, List, [], ◌∷◌, ◌++◌, IfOk, OnOk, OnErr, IfSome, IfNone};
+ghost use Rattle.std.specs.Prelude.{◌≡◌, ◌≤ℤ◌, ◌≤◌, ◌<◌, ◌*◌, ◌+◌, ◌-◌, ◌^◌, ℕ, Bool, true, false, pos, length, slice_get, Option, Some, None, Err, List, [], ◌∷◌, ◌++◌, IfOk, IsOk, OnOk, OnErr, IfSome, IfNone};
 ghost use Rattle.std.specs.Option.{option_map};
 ghost use Rattle.zk_link_ip.specs.Views.{packet};
 ghost use Rattle.zk_pcap.specs.NetworkTime.{later};
@@ -57,13 +57,13 @@ pub fn items_are_own()
 /// At each record stand, in order: the removals that are due by its network time, each at its own
 /// moment, by moment and then by number; the packet, where that is asked for; that a connection
 /// began, and that it is established; the gaps of the sender's stream by place, and those of the
-/// receiver's; that the sender's end is closed by a FIN, and the receiver's; that the sender's
-/// stream gave up; that the connection was reset. At the end what is still live is removed in order
-/// of number, at the last network time.
+/// receiver's; the units that the streams free, or that a datagram is; that the sender's end is closed
+/// by a FIN, and the receiver's; that the sender's stream gave up; that the connection was reset. At
+/// the end what is still live is removed in order of number, at the last network time.
 ///
 /// A packet is ignored, but still seen, where it has no IPv4 header or no TCP or UDP header that is
-/// well-formed, or where checksums are judged and one of it is wrong; that of TCP or UDP isn't
-/// judged where bytes of the packet were not captured.
+/// well-formed, or where checksums are judged and one of it is wrong; that of TCP isn't judged where
+/// bytes of the segment were not captured, nor that of UDP where bytes of the datagram weren't.
 #[derive(Debug, Drop)]
 pub struct Traffic {
     options: Options,
@@ -88,9 +88,10 @@ impl Traffic {
     ghost use Rattle.zk_traffic.specs.Standing.{HasFailed, StandsFor, waiting};
     ghost use Rattle.zk_traffic.specs.Taking.{HasTaken, IsReady};
 
-    /// A capture of this link type, before its first packet.
+    /// A capture of this link type, before its first packet. No memory is taken.
     pub fn new(alloc: Global, options: Options, link: u16) -> Result<Traffic, Mem>
-        ensures { IfOk result (λ traffic. StandsFor traffic options link [] [] false) }
+        ensures succeeds { IsOk result }
+        ensures stands { IfOk result (λ traffic. StandsFor traffic options link [] [] false) }
     {
         Ok(Traffic {
             options,

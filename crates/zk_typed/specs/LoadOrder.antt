@@ -92,7 +92,7 @@ walk_to zero files file exported found = found
 walk_to (suc depth) files file exported found =
     fold (one_line (walk_to depth files) files file) found (lines exported (decls_of file files))
 
--- the files one by one that no other one loads
+-- the files one by one that have no place yet
 abbrev pub roots : Walk → ℕ → Found → List File → Found
 roots walk number found [] = found
 roots walk number found (file ∷ others) = elim (is_in number found.placed) [

@@ -6,4 +6,4 @@ use Rattle.zk_names.proofs.fields.all_own.Goals as goal
 
 pub returns : goal.returns
 returns c =
-    hold_own (scripts_in c.args.names.now) c.in_ok-all.all.items c.in_ok-count.count (c.in_ok-count.ensures ∙ ap (λ (x : List Node). 8 + length (filter is_record x)) c.nodes.ensures) c.in_ok-all.ensures.0 c.in_ok-all.ensures.1
+    hold_own (scripts_in c.args.names.now) c.in_ok-all.all.items c.in_ok-count.count (c.in_ok-count.ensures.count ∙ ap (λ (x : List Node). 8 + length (filter is_record x)) c.nodes.ensures) c.in_ok-all.ensures.0 c.in_ok-all.ensures.1

@@ -32,7 +32,7 @@ formed-returns-in_ok-number-in-Record t c =
     let home = home_of c.args.home in
     let check = type_to c.args.depth scripts in
     ap (formed check scripts home) c.in-Record.is ∙ record_formed check scripts home c.in-Record.place c.in-Record.fields ∙
-    ap (λ (n : ℕ). Ok (Record (record_no n))) (sym c.in_ok-number-in-Record.ensures) ∙ ap Ok (sym c.record_type.ensures)
+    ap (λ (n : ℕ). Ok (Record (record_no n))) (sym c.in_ok-number-in-Record.ensures.number) ∙ ap Ok (sym c.record_type.ensures)
 
 pub formed-returns-in_ok-number-in-Enum : goal.formed-returns-in_ok-number-in-Enum
 formed-returns-in_ok-number-in-Enum t c =
@@ -40,7 +40,7 @@ formed-returns-in_ok-number-in-Enum t c =
     let home = home_of c.args.home in
     let check = type_to c.args.depth scripts in
     ap (formed check scripts home) c.in-Enum.is ∙ enum_formed check scripts home c.in-Enum.place c.in-Enum.words c.in-Enum.comma ∙
-    ap (λ (n : ℕ). Ok (enum n)) (sym c.in_ok-number-in-Enum.ensures) ∙ ap Ok (sym c.enum_type.ensures)
+    ap (λ (n : ℕ). Ok (enum n)) (sym c.in_ok-number-in-Enum.ensures.number) ∙ ap Ok (sym c.enum_type.ensures)
 
 pub behind_names-returns-in-Some : goal.behind_names-returns-in-Some
 behind_names-returns-in-Some t c = λ text is.

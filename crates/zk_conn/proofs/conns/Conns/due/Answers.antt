@@ -12,11 +12,11 @@ loop-slot-preserved c =
 pub returns-in-Some-clause-first : goal.returns-in-Some-clause-first
 returns-in-Some-clause-first c = λ told stands.
     is_first c.args.self.now told c.in-Some.first stands
-    (subst (λ (o : Option Filing). IsEarliest c.args.self.now.slots (length c.args.self.now.firsts.items) o) c.in-Some.is
-    (subst (λ n. IsEarliest c.args.self.now.slots n c.loop-slot.first) (let all : c.loop-slot.slot ≡ length c.args.self.now.firsts.items = omega (arith, c.args.self.now.firsts.ok.0) in all) c.loop-slot.invariant))
+    (subst (λ (o : Option Filing). IsEarliest c.args.self.now.slots (length c.args.self.now.removals.firsts.items) o) c.in-Some.is
+    (subst (λ n. IsEarliest c.args.self.now.slots n c.loop-slot.first) (let all : c.loop-slot.slot ≡ length c.args.self.now.removals.firsts.items = omega (arith, c.args.self.now.removals.firsts.ok.0) in all) c.loop-slot.invariant))
 
 pub returns-in-None-clause-none : goal.returns-in-None-clause-none
 returns-in-None-clause-none c = λ told stands.
     none_first c.args.self.now told stands
-    (subst (λ (o : Option Filing). IsEarliest c.args.self.now.slots (length c.args.self.now.firsts.items) o) c.in-None.is
-    (subst (λ n. IsEarliest c.args.self.now.slots n c.loop-slot.first) (let all : c.loop-slot.slot ≡ length c.args.self.now.firsts.items = omega (arith, c.args.self.now.firsts.ok.0) in all) c.loop-slot.invariant))
+    (subst (λ (o : Option Filing). IsEarliest c.args.self.now.slots (length c.args.self.now.removals.firsts.items) o) c.in-None.is
+    (subst (λ n. IsEarliest c.args.self.now.slots n c.loop-slot.first) (let all : c.loop-slot.slot ≡ length c.args.self.now.removals.firsts.items = omega (arith, c.args.self.now.removals.firsts.ok.0) in all) c.loop-slot.invariant))

@@ -1,10 +1,10 @@
-use Rattle.std.proofs.Common.{sym, ap, ◌∙◌, arith}
+use Rattle.std.proofs.Common.{Some, sym, ap, ◌∙◌, arith}
 use Rattle.std.specs.BTreeMap as tree
 use Rattle.std.specs.Ordering.{is_eq}
 use Rattle.slab.specs.Slab.{get}
 use Rattle.zk_conn.specs.Segment.{ranked}
 use Rattle.zk_conn.specs.Table.{rank_cmp}
-use Rattle.zk_conn.proofs.TableLemmas.{tree_after, all_but_within, on_ok-not_err}
+use Rattle.zk_conn.proofs.TableLemmas.{index_filed, on_ok-not_err}
 use Rattle.zk_conn.proofs.conns.Conns.insert.Goals as goal
 
 pub returns-clause-ok : goal.returns-clause-ok
@@ -24,8 +24,10 @@ returns-clause-ok c =
       number_found = c.in_ok-insert.ensures.updates.1;
       other_numbers = λ other apart. c.in_ok-insert.ensures.updates.2 other apart ∙ c.make_room.ensures.same.numbers_are other;
       begun_is = c.make_room.ensures.same.begun_is;
-      tree = λ tree. tree_after c.insert_reserved.new.self mid.firsts c.deref_mut.result.now c.refile.new.firsts slot c.deref_mut.ensures.value (omega arith) c.refile.ensures
-          (all_but_within mid.slots c.insert_reserved.new.self mid.firsts.items slot
-          (omega (arith, at_slot, c.insert_reserved.ensures.key_in_range, c.insert_reserved.ensures.capacity, c.in_ok-make_room.ensures.index))
-          (λ other apart. c.insert_reserved.ensures.updates.others other (λ here. apart (here ∙ at_slot))) (c.make_room.ensures.same.tree tree));
+      index = λ index. index_filed mid.slots c.insert_reserved.new.self mid.removals c.file.new.self slot _
+          (ap (get c.insert_reserved.new.self) (sym at_slot) ∙ c.insert_reserved.ensures.updates.changed)
+          (λ other apart. c.insert_reserved.ensures.updates.others other (λ here. apart (here ∙ at_slot)))
+          c.file.ensures.index (λ place. c.file.ensures.filed place ∙ ap Some c.filing-filing.ensures) c.file.ensures.others
+          (λ _. c.in_ok-make_room.ensures.places slot (omega (arith, at_slot, c.insert_reserved.ensures.key_in_range, c.insert_reserved.ensures.capacity)))
+          (c.make_room.ensures.same.index index);
     }

@@ -1,19 +1,7 @@
-use Rattle.std.proofs.Common.{sym, arith}
-use Rattle.zk_reasm.specs.Apart.{byte_apart}
-use Rattle.zk_reasm.proofs.ApartLemmas.{held_apart}
-use Rattle.zk_reasm.proofs.RangeLemmas.{held_between-none, held_between-le}
+use Rattle.std.proofs.Common.{ap, sym}
+use Rattle.std.specs.Option.{option_map}
+use Rattle.zk_reasm.proofs.ApartLemmas.{none_held}
 use Rattle.zk_reasm.proofs.apart.Apart.count.Goals as goal
 
-pub returns-then-to-from : goal.returns-then-to-from
-returns-then-to-from c = sym (held_between-none (byte_apart c.args.self.now) c.args.from c.args.to (omega arith))
-
-pub overflow_add-result : goal.overflow_add-result
-overflow_add-result c =
-    let all = held_apart c.args.self.now c.args.from c.args.to in
-    let few = held_between-le (byte_apart c.args.self.now) c.args.from c.args.to in
-    omega (arith, all, few, c.count.ensures, c.count-2.ensures)
-
-pub returns : goal.returns
-returns c =
-    let all = held_apart c.args.self.now c.args.from c.args.to in
-    omega (arith, all, c.count.ensures, c.count-2.ensures)
+pub returns-in-None : goal.returns-in-None
+returns-in-None c = sym (none_held c.args.self.now c.args.from c.args.to (ap (option_map (λ boxed. boxed.value)) c.in-None.is))

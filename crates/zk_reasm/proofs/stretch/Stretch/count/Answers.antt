@@ -1,5 +1,5 @@
 use Rattle.std.proofs.Common.{arith}
-use Rattle.zk_reasm.proofs.ApartLemmas.{held_between-bytes}
+use Rattle.zk_reasm.proofs.ScatteredLemmas.{held_between-bytes}
 use Rattle.zk_reasm.proofs.stretch.Stretch.count.Goals as goal
 
 pub returns : goal.returns

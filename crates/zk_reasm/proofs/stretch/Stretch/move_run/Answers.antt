@@ -5,7 +5,7 @@ use Rattle.zk_reasm.specs.Between.{bytes_between}
 use Rattle.zk_reasm.specs.Piece.{byte_in}
 use Rattle.zk_reasm.specs.Stretch.{byte_in_stretch}
 use Rattle.zk_base.specs.ByteQueue.{bytes_of}
-use Rattle.zk_reasm.proofs.ApartLemmas.{byte_in-first, byte_in-rest}
+use Rattle.zk_reasm.proofs.ScatteredLemmas.{byte_in-first, byte_in-rest}
 use Rattle.zk_reasm.proofs.RangeLemmas.{held_at, held_between-split, held_between-first, held_between-full, bytes_between-none, bytes_between-more}
 use Rattle.zk_reasm.proofs.stretch.Stretch.move_run.Goals as goal
 

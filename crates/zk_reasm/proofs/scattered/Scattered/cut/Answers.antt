@@ -2,9 +2,9 @@ use Rattle.std.proofs.Common.{IsSome, sym, ap, ◌∙◌, ⊎_elim, arith}
 use Rattle.std.specs.Option.{is_some}
 use Rattle.std.proofs.lemmas.Bool.{cases_lt}
 use Rattle.zk_reasm.specs.Stretch.{byte_in_stretch}
-use Rattle.zk_reasm.proofs.ApartLemmas.{one_place}
+use Rattle.zk_reasm.proofs.ScatteredLemmas.{one_place}
 use Rattle.zk_reasm.proofs.PieceLemmas.{byte_in-within}
-use Rattle.zk_reasm.proofs.apart.Apart.cut.Goals as goal
+use Rattle.zk_reasm.proofs.scattered.Scattered.cut.Goals as goal
 
 pub invariant_of-self : goal.invariant_of-self
 invariant_of-self c = record {

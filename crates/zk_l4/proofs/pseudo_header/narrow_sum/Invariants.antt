@@ -1,0 +1,12 @@
+use Rattle.std.proofs.Common.{◌≡◌, ◌^◌, ◌*◌, ◌%◌, ◌≤◌, ◌+◌, length, sum}
+use Rattle.zk_base.specs.Checksum.{words}
+use Rattle.zk_l4.proofs.pseudo_header.narrow_sum.Given as goal
+
+-- what was added counts as its words of 16 bits
+abbrev pub invariant-loop-rest : goal.invariant-loop-rest
+invariant-loop-rest l =
+    ((256 * l.total + sum (words l.rest)) % 65535 ≡ sum (words l.bytes) % 65535)
+    × (l.total + 2 ^ 32 * length l.rest ≤ 2 ^ 32 * length l.bytes)
+
+abbrev pub decreases-loop-rest : goal.decreases-loop-rest
+decreases-loop-rest l = length l.rest

@@ -1,4 +1,4 @@
-ghost use Rattle.std.specs.Prelude.{◌≡◌, map};
+ghost use Rattle.std.specs.Prelude.{◌≡◌, ◌≤◌, ◌^◌, map, IfSome, IfNone};
 ghost use Rattle.zk_typed.specs.View.{record_of};
 ghost use Rattle.zk_lower.specs.Leaves.{leaves_in, leaves_of};
 
@@ -7,6 +7,14 @@ use crate::op::Op;
 use zk_base::{Bytes, EventNo, LogId, Sequence};
 use zk_tree::{Expiry, Place};
 use zk_typed::script::{Log, RecordType};
+
+/// The number of what stands at a place of a list: none past the numbers of 32 bits.
+pub fn number_at(index: usize) -> Option<u32>
+    ensures some { IfSome result (λ number. number ≡ index) }
+    ensures none { IfNone result (2 ^ 32 ≤ index) }
+{
+    u32::try_from(index).ok()
+}
 
 /// Where a body begins, and how many parameters and locals it has.
 #[derive(Clone, Copy, Debug)]

@@ -4,6 +4,7 @@ ghost use Rattle.zk_typed.specs.Columns as columns;
 ghost use Rattle.zk_typed.specs.View.{type_of, field_of, record_of};
 ghost use Rattle.zk_lower.specs.Leaves.{leaf_of, leaves_in, leaves_of, with_records};
 
+use crate::code::number_at;
 use std::alloc::{AllocError, Global};
 use zk_base::{Bytes, Mem, RecordNo};
 use zk_typed::script::{Field, Log, RecordType, SimpleType, ValueType};
@@ -184,7 +185,7 @@ fn leaves_to(
         return Ok(leaves);
     };
     for (place, field) in fields_in(records, number).iter().enumerate() {
-        let Ok(place) = u32::try_from(place) else {
+        let Some(place) = number_at(place) else {
             return Err(Mem);
         };
         add_field(alloc, records, within, place, field, &mut leaves)?;

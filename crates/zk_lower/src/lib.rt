@@ -15,7 +15,7 @@ mod tail;
 mod types;
 mod ways;
 
-pub use code::{BodyCode, Code, GlobalCode, HandlerCode};
+pub use code::{BodyCode, Code, GlobalCode, HandlerCode, number_at};
 pub use copies::{default_copy, literal_value};
 pub use laws::{code_ends, code_means, told_stays};
 pub use leaves::Leaf;

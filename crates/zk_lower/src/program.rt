@@ -7,7 +7,7 @@ ghost use Rattle.zk_lower.specs.Code as plain;
 ghost use Rattle.zk_lower.specs.Lowering.{expr_code, added_code, initial_code, initials_code, body_code, laid, placed, handler_ops, handler_found, function_ops, function_found, hook_body_ops, hook_body_found, hook_ops, hook_found, entry_of, globals_found, lowered};
 ghost use Rattle.zk_lower.specs.View as view;
 
-use crate::code::{BodyCode, Code, GlobalCode, HandlerCode};
+use crate::code::{BodyCode, Code, GlobalCode, HandlerCode, number_at};
 use crate::exprs::put_expr;
 use crate::leaves::leaves_of_logs;
 use crate::op::Op;
@@ -171,7 +171,7 @@ fn add_globals(
 {
     let mut list = Vec::new(alloc);
     for (index, global) in globals.iter().enumerate() {
-        let Ok(number) = u32::try_from(index) else {
+        let Some(number) = number_at(index) else {
             return Err(Mem);
         };
         let initial = add_initial(alloc, ops, number, global)?;

@@ -142,6 +142,7 @@ impl Heap {
         ensures err { OnErr result (self.new.objects ≡ self.old.objects) }
         ensures others { StaysWatchedBut (length self.old.objects) self.old.unwatched self.new.unwatched }
         ensures unwatched { OnOk result (is_watched self.new.unwatched (length self.old.objects) ≡ is_none table.expiry) }
+        ensures stays { OnErr result ((number : ℕ) → is_watched self.new.unwatched number ≡ is_watched self.old.unwatched number) }
     {
         let expires = table.expiry().is_some();
         let place = self.watched.objects.len();

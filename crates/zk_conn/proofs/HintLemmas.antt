@@ -1,5 +1,5 @@
 -- A slot that is found at a key's hint.
-use Rattle.std.proofs.Common.{◌≡◌, ℕ, Bool, true, cond, ◌&&◌, Option, None, Some, is_some, refl, sym, ap, ◌∙◌}
+use Rattle.std.proofs.Common.{◌≡◌, ℕ, Bool, true, cond, ◌&&◌, Option, None, Some, is_some, eqb, refl, sym, ap, ◌∙◌}
 use Rattle.std.specs.Option.{option_map}
 use Rattle.std.specs.Prelude.{Result, Ok, Err, IfOk, OnErr}
 use Rattle.std.proofs.lemmas.Bool.{false≢true}
@@ -12,12 +12,10 @@ use Rattle.zk_base.specs.contracts.network.AddrPartialEq.TheImpl as address_part
 use Rattle.zk_base.specs.contracts.network.ProtoPartialEq.TheImpl as proto_partial_eq
 use Rattle.zk_conn.specs.declared.conns.Conns.{Conns}
 use Rattle.zk_conn.specs.declared.instance.Instance.{Instance}
-use Rattle.zk_conn.specs.declared.key.Endpoint.{Endpoint}
 use Rattle.zk_conn.specs.declared.key.Key.{Key}
-use Rattle.zk_conn.specs.contracts.key.EndpointPartialEq.TheImpl as endpoint_partial_eq
-use Rattle.zk_conn.specs.Segment.{same_address, same_endpoint, same_proto, same_key}
+use Rattle.zk_conn.specs.Segment.{same_address, same_proto, same_key}
 use Rattle.zk_conn.specs.Table.{IsTable, has_key, kept, key_eq, slot_of}
-use Rattle.zk_conn.proofs.KeyLemmas.{same_key_is}
+use Rattle.zk_conn.proofs.KeyLemmas.{in_order, same_key_is}
 
 both : {x y u v : Bool} → x ≡ y → u ≡ v → (x && u) ≡ (y && v)
 both {x} {y} {u} {v} first second = ap (λ b. b && u) first ∙ ap (λ b. y && b) second
@@ -34,13 +32,12 @@ proto_eq Udp Udp = refl
 proto_eq Tcp Udp = refl
 proto_eq Udp Tcp = refl
 
-endpoint_eq : (a b : Endpoint) → (endpoint_partial_eq.ghosts).eq a b ≡ same_endpoint a b
-endpoint_eq a b = both (address_eq a.addr b.addr) refl
-
 -- the test of keys is whether they are the same
 key_eq-same : (a b : Key) → key_eq a b ≡ same_key a b
 unfolding key_eq
-key_eq-same a b = both (proto_eq a.proto b.proto) (both (endpoint_eq a.low b.low) (endpoint_eq a.high b.high))
+key_eq-same a b =
+    both refl (both refl (both (proto_eq a.proto b.proto) (both (address_eq a.low_addr b.low_addr) (address_eq a.high_addr b.high_addr))))
+    ∙ in_order (eqb a.low_port b.low_port) (eqb a.high_port b.high_port) (same_proto a.proto b.proto) (same_address a.low_addr b.low_addr) (same_address a.high_addr b.high_addr)
 
 -- a slot whose instance has the key is the one that the key finds
 pub hint_found : (conns : Conns) (key : Key) (slot : ℕ) → IsTable conns → has_key (get conns.slots slot) key ≡ true → slot_of conns key ≡ Some slot

@@ -14,7 +14,7 @@ use Rattle.zk_conn.specs.declared.instance.Instance.{Instance}
 use Rattle.zk_conn.specs.declared.key.Endpoint.{Endpoint}
 use Rattle.zk_conn.specs.Half.{half_of, seen, end_facts_of}
 use Rattle.zk_conn.specs.History.{added}
-use Rattle.zk_conn.specs.Holds.{Has, Holds, Follows, half_after, facts_in}
+use Rattle.zk_conn.specs.Holds.{Has, Holds, Follows, half_after, facts_in, originator_in}
 use Rattle.zk_conn.specs.Instance.{Opening, opening, originator, moment_after, letters_from, history_of, counted, sent_by, side_facts, end_facts, size_of, facts_from, facts_of}
 use Rattle.zk_conn.specs.Segment.{is_tcp}
 use Rattle.zk_conn.specs.State.{is_no, state_of}
@@ -40,15 +40,15 @@ has-append first old new events event has follows = record {
   last_is = follows.last_is ∙ ap (λ m. moment_after m event) has.last_is ∙ sym (fold-append moment_after first.moment events (event ∷ []));
   orig_is = follows.orig_is ∙ of_side Orig old.orig has.orig_is;
   resp_is = follows.resp_is ∙ of_side Resp old.resp has.resp_is;
-  history_is = follows.history_is ∙ ap (λ h. fold added h (letters_from old.originator event)) has.history_is
+  history_is = follows.history_is ∙ ap (λ h. fold added h (letters_from (originator_in old) event)) has.history_is
       ∙ ap (λ o. fold added (history_of (originator first.packet) events) (letters_from o event)) has.originator_is
       ∙ sym (history_of-append (originator first.packet) events event);
 }
   where
     of_side : (side : Side) (half : Half) → half ≡ half_of (originator first.packet) side events
-        → half_after old.originator side half event ≡ half_of (originator first.packet) side (events ++ event ∷ [])
+        → half_after (originator_in old) side half event ≡ half_of (originator first.packet) side (events ++ event ∷ [])
     of_side side half is =
-        ap (λ h. half_after old.originator side h event) is
+        ap (λ h. half_after (originator_in old) side h event) is
         ∙ ap (λ o. half_after o side (half_of (originator first.packet) side events) event) has.originator_is
         ∙ sym (half_of-append (originator first.packet) side events event)
 

@@ -13,8 +13,8 @@ use Rattle.zk_base.specs.contracts.network.AddrOrd.TheImpl as address_ord
 use Rattle.zk_base.specs.contracts.network.ProtoOrd.TheImpl as proto_ord
 use Rattle.zk_conn.specs.declared.key.Endpoint.{Endpoint}
 use Rattle.zk_conn.specs.declared.key.Key.{Key}
-use Rattle.zk_conn.specs.Segment.{same_address, same_endpoint, same_proto, same_key}
-use Rattle.zk_conn.specs.Table.{key_cmp, rank_cmp}
+use Rattle.zk_conn.specs.Segment.{high_end, low_end, same_address, same_endpoint, same_proto, same_key}
+use Rattle.zk_conn.specs.Table.{key_cmp}
 
 address_ties : (a b : Addr) → is_eq ((address_ord.ghosts).cmp a b) ≡ same_address a b
 address_ties (V4 a) (V4 b) = sym (unsigned_ties a b)
@@ -34,7 +34,7 @@ both Equal p x y first second = second ∙ ap (λ b. b && y) first
 both Greater p x y first second = ap (λ b. b && y) first
 
 -- the same five tests in the order of a key
-in_order : (low_port high_port proto low high : Bool) → (low_port && (high_port && (proto && (low && high)))) ≡ (proto && ((low && low_port) && (high && high_port)))
+pub in_order : (low_port high_port proto low high : Bool) → (low_port && (high_port && (proto && (low && high)))) ≡ (proto && ((low && low_port) && (high && high_port)))
 in_order true true true true true = refl
 in_order true true true true false = refl
 in_order true true true false high = refl
@@ -49,12 +49,12 @@ in_order false high_port false low high = refl
 
 -- two keys are equal in the order of the tree of keys exactly where they are the same
 pub is_eq-key_cmp : (a b : Key) → is_eq (key_cmp a b) ≡ same_key a b
-unfolding rank_cmp
+unfolding key_cmp
 is_eq-key_cmp a b =
-    both _ _ _ _ (sym (unsigned_ties a.low.port b.low.port))
-    (both _ _ _ _ (sym (unsigned_ties a.high.port b.high.port))
-    (both _ _ _ _ (proto_ties a.proto b.proto) (both _ _ _ _ (address_ties a.low.addr b.low.addr) (address_ties a.high.addr b.high.addr))))
-    ∙ in_order (eqb a.low.port b.low.port) (eqb a.high.port b.high.port) (same_proto a.proto b.proto) (same_address a.low.addr b.low.addr) (same_address a.high.addr b.high.addr)
+    both _ _ _ _ (sym (unsigned_ties a.low_port b.low_port))
+    (both _ _ _ _ (sym (unsigned_ties a.high_port b.high_port))
+    (both _ _ _ _ (proto_ties a.proto b.proto) (both _ _ _ _ (address_ties a.low_addr b.low_addr) (address_ties a.high_addr b.high_addr))))
+    ∙ in_order (eqb a.low_port b.low_port) (eqb a.high_port b.high_port) (same_proto a.proto b.proto) (same_address a.low_addr b.low_addr) (same_address a.high_addr b.high_addr)
 
 same_address_is : (a b : Addr) → same_address a b ≡ true → a ≡ b
 same_address_is (V4 a) (V4 b) same = ap V4 (eqb-true a b same)
@@ -77,10 +77,10 @@ same_endpoint_is a b same =
 pub same_key_is : (a b : Key) → same_key a b ≡ true → a ≡ b
 same_key_is a b same =
     let proto = and_parts (same_proto a.proto b.proto) _ same in
-    let ends = and_parts (same_endpoint a.low b.low) (same_endpoint a.high b.high) proto.1 in
+    let ends = and_parts (same_endpoint (low_end a) (low_end b)) (same_endpoint (high_end a) (high_end b)) proto.1 in
     ap (λ x. record a { proto = x }) (same_proto_is a.proto b.proto proto.0)
-    ∙ ap (λ x. record a { proto = b.proto; low = x }) (same_endpoint_is a.low b.low ends.0)
-    ∙ ap (λ x. record b { high = x }) (same_endpoint_is a.high b.high ends.1)
+    ∙ ap (λ (e : Endpoint). record a { proto = b.proto; low_port = e.port; low_addr = e.addr }) (same_endpoint_is (low_end a) (low_end b) ends.0)
+    ∙ ap (λ (e : Endpoint). record b { high_port = e.port; high_addr = e.addr }) (same_endpoint_is (high_end a) (high_end b) ends.1)
 
 same_address-refl : (a : Addr) → same_address a a ≡ true
 same_address-refl (V4 a) = eq-eqb a a refl
@@ -96,5 +96,5 @@ same_endpoint-refl a = ap (λ b. b && eqb a.port a.port) (same_address-refl a.ad
 -- each key is the same as itself
 pub same_key-refl : (a : Key) → same_key a a ≡ true
 same_key-refl a =
-    ap (λ b. b && (same_endpoint a.low a.low && same_endpoint a.high a.high)) (same_proto-refl a.proto)
-    ∙ ap (λ b. b && same_endpoint a.high a.high) (same_endpoint-refl a.low) ∙ same_endpoint-refl a.high
+    ap (λ b. b && (same_endpoint (low_end a) (low_end a) && same_endpoint (high_end a) (high_end a))) (same_proto-refl a.proto)
+    ∙ ap (λ b. b && same_endpoint (high_end a) (high_end a)) (same_endpoint-refl (low_end a)) ∙ same_endpoint-refl (high_end a)

@@ -13,6 +13,7 @@ use Rattle.zk_conn.specs.declared.facts.Facts.{Facts}
 use Rattle.zk_conn.specs.declared.key.Key.{Key}
 use Rattle.zk_conn.specs.Histories.{number_of, touched_of}
 use Rattle.zk_conn.specs.Instance.{facts_of, removal_moment}
+use Rattle.zk_conn.specs.Segment.{key_with}
 use Rattle.zk_conn.specs.Told.{Told, Packet, Front, Reached}
 
 -- a moment some milliseconds after the first
@@ -58,10 +59,10 @@ abbrev shown : List Told → Option Shown
 shown events = option_map (λ (f : Facts). record { state = f.state; history = f.history; orig = f.orig.size; resp = f.resp.size }) (facts_of events)
 
 abbrev key_tcp : Key
-key_tcp = record { proto = Tcp; low = record { addr = V4 0x0a000001; port = 40001 }; high = record { addr = V4 0x0a000050; port = 80 } }
+key_tcp = key_with Tcp (record { addr = V4 0x0a000001; port = 40001 }) (record { addr = V4 0x0a000050; port = 80 })
 
 abbrev key_udp : Key
-key_udp = record { proto = Udp; low = record { addr = V4 0x0a000001; port = 40001 }; high = record { addr = V4 0x0a000050; port = 80 } }
+key_udp = key_with Udp (record { addr = V4 0x0a000001; port = 40001 }) (record { addr = V4 0x0a000050; port = 80 })
 
 -- the originator's SYN alone
 alone : List Told

@@ -23,9 +23,9 @@ use Rattle.zk_conn.specs.Holds.{Has, Holds, Follows, end_in, facts_in, removal_o
 use Rattle.zk_conn.specs.Instance.{Opening, opening, originator, end_of, moment_after, facts_of}
 use Rattle.zk_conn.specs.declared.removals.Filing.{Filing}
 use Rattle.zk_conn.specs.Removals.{filed_in, filing_of}
-use Rattle.zk_conn.specs.Segment.{same_key, ranked}
+use Rattle.zk_conn.specs.Segment.{same_key}
 use Rattle.zk_conn.specs.Standing.{StandsFor, IsLatest, Keeps}
-use Rattle.zk_conn.specs.Table.{has_number, rank_cmp, slot_in, kept, slot_numbered, HasLive, instance_at, key_at, number_at, Matches, IsTable, Changes, Tells}
+use Rattle.zk_conn.specs.Table.{has_number, key_cmp, slot_in, kept, slot_numbered, HasLive, instance_at, key_at, number_at, Matches, IsTable, Changes, Tells}
 use Rattle.zk_conn.specs.Told.{Told, key_told}
 use Rattle.zk_conn.proofs.HoldsLemmas.{holds-append, facts_in-is}
 use Rattle.zk_conn.proofs.KeyLemmas.{same_key_is, same_key-refl}
@@ -323,7 +323,7 @@ pub stands_empty : (conns : Conns) → conns.slots.slots ≡ [] → conns.keys.e
 unfolding instance_at
 stands_empty conns slots keys numbers filings firsts none_begun = record {
   table = record {
-    keys = empty (slot_in conns.keys) (key_at conns.slots) (λ key. ap (lookup (tree.is_at (rank_cmp (ranked key)))) keys) (λ slot. ap (option_map (λ (i : Instance). i.key)) (nothing slot));
+    keys = empty (slot_in conns.keys) (key_at conns.slots) (λ key. ap (lookup (tree.is_at (key_cmp key))) keys) (λ slot. ap (option_map (λ (i : Instance). i.key)) (nothing slot));
     numbers = empty (tree.get nat_cmp conns.numbers) (number_at conns.slots) (λ number. ap (lookup (tree.is_at (nat_cmp number))) numbers) (λ slot. ap (option_map (λ (i : Instance). i.number)) (nothing slot));
     index = record {
       index = record {
@@ -334,7 +334,7 @@ stands_empty conns slots keys numbers filings firsts none_begun = record {
     };
   };
   begun_is = none_begun;
-  keeps = λ key. subst (Keeps [] key) (sym (ap (λ o. option_and_then (get conns.slots) o) (ap (lookup (tree.is_at (rank_cmp (ranked key)))) keys)))
+  keeps = λ key. subst (Keeps [] key) (sym (ap (λ o. option_and_then (get conns.slots) o) (ap (lookup (tree.is_at (key_cmp key))) keys)))
       (record { gone = refl; late = λ t order. refl });
 }
   where

@@ -1,5 +1,5 @@
 -- The table after the instance of one slot changed.
-use Rattle.std.proofs.Common.{pos, ◌+ℤ◌, ◌≡◌, ◌≢◌, ℕ, ◌<◌, ◌≤◌, Bool, true, false, cond, List, length, get_or, Option, Some, None, refl, sym, ap, subst, ◌∙◌, arith, ⊎_elim}
+use Rattle.std.proofs.Common.{pos, ◌+ℤ◌, ◌≡◌, ◌≢◌, ℕ, ◌+◌, ◌*◌, ◌<◌, ◌≤◌, ◌-◌, ◌++◌, take, replicate, Bool, true, false, cond, List, length, get_or, Option, Some, None, refl, sym, ap, subst, ◌∙◌, arith, ⊎_elim}
 use Rattle.std.specs.BTreeMap as btree
 use Rattle.std.specs.Int.{saturate_signed, w64}
 use Rattle.std.specs.Prelude.{int_le, Result, Ok, Err, OnOk, is_err}
@@ -21,7 +21,7 @@ use Rattle.zk_conn.specs.declared.key.Endpoint.{Endpoint}
 use Rattle.zk_conn.specs.declared.key.Key.{Key}
 use Rattle.zk_conn.specs.declared.removals.Filing.{Filing}
 use Rattle.zk_conn.specs.declared.view.L4View.{L4View}
-use Rattle.zk_conn.specs.Holds.{Follows, half_after, removal_of, touched_between}
+use Rattle.zk_conn.specs.Holds.{Follows, half_after, originator_in, removal_of, touched_between}
 use Rattle.zk_conn.specs.Instance.{same_side, wait}
 use Rattle.zk_conn.specs.Segment.{is_tcp}
 use Rattle.zk_conn.specs.declared.removals.Removals.{Removals}
@@ -223,8 +223,8 @@ unfolding removal_of
 removal_of-front was is key of front follows =
     ap (λ m. removal_in m is.key is.orig.end is.resp.end) follows.last_is
     ∙ ap (λ k. removal_in was.last k is.orig.end is.resp.end) follows.key_is
-    ∙ ap (λ e. removal_in was.last was.key e is.resp.end) (ap (λ (h : Half). h.end) follows.orig_is ∙ end_of_front was.originator Orig was.orig key of front)
-    ∙ ap (λ e. removal_in was.last was.key was.orig.end e) (ap (λ (h : Half). h.end) follows.resp_is ∙ end_of_front was.originator Resp was.resp key of front)
+    ∙ ap (λ e. removal_in was.last was.key e is.resp.end) (ap (λ (h : Half). h.end) follows.orig_is ∙ end_of_front (originator_in was) Orig was.orig key of front)
+    ∙ ap (λ e. removal_in was.last was.key was.orig.end e) (ap (λ (h : Half). h.end) follows.resp_is ∙ end_of_front (originator_in was) Resp was.resp key of front)
   where
     removal_in : Moment → Key → StreamEnd → StreamEnd → Moment
     removal_in last key orig resp = record { 0 = saturate_signed w64 (last.0 +ℤ pos (wait (is_tcp key.proto) orig resp)) }

@@ -7,7 +7,6 @@ use Rattle.zk_base.specs.declared.network.Proto.TheVariants.{Tcp, Udp}
 use Rattle.zk_l4.specs.declared.flags.TheConstants.{FIN, SYN, RST, ACK}
 use Rattle.zk_conn.specs.declared.key.Endpoint.{Endpoint}
 use Rattle.zk_conn.specs.declared.key.Key.{Key}
-use Rattle.zk_conn.specs.declared.key.Ranked.{Ranked}
 use Rattle.zk_conn.specs.declared.view.L4View.{L4View}
 
 -- where a packet comes from
@@ -38,22 +37,26 @@ abbrev pub is_before : Endpoint → Endpoint → Bool
 is_before a b = address_is_before a.addr b.addr || (same_address a.addr b.addr && nat_lt a.port b.port)
 
 -- the protocol and the unordered pair of ends: that which stands before the other is named first
-abbrev pub key_of : L4View → Key
-key_of p = record {
-  proto = p.proto;
-  low = if is_before (receiver p) (sender p) then receiver p else sender p;
-  high = if is_before (receiver p) (sender p) then sender p else receiver p;
+abbrev pub key_with : Proto → Endpoint → Endpoint → Key
+key_with proto low high = record {
+  low_port = low.port;
+  high_port = high.port;
+  proto = proto;
+  low_addr = low.addr;
+  high_addr = high.addr;
 }
 
--- the parts of a key in the order of the tree of keys
-abbrev pub ranked : Key → Ranked
-ranked key = record {
-  low_port = key.low.port;
-  high_port = key.high.port;
-  proto = key.proto;
-  low = key.low.addr;
-  high = key.high.addr;
-}
+abbrev pub key_of : L4View → Key
+key_of p =
+    key_with p.proto
+    (if is_before (receiver p) (sender p) then receiver p else sender p)
+    (if is_before (receiver p) (sender p) then sender p else receiver p)
+
+abbrev pub low_end : Key → Endpoint
+low_end key = record { addr = key.low_addr; port = key.low_port }
+
+abbrev pub high_end : Key → Endpoint
+high_end key = record { addr = key.high_addr; port = key.high_port }
 
 abbrev pub is_tcp : Proto → Bool
 is_tcp Tcp = true
@@ -66,7 +69,7 @@ same_proto Tcp Udp = false
 same_proto Udp Tcp = false
 
 abbrev pub same_key : Key → Key → Bool
-same_key a b = same_proto a.proto b.proto && (same_endpoint a.low b.low && same_endpoint a.high b.high)
+same_key a b = same_proto a.proto b.proto && (same_endpoint (low_end a) (low_end b) && same_endpoint (high_end a) (high_end b))
 
 -- the control bits: a UDP packet has none
 abbrev pub control : L4View → ℕ

@@ -10,25 +10,20 @@ use Rattle.zk_base.specs.declared.time.Moment.{Moment}
 use Rattle.zk_conn.specs.declared.conns.Conns.{Conns}
 use Rattle.zk_conn.specs.declared.instance.Instance.{Instance}
 use Rattle.zk_conn.specs.declared.key.Key.{Key}
-use Rattle.zk_conn.specs.declared.key.Ranked.{Ranked}
 use Rattle.zk_conn.specs.declared.removals.Filing.{Filing}
-use Rattle.zk_conn.specs.Holds.{Follows, removal_of}
+use Rattle.zk_conn.specs.Holds.{Follows, originator_in, removal_of, responder_in}
 use Rattle.zk_conn.specs.Removals.{IsIndexOf}
-use Rattle.zk_conn.specs.Segment.{ranked}
 use Rattle.zk_conn.specs.Told.{Told}
-use Rattle.zk_conn.specs.contracts.key.RankedOrd.TheImpl as ranked_ord
+use Rattle.zk_conn.specs.contracts.key.KeyOrd.TheImpl as key_ord
 use Rattle.zk_conn.specs.contracts.key.KeyPartialEq.TheImpl as key_partial_eq
 
 -- the order of the tree of keys
-unfoldable pub rank_cmp : Ranked → Ranked → Ordering
-rank_cmp = (ranked_ord.ghosts).cmp
-
-abbrev pub key_cmp : Key → Key → Ordering
-key_cmp a b = rank_cmp (ranked a) (ranked b)
+unfoldable pub key_cmp : Key → Key → Ordering
+key_cmp = (key_ord.ghosts).cmp
 
 -- the slot that the tree of keys has for a key
-abbrev pub slot_in : tree.BTreeMap Ranked ℕ → Key → Option ℕ
-slot_in keys key = tree.get rank_cmp keys (ranked key)
+abbrev pub slot_in : tree.BTreeMap Key ℕ → Key → Option ℕ
+slot_in keys key = tree.get key_cmp keys key
 
 -- the test whether two keys are the same
 unfoldable pub key_eq : Key → Key → Bool
@@ -100,8 +95,8 @@ pub record Changes (old new : Conns) (slot : ℕ) (was is : Instance) : Type 0 w
 pub record SameFacts (was is : Instance) : Type 0 where
   pub key_is : is.key ≡ was.key
   pub number_is : is.number ≡ was.number
-  pub originator_is : is.originator ≡ was.originator
-  pub responder_is : is.responder ≡ was.responder
+  pub originator_is : originator_in is ≡ originator_in was
+  pub responder_is : responder_in is ≡ responder_in was
   pub start_is : is.start ≡ was.start
   pub last_is : is.last ≡ was.last
   pub orig_is : is.orig ≡ was.orig

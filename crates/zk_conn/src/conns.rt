@@ -14,7 +14,7 @@ ghost use Rattle.zk_conn.specs.Told.{key_told, Told, Packet, Front, Reached, Rem
 
 use crate::facts::Facts;
 use crate::instance::Instance;
-use crate::key::{Key, Ranked};
+use crate::key::Key;
 use crate::removals::{Filing, Removals, earlier};
 use crate::view::L4View;
 use slab::Slab;
@@ -141,7 +141,7 @@ fn make_places(hints: &mut Vec<Hints>, slots: usize) -> Result<(), Mem> {
 #[derive(Debug, Drop)]
 pub struct Conns {
     slots: Slab<Instance>,
-    keys: BTreeMap<Ranked, usize>,
+    keys: BTreeMap<Key, usize>,
     numbers: BTreeMap<u64, usize>,
     removals: Removals,
     /// Slots of keys, at their keys' places. They save the walk through `keys`, and no more: one counts
@@ -291,7 +291,7 @@ impl Conns {
             unreachable!()
         };
         let instance = &self.slots[slot];
-        (instance.key.proto, instance.responder.port)
+        (instance.key.proto, instance.responder().port)
     }
 
     /// Whether the end of a side of a live instance is open.
@@ -381,12 +381,12 @@ impl Conns {
     }
 
     /// The slot of a live connection, by its key.
-    #[tactic(auto, unfolding(crate::specs::Table::slot_of, crate::specs::Table::rank_cmp))]
+    #[tactic(auto, unfolding(crate::specs::Table::slot_of, crate::specs::Table::key_cmp))]
     fn slot_of(&self, key: &Key) -> Option<usize>
         ensures slot { result ≡ slot_of self.now key.now }
         ensures there { IfSome result (ContainsKey self.now.slots) }
     {
-        match self.keys.get(&Ranked::of(key)) {
+        match self.keys.get(key) {
             Some(slot) if self.slots.contains(*slot) => Some(*slot),
             _ => None,
         }
@@ -502,7 +502,7 @@ impl Conns {
         self.make_room()?;
         let slot = self.slots.vacant_key();
         self.numbers.insert(instance.number, slot)?;
-        if self.keys.insert(Ranked::of(&instance.key), slot).is_err() {
+        if self.keys.insert(instance.key, slot).is_err() {
             self.numbers.remove(&instance.number);
             return Err(Mem);
         }
@@ -533,7 +533,7 @@ impl Conns {
             → result ≡ record { conn = record { 0 = was.number }; at = at; facts = facts_in was } }
     {
         let instance = self.slots.remove(slot);
-        self.keys.remove(&Ranked::of(&instance.key));
+        self.keys.remove(&instance.key);
         self.numbers.remove(&instance.number);
         self.removals.forget(slot);
         Removed {

@@ -31,22 +31,21 @@ fn wait(proto: Proto, orig: StreamEnd, resp: StreamEnd) -> i64
 /// What is kept of a live connection.
 #[derive(Debug, Drop)]
 pub struct Instance {
-    // What each packet asks for stands together, in this order, and what few ask for behind it.
-    pub key: Key,
-    pub originator: Endpoint,
     pub number: u64,
-    pub last: Moment,
     /// Where the index of removals has it: at its removal moment or before.
     pub filed: Moment,
+    pub last: Moment,
+    pub start: Moment,
+    pub key: Key,
     pub orig: Half,
     pub resp: Half,
     pub history: History,
-    pub responder: Endpoint,
-    pub start: Moment,
+    /// The originator is the low end of the key, and else the high one.
+    pub is_low: bool,
 }
 
 impl Instance {
-    ghost use Rattle.zk_conn.specs.Holds.{Follows, Has, facts_in, removal_of, touched_between, end_in};
+    ghost use Rattle.zk_conn.specs.Holds.{Follows, Has, facts_in, originator_in, responder_in, removal_of, touched_between, end_in};
     ghost use Rattle.zk_conn.specs.Removals.{filing_of};
 
     /// A connection that begins with a packet, before the packet is counted.
@@ -58,24 +57,50 @@ impl Instance {
         let to = Endpoint::receiver(p);
         let is_answer = p.has(SYN) && p.has(ACK);
         Instance {
-            key: Key::of(p),
-            originator: if is_answer { to } else { from },
             number,
-            last: t,
             filed: t,
+            last: t,
+            start: t,
+            key: Key::of(p),
             orig: Half::new(),
             resp: Half::new(),
             history: History::new(),
-            responder: if is_answer { from } else { to },
-            start: t,
+            is_low: is_answer == to.is_before(&from),
+        }
+    }
+
+    /// The end that began it.
+    pub fn originator(&self) -> Endpoint
+        ensures { result ≡ originator_in self.now }
+    {
+        if self.is_low {
+            self.key.low()
+        } else {
+            self.key.high()
+        }
+    }
+
+    /// The other end.
+    pub fn responder(&self) -> Endpoint
+        ensures { result ≡ responder_in self.now }
+    {
+        if self.is_low {
+            self.key.high()
+        } else {
+            self.key.low()
         }
     }
 
     /// The side that sends a packet: where both ends are equal it is the originator.
     pub fn side_of(&self, p: &L4View) -> Side
-        ensures { result ≡ side_of self.now.originator p.now }
+        ensures { result ≡ side_of (originator_in self.now) p.now }
     {
-        if Endpoint::sender(p) == self.originator {
+        let is_originator = if self.is_low {
+            self.key.low_sends(p)
+        } else {
+            self.key.high_sends(p)
+        };
+        if is_originator {
             Side::Orig
         } else {
             Side::Resp
@@ -211,11 +236,13 @@ impl Instance {
         ensures { result ≡ facts_in self.now }
     {
         let is_tcp = matches!(self.key.proto, Proto::Tcp);
+        let originator = self.originator();
+        let responder = self.responder();
         Facts {
-            orig_h: self.originator.addr,
-            orig_p: self.originator.port,
-            resp_h: self.responder.addr,
-            resp_p: self.responder.port,
+            orig_h: originator.addr,
+            orig_p: originator.port,
+            resp_h: responder.addr,
+            resp_p: responder.port,
             proto: self.key.proto,
             start: self.start,
             last: self.last,

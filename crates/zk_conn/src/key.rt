@@ -1,5 +1,5 @@
 ghost use Rattle.std.specs.Prelude.{◌≡◌};
-ghost use Rattle.zk_conn.specs.Segment.{sender, receiver, is_before, address_is_before, key_of, ranked};
+ghost use Rattle.zk_conn.specs.Segment.{sender, receiver, is_before, address_is_before, same_endpoint, key_of, key_with, low_end, high_end};
 
 use crate::view::L4View;
 use zk_base::{Addr, Proto};
@@ -48,30 +48,33 @@ impl Endpoint {
     }
 
     /// Whether the end comes before another, by address and then by port.
-    fn is_before(&self, other: &Endpoint) -> bool
+    pub fn is_before(&self, other: &Endpoint) -> bool
         ensures { result ≡ is_before self.now other.now }
     {
         address_is_before(self.addr, other.addr)
             || self.addr == other.addr && self.port < other.port
     }
+}
 
-    /// A number that two ends seldom share.
-    fn scattered(&self) -> u64 {
-        let addr = match self.addr {
-            Addr::V4(addr) => addr as u64,
-            Addr::V6(addr) => (addr & 0xFFFF_FFFF_FFFF_FFFF) as u64 ^ (addr >> 64) as u64,
-        };
-        (addr.rotate_left(16) ^ self.port as u64).wrapping_mul(SPREAD)
-    }
+/// A number that two ends seldom share.
+fn scattered(addr: &Addr, port: u16) -> u64 {
+    let addr = match addr {
+        Addr::V4(addr) => *addr as u64,
+        Addr::V6(addr) => (*addr & 0xFFFF_FFFF_FFFF_FFFF) as u64 ^ (*addr >> 64) as u64,
+    };
+    (addr.rotate_left(16) ^ port as u64).wrapping_mul(SPREAD)
 }
 
 /// What the packets of a connection have in common: the protocol and the two ends, whichever of
-/// them sends.
-#[derive(Clone, Copy, Debug, PartialEq, Eq)]
+/// them sends. What tells two keys apart most often stands first: so a comparison seldom comes to the
+/// addresses, which many connections share, and no choice of them makes one dear.
+#[derive(Clone, Copy, Debug, PartialEq, Eq, PartialOrd, Ord)]
 pub struct Key {
+    pub low_port: u16,
+    pub high_port: u16,
     pub proto: Proto,
-    pub low: Endpoint,
-    pub high: Endpoint,
+    pub low_addr: Addr,
+    pub high_addr: Addr,
 }
 
 impl Key {
@@ -81,49 +84,67 @@ impl Key {
     {
         let from = Endpoint::sender(p);
         let to = Endpoint::receiver(p);
-        let (low, high) = if to.is_before(&from) {
-            (to, from)
+        if to.is_before(&from) {
+            Key::with(p.proto, &to, &from)
         } else {
-            (from, to)
-        };
-        Key {
-            proto: p.proto,
-            low,
-            high,
+            Key::with(p.proto, &from, &to)
         }
     }
+
+    /// The key of two ends, the low one first.
+    fn with(proto: Proto, low: &Endpoint, high: &Endpoint) -> Key
+        ensures { result ≡ key_with proto low.now high.now }
+    {
+        Key {
+            low_port: low.port,
+            high_port: high.port,
+            proto,
+            low_addr: low.addr,
+            high_addr: high.addr,
+        }
+    }
+
+    /// The end that stands before the other.
+    pub fn low(&self) -> Endpoint
+        ensures { result ≡ low_end self.now }
+    {
+        Endpoint {
+            addr: self.low_addr,
+            port: self.low_port,
+        }
+    }
+
+    /// The end that does not stand before the other.
+    pub fn high(&self) -> Endpoint
+        ensures { result ≡ high_end self.now }
+    {
+        Endpoint {
+            addr: self.high_addr,
+            port: self.high_port,
+        }
+    }
+
+    /// Whether a packet comes from the low end.
+    pub fn low_sends(&self, p: &L4View) -> bool
+        ensures { result ≡ same_endpoint (sender p.now) (low_end self.now) }
+    {
+        p.src == self.low_addr && p.sport == self.low_port
+    }
+
+    /// Whether a packet comes from the high end.
+    pub fn high_sends(&self, p: &L4View) -> bool
+        ensures { result ≡ same_endpoint (sender p.now) (high_end self.now) }
+    {
+        p.src == self.high_addr && p.sport == self.high_port
+    }
+
     /// A place among so many that two keys seldom share: for hints alone, since whoever writes a capture
     /// can choose keys that share one.
     pub fn place_among(&self, places: usize) -> usize {
-        let ends = self.low.scattered().rotate_left(29) ^ self.high.scattered();
+        let low = scattered(&self.low_addr, self.low_port);
+        let ends = low.rotate_left(29) ^ scattered(&self.high_addr, self.high_port);
         // The upper half as a part of 2^32, of so many places.
         let part = ends.wrapping_mul(SPREAD) >> 32;
         (part.wrapping_mul(places as u64) >> 32) as usize
-    }
-}
-
-/// The parts of a key, what tells two keys apart most often first: the order of the tree of keys. So a comparison
-/// seldom comes to the addresses, which many connections share, and no choice of them makes one dear.
-#[derive(Clone, Copy, Debug, PartialEq, Eq, PartialOrd, Ord)]
-pub struct Ranked {
-    pub low_port: u16,
-    pub high_port: u16,
-    pub proto: Proto,
-    pub low: Addr,
-    pub high: Addr,
-}
-
-impl Ranked {
-    /// The parts of a key.
-    pub fn of(key: &Key) -> Ranked
-        ensures { result ≡ ranked key.now }
-    {
-        Ranked {
-            low_port: key.low.port,
-            high_port: key.high.port,
-            proto: key.proto,
-            low: key.low.addr,
-            high: key.high.addr,
-        }
     }
 }

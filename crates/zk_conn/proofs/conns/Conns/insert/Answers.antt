@@ -1,14 +1,11 @@
 use Rattle.std.proofs.Common.{Some, sym, ap, ◌∙◌, arith}
-use Rattle.std.specs.BTreeMap as tree
-use Rattle.std.specs.Ordering.{is_eq}
 use Rattle.slab.specs.Slab.{get}
-use Rattle.zk_conn.specs.Segment.{ranked}
-use Rattle.zk_conn.specs.Table.{rank_cmp}
+use Rattle.zk_conn.specs.Table.{key_cmp}
 use Rattle.zk_conn.proofs.TableLemmas.{index_filed, on_ok-not_err}
 use Rattle.zk_conn.proofs.conns.Conns.insert.Goals as goal
 
 pub returns-clause-ok : goal.returns-clause-ok
-unfolding rank_cmp
+unfolding key_cmp
 returns-clause-ok c =
     let mid = c.make_room.new.self in
     let slot = c.vacant_key-slot.result in
@@ -19,8 +16,8 @@ returns-clause-ok c =
       vacant = sym (c.make_room.ensures.same.slots_are slot) ∙ c.vacant_key-slot.ensures.vacant;
       there = ap (get c.insert_reserved.new.self) (sym at_slot) ∙ c.insert_reserved.ensures.updates.changed;
       others = λ other apart. c.insert_reserved.ensures.updates.others other (λ here. apart (here ∙ at_slot)) ∙ c.make_room.ensures.same.slots_are other;
-      key_found = ap (tree.get rank_cmp c.insert-2.new.self) (sym c.of.ensures) ∙ keys.1;
-      other_keys = λ other apart. keys.2 (ranked other) (ap (λ r. is_eq (rank_cmp r (ranked other))) c.of.ensures ∙ apart) ∙ c.make_room.ensures.same.keys_are other;
+      key_found = keys.1;
+      other_keys = λ other apart. keys.2 other apart ∙ c.make_room.ensures.same.keys_are other;
       number_found = c.in_ok-insert.ensures.updates.1;
       other_numbers = λ other apart. c.in_ok-insert.ensures.updates.2 other apart ∙ c.make_room.ensures.same.numbers_are other;
       begun_is = c.make_room.ensures.same.begun_is;

@@ -18,7 +18,7 @@ use Rattle.zk_http.proofs.UnreadLaws.{use_what_is_read}
 use Rattle.zk_units.specs.declared.http.Reading.{Reading}
 use Rattle.zk_units.specs.declared.http.Reading.TheVariants.{Found, Used, Waits}
 use Rattle.zk_units.specs.declared.unread.Unread.{Unread}
-use Rattle.zk_units.specs.HttpTurns.{Fits, HasNone, IsTold, IsUnread, KeepsAll, KeepsOther, OnWaits, ReadsOn}
+use Rattle.zk_units.specs.HttpTurns.{Fits, HasNone, IsTold, IsUnread, KeepsAll, KeepsOther, OnUsed, OnWaits, ReadsOn}
 use Rattle.zk_units.specs.Unread.{places_of, run_of}
 use Rattle.zk_units.proofs.CutLemmas.{run-drop, run-within}
 use Rattle.zk_units.proofs.HeldLemmas.{few_waiting}
@@ -280,3 +280,9 @@ waits_none side a b u v w Used first has = tt
 pub on_err : {A E P Q : Type 0} (r : Result A E) → OnErr r P → (P → Q) → OnErr r Q
 on_err (Ok a) p then = tt
 on_err (Err e) p then = then p
+
+-- fewer places than some, of which there are no more than before, are fewer than before
+pub fewer_still : (reading : Reading) (after mid before : ℕ) → mid ≤ before → OnUsed reading (after < mid) → OnUsed reading (after < before)
+fewer_still (Found one) after mid before most fewer = tt
+fewer_still Waits after mid before most fewer = tt
+fewer_still Used after mid before most fewer = omega (arith, most, fewer)

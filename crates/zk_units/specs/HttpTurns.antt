@@ -77,3 +77,9 @@ abbrev pub OnWaits : Reading → Type 0 → Type 0
 OnWaits (Found one) P = Unit {0}
 OnWaits Waits P = P
 OnWaits Used P = Unit {0}
+
+-- where some of the gap was used
+abbrev pub OnUsed : Reading → Type 0 → Type 0
+OnUsed (Found one) P = Unit {0}
+OnUsed Waits P = Unit {0}
+OnUsed Used P = P

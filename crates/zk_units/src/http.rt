@@ -4,7 +4,7 @@ ghost use Rattle.zk_http.specs.Places.{Both, Stream, of_side};
 ghost use Rattle.zk_http.specs.Standing.{StandsFor, used_of, seen_of, IsLent, IsAll, HasGap, HasRead, Takes};
 ghost use Rattle.zk_http.specs.Units.{add, next};
 ghost use Rattle.zk_http.specs.declared.units.«Unit».{«Unit» as HttpUnit};
-ghost use Rattle.zk_units.specs.HttpTurns.{Fits, HasNone, IsTold, KeepsAll, KeepsOther, OnWaits, ReadsOn, unit_of};
+ghost use Rattle.zk_units.specs.HttpTurns.{Fits, HasNone, IsTold, KeepsAll, KeepsOther, OnUsed, OnWaits, ReadsOn, unit_of};
 ghost use Rattle.zk_units.specs.Unread.{places_of, run_of};
 
 use crate::unread::Unread;
@@ -76,6 +76,7 @@ fn read_run(http: &mut Http, side: Side, unread: &mut Unread) -> Result<Reading,
     requires { Fits side http.old unread.old }
     ensures reads { IfOk result (λ reading. ReadsOn side http.old http.new unread.old unread.new (unit_of reading)) }
     ensures none { IfOk result (λ reading. OnWaits reading (HasNone side http.old unread.old unread.new)) }
+    ensures fewer { IfOk result (λ reading. OnUsed reading (length (places_of unread.new) < length (places_of unread.old))) }
     ensures memory { OnErr result (Fits side http.new unread.new × KeepsOther side http.old http.new) }
 {
     tell_end(http, side, unread);
@@ -95,6 +96,7 @@ fn read_gap(http: &mut Http, side: Side, unread: &mut Unread) -> Reading
     requires gap { 0 < unread.old.gap }
     ensures reads { ReadsOn side http.old http.new unread.old unread.new (unit_of result) }
     ensures none { OnWaits result (HasNone side http.old unread.old unread.new) }
+    ensures fewer { OnUsed result (length (places_of unread.new) < length (places_of unread.old)) }
 {
     let places = unread.gap();
     let unused = unread.run().len();
@@ -115,12 +117,11 @@ pub fn read(http: &mut Http, side: Side, unread: &mut Unread) -> Result<Option<U
     ensures none { IfOk result (λ found. IfNone found (HasNone side http.old unread.old unread.new)) }
     ensures memory { OnErr result (Fits side http.new unread.new × KeepsOther side http.old http.new) }
 {
-    for _ in 0..u64::MAX {
+    'runs: loop {
         match read_run(http, side, unread)? {
             Reading::Found(unit) => return Ok(Some(unit)),
             Reading::Waits => return Ok(None),
             Reading::Used => {}
         }
     }
-    Err(Mem)
 }

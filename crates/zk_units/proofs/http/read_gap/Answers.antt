@@ -1,10 +1,12 @@
 use Rattle.std.proofs.Common.{◌≡◌, ◌+◌, ◌-◌, length, None, Some, MatchOption, sym, ap, subst, ◌∙◌, arith}
+use Rattle.std.proofs.lemmas.List.{length-drop}
 use Rattle.std.specs.Prelude.{◌↔◌}
 use Rattle.zk_http.specs.Cases.{Held, case_of}
 use Rattle.zk_http.specs.Places.{of_side}
 use Rattle.zk_http.specs.Standing.{HasGap, Takes}
 use Rattle.zk_http.specs.Units.{next}
 use Rattle.zk_units.specs.HttpTurns.{ReadsOn}
+use Rattle.zk_units.specs.Unread.{places_of}
 use Rattle.zk_units.proofs.HttpLemmas.{gap_none, gap_turn}
 use Rattle.zk_units.proofs.UnreadLemmas.{bytes_within}
 use Rattle.zk_units.proofs.http.read_gap.Goals as goal
@@ -52,3 +54,10 @@ returns-in-None-clause-none c =
     subst (λ o. MatchOption o (((used ≡ 0) ↔ (case_of c.args.side units ≡ Held)) × (used ≡ 0 → next c.args.side streams units ≡ None)) (λ one. next c.args.side streams units ≡ Some one)) c.in-None.is
     (c.read_places-step.ensures.found streams units stands (subst (λ n. HasGap c.args.http.now c.args.side (of_side c.args.side streams) n c.gap-places.result after) (sym (ap length c.run-unused.ensures.bytes)) gap)))
     (bytes_within c.pass.new.self)
+
+pub returns-in-None-2-clause-fewer : goal.returns-in-None-2-clause-fewer
+returns-in-None-2-clause-fewer c =
+    let places = places_of c.args.«unread».now in
+    let used = c.read_places-step.result.used in
+    let less : length (places_of c.pass.new.self) ≡ length places - used = ap length c.pass.ensures.places ∙ length-drop used places in
+    omega (arith, less, c.if-step-eq0.false, c.gap-places.ensures.within, c.gap-places.ensures.value, c.requires.gap)

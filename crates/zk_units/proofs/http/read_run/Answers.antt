@@ -7,7 +7,7 @@ use Rattle.zk_http.specs.Units.{next}
 use Rattle.zk_units.specs.HttpTurns.{ReadsOn, unit_of}
 use Rattle.zk_units.specs.Unread.{places_of, run_of}
 use Rattle.zk_units.proofs.CutLemmas.{run-drop, run-within}
-use Rattle.zk_units.proofs.HttpLemmas.{bytes_none, bytes_turn, fits_told, told_turn, turns, waits_none}
+use Rattle.zk_units.proofs.HttpLemmas.{bytes_none, bytes_turn, fewer_still, fits_told, told_turn, turns, waits_none}
 use Rattle.zk_units.proofs.UnreadLemmas.{bytes_within}
 use Rattle.zk_units.proofs.http.read_run.Goals as goal
 
@@ -84,3 +84,10 @@ returns-in-None-2-clause-none c =
     (fits_told c.args.side c.args.http.now c.tell_end.new.http c.args.«unread».now c.requires c.tell_end.ensures)
     c.in_ok-step.ensures.found c.in_ok-step.ensures.stands c.in_ok-step.ensures.used c.pass.ensures.places c.pass.ensures.front c.pass.ensures.ended)))
     c.read_gap.ensures.none
+
+pub returns-in-None-2-clause-fewer : goal.returns-in-None-2-clause-fewer
+returns-in-None-2-clause-fewer c =
+    let places = places_of c.args.«unread».now in
+    let used = c.in_ok-step.step.used in
+    let less : length (places_of c.pass.new.self) ≡ length places - used = ap length c.pass.ensures.places ∙ length-drop used places in
+    fewer_still c.read_gap.result (length (places_of c.read_gap.new.«unread»)) (length (places_of c.pass.new.self)) (length places) (omega (arith, less)) c.read_gap.ensures.fewer

@@ -26,6 +26,7 @@ enum Event {
 }
 
 /// What happens to a connection, as it is told.
+#[inline(always)]
 fn what(event: Event, conn: ConnNo, facts: Facts) -> What
     ensures { result ≡ what_of event conn facts }
 {
@@ -46,6 +47,7 @@ fn what(event: Event, conn: ConnNo, facts: Facts) -> What
 }
 
 /// Adds an item.
+#[inline(always)]
 pub fn give(items: &mut Waiting, moment: Moment, what: What) -> Result<(), Mem>
     ensures { OnOk result (items_in items.new ≡ items_in items.old ++ item moment what ∷ []) }
 {
@@ -61,6 +63,7 @@ pub fn give_removed(items: &mut Waiting, removed: Removed) -> Result<(), Mem>
 }
 
 /// Adds an item of a live connection, with what is known of it.
+#[inline(never)]
 fn give_event(
     items: &mut Waiting,
     table: &Table,
@@ -77,6 +80,7 @@ fn give_event(
 }
 
 /// Adds an item of a live connection where it happens.
+#[inline(always)]
 fn give_if(
     items: &mut Waiting,
     table: &Table,
@@ -94,6 +98,7 @@ fn give_if(
 }
 
 /// Adds the items of a segment ahead of the gaps.
+#[inline(always)]
 pub fn give_opening(items: &mut Waiting, table: &Table, t: Moment, done: Done) -> Result<(), Mem>
     ensures { OnOk result ((known : FactsData) → Knows table.now done.conn known → items_in items.new ≡ items_in items.old ++ opening_items t done known) }
 {
@@ -130,6 +135,7 @@ pub fn give_gaps(
 }
 
 /// A unit of a connection, as it is told.
+#[inline(always)]
 fn what_freed(conn: ConnNo, facts: Facts, freed: Freed) -> What
     ensures { result ≡ what_said conn facts freed.side freed.unit }
 {
@@ -159,6 +165,7 @@ fn what_freed(conn: ConnNo, facts: Facts, freed: Freed) -> What
 }
 
 /// Adds a unit of a live connection, with what is known of it.
+#[inline(never)]
 fn give_unit(
     items: &mut Waiting,
     table: &Table,
@@ -191,6 +198,7 @@ pub fn give_units(
 }
 
 /// Adds the items of a segment behind the units.
+#[inline(always)]
 pub fn give_endings(items: &mut Waiting, table: &Table, t: Moment, done: Done) -> Result<(), Mem>
     ensures { OnOk result ((known : FactsData) → Knows table.now done.conn known → items_in items.new ≡ items_in items.old ++ ending_items t done known) }
 {

@@ -14,12 +14,11 @@ use zk_base::{ConnNo, Mem, Moment, Side};
 use zk_conn::{Facts, Removed};
 use zk_units::{Freed, StreamUnit};
 
-/// What happens to a connection.
+/// What happens to a connection, where that takes no more words than a side.
 #[derive(Clone, Copy, Debug, PartialEq, Eq)]
 enum Event {
     Opened,
     Established,
-    Gap { side: Side, from: u64, length: u64 },
     Ended(Side),
     GaveUp(Side),
     Reset,
@@ -33,13 +32,6 @@ fn what(event: Event, conn: ConnNo, facts: Facts) -> What
     match event {
         Event::Opened => What::Opened { conn, facts },
         Event::Established => What::Established { conn, facts },
-        Event::Gap { side, from, length } => What::Gap {
-            conn,
-            facts,
-            side,
-            from,
-            length,
-        },
         Event::Ended(side) => What::Ended { conn, facts, side },
         Event::GaveUp(side) => What::GaveUp { conn, facts, side },
         Event::Reset => What::Reset { conn, facts },
@@ -113,6 +105,34 @@ pub fn give_opening(items: &mut Waiting, table: &Table, t: Moment, done: Done) -
     )
 }
 
+/// Adds a gap of a live connection, with what is known of it.
+#[inline(never)]
+fn give_gap(
+    items: &mut Waiting,
+    table: &Table,
+    t: Moment,
+    conn: ConnNo,
+    gap: Gap,
+) -> Result<(), Mem>
+    ensures { OnOk result ((known : FactsData) → Knows table.now conn known → items_in items.new ≡ items_in items.old ++ gap_item t conn known gap ∷ []) }
+{
+    let Gap { side, from, length } = gap;
+    match table.facts(conn) {
+        Some(facts) => give(
+            items,
+            t,
+            What::Gap {
+                conn,
+                facts,
+                side,
+                from,
+                length,
+            },
+        ),
+        None => Ok(()),
+    }
+}
+
 /// Adds the gaps.
 pub fn give_gaps(
     items: &mut Waiting,
@@ -124,12 +144,7 @@ pub fn give_gaps(
     ensures { OnOk result ((known : FactsData) → Knows table.now conn known → items_in items.new ≡ items_in items.old ++ map (gap_item t conn known) gaps.now) }
 {
     for gap in gaps {
-        let event = Event::Gap {
-            side: gap.side,
-            from: gap.from,
-            length: gap.length,
-        };
-        give_event(items, table, t, conn, event)?;
+        give_gap(items, table, t, conn, *gap)?;
     }
     Ok(())
 }

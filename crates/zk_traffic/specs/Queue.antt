@@ -22,7 +22,6 @@ use Rattle.zk_traffic.specs.Table.{HasLive, Holds}
 abbrev pub what_of : Event → ConnNo → Facts → What
 what_of event.Opened conn known = what.Opened conn known
 what_of event.Established conn known = what.Established conn known
-what_of (event.Gap side from length) conn known = what.Gap conn known side from length
 what_of (event.Ended side) conn known = what.Ended conn known side
 what_of (event.GaveUp side) conn known = what.GaveUp conn known side
 what_of event.Reset conn known = what.Reset conn known

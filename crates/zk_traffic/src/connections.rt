@@ -129,14 +129,14 @@ impl Connections {
     }
 
     /// Takes a segment, where there is one.
-    pub fn take_some(&mut self, t: Moment, segment: Option<Segment<'_>>) -> Result<(), Mem>
+    pub fn take_some(&mut self, t: Moment, segment: &Option<Segment<'_>>) -> Result<(), Mem>
         requires early { pos 0 ≤ℤ t.0 }
         requires late { t.0 ≤ℤ pos (2 ^ 62) }
         ensures { OnOk result ((limit : ℕ) (segments : List SegmentData) → IsCurrent self.old.table limit segments t → runs_of self.old.news ≡ [] → self.old.news.gaps.items ≡ [] → self.old.news.units.items ≡ []
-            → TakesSome limit segments (option_map (segment_of t) segment.entry) t self.old self.new) }
+            → TakesSome limit segments (option_map (segment_of t) segment.now) t self.old self.new) }
     {
         match segment {
-            Some(segment) => self.take(t, &segment),
+            Some(segment) => self.take(t, segment),
             None => Ok(()),
         }
     }

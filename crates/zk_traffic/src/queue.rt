@@ -14,31 +14,24 @@ use zk_base::{ConnNo, Mem, Moment, Side};
 use zk_conn::{Facts, Removed};
 use zk_units::{Freed, StreamUnit};
 
-/// What happens to a connection.
+/// What happens to a connection, where that takes no more words than a side.
 #[derive(Clone, Copy, Debug, PartialEq, Eq)]
 enum Event {
     Opened,
     Established,
-    Gap { side: Side, from: u64, length: u64 },
     Ended(Side),
     GaveUp(Side),
     Reset,
 }
 
 /// What happens to a connection, as it is told.
+#[inline(always)]
 fn what(event: Event, conn: ConnNo, facts: Facts) -> What
     ensures { result ≡ what_of event conn facts }
 {
     match event {
         Event::Opened => What::Opened { conn, facts },
         Event::Established => What::Established { conn, facts },
-        Event::Gap { side, from, length } => What::Gap {
-            conn,
-            facts,
-            side,
-            from,
-            length,
-        },
         Event::Ended(side) => What::Ended { conn, facts, side },
         Event::GaveUp(side) => What::GaveUp { conn, facts, side },
         Event::Reset => What::Reset { conn, facts },
@@ -46,6 +39,7 @@ fn what(event: Event, conn: ConnNo, facts: Facts) -> What
 }
 
 /// Adds an item.
+#[inline(always)]
 pub fn give(items: &mut Waiting, moment: Moment, what: What) -> Result<(), Mem>
     ensures { OnOk result (items_in items.new ≡ items_in items.old ++ item moment what ∷ []) }
 {
@@ -61,6 +55,7 @@ pub fn give_removed(items: &mut Waiting, removed: Removed) -> Result<(), Mem>
 }
 
 /// Adds an item of a live connection, with what is known of it.
+#[inline(never)]
 fn give_event(
     items: &mut Waiting,
     table: &Table,
@@ -77,6 +72,7 @@ fn give_event(
 }
 
 /// Adds an item of a live connection where it happens.
+#[inline(always)]
 fn give_if(
     items: &mut Waiting,
     table: &Table,
@@ -94,6 +90,7 @@ fn give_if(
 }
 
 /// Adds the items of a segment ahead of the gaps.
+#[inline(always)]
 pub fn give_opening(items: &mut Waiting, table: &Table, t: Moment, done: Done) -> Result<(), Mem>
     ensures { OnOk result ((known : FactsData) → Knows table.now done.conn known → items_in items.new ≡ items_in items.old ++ opening_items t done known) }
 {
@@ -108,6 +105,34 @@ pub fn give_opening(items: &mut Waiting, table: &Table, t: Moment, done: Done) -
     )
 }
 
+/// Adds a gap of a live connection, with what is known of it.
+#[inline(never)]
+fn give_gap(
+    items: &mut Waiting,
+    table: &Table,
+    t: Moment,
+    conn: ConnNo,
+    gap: Gap,
+) -> Result<(), Mem>
+    ensures { OnOk result ((known : FactsData) → Knows table.now conn known → items_in items.new ≡ items_in items.old ++ gap_item t conn known gap ∷ []) }
+{
+    let Gap { side, from, length } = gap;
+    match table.facts(conn) {
+        Some(facts) => give(
+            items,
+            t,
+            What::Gap {
+                conn,
+                facts,
+                side,
+                from,
+                length,
+            },
+        ),
+        None => Ok(()),
+    }
+}
+
 /// Adds the gaps.
 pub fn give_gaps(
     items: &mut Waiting,
@@ -119,17 +144,13 @@ pub fn give_gaps(
     ensures { OnOk result ((known : FactsData) → Knows table.now conn known → items_in items.new ≡ items_in items.old ++ map (gap_item t conn known) gaps.now) }
 {
     for gap in gaps {
-        let event = Event::Gap {
-            side: gap.side,
-            from: gap.from,
-            length: gap.length,
-        };
-        give_event(items, table, t, conn, event)?;
+        give_gap(items, table, t, conn, *gap)?;
     }
     Ok(())
 }
 
 /// A unit of a connection, as it is told.
+#[inline(always)]
 fn what_freed(conn: ConnNo, facts: Facts, freed: Freed) -> What
     ensures { result ≡ what_said conn facts freed.side freed.unit }
 {
@@ -159,6 +180,7 @@ fn what_freed(conn: ConnNo, facts: Facts, freed: Freed) -> What
 }
 
 /// Adds a unit of a live connection, with what is known of it.
+#[inline(never)]
 fn give_unit(
     items: &mut Waiting,
     table: &Table,
@@ -191,6 +213,7 @@ pub fn give_units(
 }
 
 /// Adds the items of a segment behind the units.
+#[inline(always)]
 pub fn give_endings(items: &mut Waiting, table: &Table, t: Moment, done: Done) -> Result<(), Mem>
     ensures { OnOk result ((known : FactsData) → Knows table.now done.conn known → items_in items.new ≡ items_in items.old ++ ending_items t done known) }
 {

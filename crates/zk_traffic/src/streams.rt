@@ -210,6 +210,7 @@ fn begin(
 }
 
 /// Tells the sender's stream of a segment. How it has moved, and whether it gave up.
+#[inline(always)]
 fn send(
     stream: &mut Option<Stream>,
     conn: ConnNo,
@@ -258,7 +259,7 @@ fn take_payload(
         return Ok(false);
     }
     let gave_up = put(stream, segment)?;
-    drain(stream, conn, side, front, readers, news)?;
+    catch_up(stream, conn, side, front, readers, news)?;
     Ok(gave_up)
 }
 
@@ -281,6 +282,7 @@ fn pass_on<'a>(stream: &mut Stream, segment: &Segment<'a>) -> Option<&'a [u8]>
 }
 
 /// Tells the receiver's stream of a segment. How it has moved.
+#[inline(always)]
 fn acknowledge(
     stream: &mut Option<Stream>,
     conn: ConnNo,
@@ -300,7 +302,7 @@ fn acknowledge(
     let had_ended = stream.ended();
     stop_if(stream, stops.resets);
     acknowledge_by(stream, segment);
-    drain(stream, conn, side, front, readers, news)?;
+    catch_up(stream, conn, side, front, readers, news)?;
     end_if(readers, side, stream.ended());
     Ok(moved_from(stream, front, had_ended))
 }
@@ -383,7 +385,27 @@ fn end_if(readers: &mut Reading, side: Side, ended: bool)
     }
 }
 
+/// Takes all places of a stream from its old front to its new one: none where it has not moved.
+#[inline(always)]
+fn catch_up(
+    stream: &mut Stream,
+    conn: ConnNo,
+    side: Side,
+    front: u64,
+    readers: &mut Reading,
+    news: &mut News,
+) -> Result<(), Mem>
+    ensures { OnOk result ((base limit : ℕ) (told : List Told) → StandsFor stream.old base limit told front → front ≤ front_of base limit told
+        → IsDrained conn side base limit told front stream.new news.old news.new readers.old readers.new) }
+{
+    if stream.front() <= front {
+        return Ok(());
+    }
+    drain(stream, conn, side, front, readers, news)
+}
+
 /// Takes all places of a stream from its old front to its new one.
+#[inline(never)]
 fn drain(
     stream: &mut Stream,
     conn: ConnNo,

@@ -116,6 +116,7 @@ impl Table {
     }
 
     /// What is known of a connection, where it is live.
+    #[inline(always)]
     pub fn facts(&self, conn: ConnNo) -> Option<Facts>
         ensures { (limit : ℕ) (segments : List SegmentData) (gone : Key → Bool) (told : List Told) (key : Key) (c : Conversation) → Holds self.now limit segments gone told
             → HasLive limit segments gone key conn.0 c → result ≡ Some (facts c) }
@@ -229,6 +230,7 @@ impl Table {
     }
 
     /// Tells connections how a side's stream has moved. Whether the side's end becomes Fin.
+    #[inline(always)]
     fn tell(&mut self, conn: ConnNo, side: Side, moved: Moved) -> bool
         ensures streams { self.new.streams ≡ self.old.streams }
         ensures told { (told : List Told) (key : Key) → StandsFor self.old.conns told → IsLive told key conn.0
@@ -241,6 +243,7 @@ impl Table {
     }
 
     /// Tells connections the front of a side's stream, where it has moved.
+    #[inline(always)]
     fn tell_front(&mut self, conn: ConnNo, side: Side, front: Option<u64>)
         ensures streams { self.new.streams ≡ self.old.streams }
         ensures told { (told : List Told) (key : Key) → StandsFor self.old.conns told → IsLive told key conn.0
@@ -252,6 +255,7 @@ impl Table {
     }
 
     /// Tells connections the front of a side's stream.
+    #[inline(never)]
     fn set_front(&mut self, conn: ConnNo, side: Side, front: u64)
         ensures streams { self.new.streams ≡ self.old.streams }
         ensures told { (told : List Told) (key : Key) → StandsFor self.old.conns told → IsLive told key conn.0
@@ -263,6 +267,7 @@ impl Table {
     }
 
     /// Tells connections that a side's stream has reached its FIN. Whether the side's end becomes Fin.
+    #[inline(never)]
     fn tell_end(&mut self, conn: ConnNo, side: Side) -> bool
         ensures streams { self.new.streams ≡ self.old.streams }
         ensures told { (told : List Told) (key : Key) → StandsFor self.old.conns told → IsLive told key conn.0

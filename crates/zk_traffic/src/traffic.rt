@@ -215,7 +215,7 @@ impl Traffic {
             return self.take_fragment(ip);
         }
         let segment = segment_in(&self.options, ip, ip.payload(), ip.full_len());
-        self.connections.take_some(self.time, segment)
+        self.connections.take_some(self.time, &segment)
     }
 
     /// Takes a fragment, and the datagram that it makes whole.
@@ -229,7 +229,7 @@ impl Traffic {
             Joined::Whole => {
                 let whole = self.frags.whole();
                 let segment = segment_in(&self.options, ip, whole, whole.len());
-                self.connections.take_some(self.time, segment)
+                self.connections.take_some(self.time, &segment)
             }
         }
     }

@@ -55,6 +55,7 @@ impl Waiting {
     }
 
     /// Adds an item.
+    #[inline(always)]
     pub fn push(&mut self, item: Item) -> Result<(), Mem>
         ensures { OnOk result (items_in self.new ≡ items_in self.old ++ item ∷ []) }
     {

@@ -14,7 +14,7 @@ unfolding no_gap
 loop-gap-preserved c = λ known knows.
     let f = gap_item c.args.t c.args.conn known in
     let gap = get_or c.args.gaps.now c.loop-gap.gap-index no_gap in
-    c.in_ok-give_event.ensures known knows
+    c.in_ok-give_gap.ensures known knows
     ∙ ap (λ l. l ++ f gap ∷ []) (c.loop-gap.invariant known knows)
     ∙ append_assoc (items_in c.args.items.now) (map f (take c.loop-gap.gap-index c.args.gaps.now)) (f gap ∷ [])
     ∙ ap (λ l. items_in c.args.items.now ++ l) (sym (map-append f (take c.loop-gap.gap-index c.args.gaps.now) (gap ∷ [])))

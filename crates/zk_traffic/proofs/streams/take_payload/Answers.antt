@@ -27,7 +27,7 @@ returns-in-Some-clause-gave_up c = λ t base limit taken told stands. sym (c.in-
 pub returns-clause-drained : goal.returns-clause-drained
 returns-clause-drained c = λ t base limit told stands within.
     let more = sent_told (segment_of t c.args.segment.now) in
-    c.in_ok-drain.ensures base limit (told ++ more)
+    c.in_ok-catch_up.ensures base limit (told ++ more)
     (c.in_ok-gave_up.ensures.told t base limit c.args.front told (subst (λ (s : Stream). StandsFor s base limit told c.args.front) (sym c.in_default.ensures.same) stands))
     (omega (arith, within, front_never_falls base limit told more))
 

@@ -1,4 +1,4 @@
-use Rattle.std.proofs.Common.{[], length, ◌-◌, ◌/◌, ◌<◌, sym, ◌∙◌, arith}
+use Rattle.std.proofs.Common.{[], sym, ◌∙◌, arith}
 use Rattle.zk_conn.proofs.RemovalLemmas.{higher_length, raised_enough, raised_top, raised_up}
 use Rattle.zk_conn.proofs.removals.raise.Goals as goal
 

@@ -1,4 +1,4 @@
-ghost use Rattle.std.specs.Prelude.{◌≡◌, IfOk, IfErr};
+ghost use Rattle.std.specs.Prelude.{◌≡◌, All, IsUtf8, IfOk, IfErr};
 ghost use Rattle.std.specs.Vec.Iter.{into_iter_items};
 ghost use Rattle.zeekoff.specs.Arguments.{exit_status, words_behind_name};
 
@@ -52,9 +52,12 @@ impl From<AllocError> for ArgumentFault {
     }
 }
 
-/// The words of the command line, without the program's own name.
-pub fn words<R: Env + AllocGlobal>(rt: &R) -> Result<Vec<Word>, ArgumentFault> {
-    words_of(rt.alloc(), env::args(rt)?)
+/// The words of the command line, without the program's own name. All are texts.
+pub fn words<R: Env + AllocGlobal>(rt: &R) -> Result<Vec<Word>, ArgumentFault>
+    ensures texts { IfOk result (λ words. All IsUtf8 words.items) }
+{
+    let arguments = env::args(rt)?;
+    words_of(rt.alloc(), arguments)
 }
 
 /// The words of some arguments, of which the first is the program's name.

@@ -2,7 +2,7 @@ ghost use Rattle.std.specs.Prelude.{◌≡◌, ◌≢◌, ◌↔◌, ◌<◌, le
 ghost use Rattle.std.specs.IoError.{error_kind};
 ghost use Rattle.std.specs.Str.{IsUtf8};
 ghost use Rattle.std.specs.Io.{ReadsAtMost};
-ghost use Rattle.std.specs.Io.KnownBytes.{Consumes, Keeps, IsAtEnd};
+ghost use Rattle.std.specs.Io.KnownBytes.{Appends, Consumes, Keeps, IsAtEnd};
 ghost use Rattle.zeekoff.specs.DirShelf.{started_of, CountsStart, CountsWrite};
 
 use std::fs::{File, Files};
@@ -44,7 +44,6 @@ impl<F: Files, O: Write, E: Write> DirShelf<F, O, E> {
 }
 
 impl<F: Files, O: Write, E: Write> Shelf for DirShelf<F, O, E> {
-    ghost use Rattle.std.specs.Io.KnownBytes.{Appends};
     ghost use Rattle.zk_base.specs.Shelf.{Starts, is_open, Reads, Creates, Puts, after_append, after_say, after_complaint};
     ghost use Rattle.zeekoff.specs.DirShelf.{untold, Takes};
 
@@ -106,7 +105,7 @@ impl<F: Files, O: Write, E: Write> Shelf for DirShelf<F, O, E> {
         ensures written { result ≡ Wrote.Done → Appends (O.contents self.old.out) (O.contents self.new.out) bytes.now }
         ensures rest { self.new ≡ record self.old { out = self.new.out; counts = self.new.counts } }
     {
-        let said = self.out.write_all(bytes);
+        let said = put_all(&mut self.out, bytes);
         wrote(said, &mut self.counts)
     }
 
@@ -115,7 +114,7 @@ impl<F: Files, O: Write, E: Write> Shelf for DirShelf<F, O, E> {
         ensures written { result ≡ Wrote.Done → Appends (E.contents self.old.err) (E.contents self.new.err) bytes.now }
         ensures rest { self.new ≡ record self.old { err = self.new.err; counts = self.new.counts } }
     {
-        let complained = self.err.write_all(bytes);
+        let complained = put_all(&mut self.err, bytes);
         wrote(complained, &mut self.counts)
     }
 }
@@ -184,7 +183,14 @@ fn append<F: Files>(files: &F, name: &[u8], bytes: &[u8]) -> io::Result<()>
     ensures { ¬ (IsUtf8 name.now) → IsErr result }
 {
     let mut file = File::options().append(true).open(files, path(name)?)?;
-    file.write_all(bytes)
+    put_all(&mut file, bytes)
+}
+
+/// Writes all bytes behind what a writer has. What it has of them after a fault isn't said.
+fn put_all<W: Write>(writer: &mut W, bytes: &[u8]) -> io::Result<()>
+    ensures written { IfOk result (λ _. Appends (W.contents writer.old) (W.contents writer.new) bytes.now) }
+{
+    writer.write_all(bytes)
 }
 
 /// Reads once, and again where a signal came between. After 2^64 - 1 signals it gives up, so that it

@@ -18,7 +18,7 @@ abbrev stand_on : Result Standing ℕ → ℕ → List (List ℕ) → Result Sta
 stand_on (Err place) number words = Err place
 stand_on (Ok so_far) number words = stand_from so_far number words
 
-abbrev goes_on : Option Standing → ℕ → List (List ℕ) → Result Standing ℕ
+abbrev pub goes_on : Option Standing → ℕ → List (List ℕ) → Result Standing ℕ
 goes_on found number words = elim found [
   | None ↦ Err number
   | Some more ↦ stand_from more (number + 1) words

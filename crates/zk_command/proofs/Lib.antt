@@ -1,1 +1,4 @@
 mod CommandLaws
+mod Numerals
+mod Rows
+mod SpellingLaws

@@ -1,3 +1,4 @@
 pub mod About
 pub mod Command
 pub mod Complaint
+pub mod Spelling

@@ -1,5 +1,7 @@
 ghost use Rattle.std.specs.Prelude.{◌≡◌, ◌<◌, ◌≤◌, ◌^◌, IfOk, IfSome, ◌↔◌, ◌++◌, List, ℕ, IsTrue, Ok, Err, MatchResult};
 ghost use Rattle.zk_command.specs.Command.{IsUnderstood, IsFirstNotUnderstood, begins, is_whole, is_file_name, number_in, number_from, number_to, start_max, count_max, once, with_option, with_script, with_word, run_on, verb, step, stand_from, settings_of, words_from, run_of, command_of, understand, command_seen};
+ghost use Rattle.zk_command.specs.Command.{Command as Asked};
+ghost use Rattle.zk_command.specs.Spelling.{Spells};
 ghost use Rattle.std.specs.Option.{option_map};
 
 use zk_base::Word;
@@ -393,4 +395,11 @@ pub fn command_line()
 
     // The word that is named is the least one with which the words begin no command, or else all words begin one.
     ensures first { (words : List (List ℕ)) (place : ℕ) → stand_from Standing.Nothing 0 words ≡ Err place → IsFirstNotUnderstood words place }
+{}
+
+/// Which words are which command, in the subject's own words. There is nothing to run.
+pub fn spelling()
+    // Words are understood as a command exactly where they are how it is written: its word, its options in any order
+    // and each once at most, their values, and the names of files in order.
+    ensures spelled { (words : List (List ℕ)) (command : Asked) → (understand words ≡ Ok command) ↔ Spells command words }
 {}

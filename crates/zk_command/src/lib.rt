@@ -6,5 +6,5 @@ mod command;
 mod complaint;
 
 pub use about::{help, version};
-pub use command::{BUDGET, BUFFER, Command, Settings, command_line, read_command};
+pub use command::{BUDGET, BUFFER, Command, Settings, command_line, read_command, spelling};
 pub use complaint::complaint_of;

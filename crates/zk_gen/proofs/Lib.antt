@@ -1,3 +1,4 @@
 pub mod ChecksumLaws
 pub mod ListLaws
 pub mod ConversationLaws
+mod Rows

@@ -1,3 +1,5 @@
 pub mod CaptureReading
+mod EarlyLaws
 pub mod OpenCapture
+mod Rows
 pub mod Said

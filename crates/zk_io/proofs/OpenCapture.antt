@@ -44,7 +44,7 @@ whole_rest None name = refl
 whole_rest (Some files) name = from_start (files name)
 
 -- all of it is left
-all_left : (old mid : Outside) (name : List ℕ) → OpensInput old name mid → rest_of mid ≡ lies_under old.inputs name
+pub all_left : (old mid : Outside) (name : List ℕ) → OpensInput old name mid → rest_of mid ≡ lies_under old.inputs name
 all_left old mid name opens = ap rest_of opens.after ∙ whole_rest old.inputs name
 
 sure_of : (read : Result Header CaptureFault) → is_short read ≡ false → IsSure read

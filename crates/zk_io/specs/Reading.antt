@@ -1,7 +1,7 @@
 -- How far the reading of an input has come, and of a capture in it.
-use Rattle.std.specs.Prelude.{◌≡◌, ◌⊎◌, ℕ, ◌+◌, ◌^◌, Bool, true, false, List, [], ◌∷◌, ◌++◌, length, Option, None, Result, Ok, Err, IsTrue, IsSome, IfSome}
+use Rattle.std.specs.Prelude.{◌≡◌, ◌⊎◌, ℕ, ◌+◌, ◌≤◌, ◌^◌, Bool, true, false, List, [], ◌∷◌, ◌++◌, length, Option, None, Result, Ok, Err, IsTrue, IsSome, IfSome}
 use Rattle.std.specs.Option.{is_some, option_map}
-use Rattle.zk_base.specs.Shelf.{Outside, is_open, rest_of, lies_under}
+use Rattle.zk_base.specs.Shelf.{Outside, Closed, is_open, rest_of, lies_under}
 use Rattle.zk_pcap.specs.declared.captures.Capture.{Capture}
 use Rattle.zk_pcap.specs.declared.captures.CaptureEnding.{CaptureEnding}
 use Rattle.zk_pcap.specs.declared.faults.CaptureFault.{CaptureFault}
@@ -12,13 +12,14 @@ use Rattle.zk_pcap.specs.Capture.{capture_of, end_from}
 use Rattle.zk_pcap.specs.Header.{header_of}
 use Rattle.zk_pcap.specs.Record.{record_at, is_too_long}
 use Rattle.zk_pcap.specs.Standing.{StandsFor, first_record}
-use Rattle.zk_base.specs.declared.endings.Ending.TheVariants.{CaptureRefused}
+use Rattle.zk_base.specs.declared.endings.Ending.TheVariants.{NoInput, CaptureRefused}
 use Rattle.zk_pcap.specs.CaptureFault.{place_of}
 use Rattle.zk_io.specs.declared.capture.CaptureReader.{CaptureReader}
 use Rattle.zk_load.specs.declared.found.Found.{Found}
 use Rattle.zk_load.specs.declared.found.Found.TheVariants.{Accepted, Refused}
 use Rattle.zk_io.specs.Opened.{opened}
 use Rattle.zk_load.specs.declared.stop.Stop.{Stop}
+use Rattle.zk_load.specs.declared.stop.Stop.TheVariants.{ReadFault, WriteFault, NoMemory}
 use Rattle.zk_load.specs.Parts.{DoesAll, DoesPart, Finds}
 
 -- the open input stays as it was
@@ -38,6 +39,32 @@ is_short (Err fault.Magic) = false
 is_short (Err fault.Version) = false
 is_short (Err fault.Link) = false
 is_short (Err fault.NoMemory) = false
+
+-- behind bytes among which some of the header are missing, one more piece was read at most
+pub record IsJustRead (most : ℕ) (front : List ℕ) : Type 0 where
+  pub before : List ℕ
+  pub piece : List ℕ
+  pub joined : front ≡ before ++ piece
+  pub short : is_short (header_of before) ≡ true
+  pub few : length piece ≤ most
+
+-- the front of an input was read so
+pub record HasJustRead (most : ℕ) (whole : Option (List ℕ)) (now : Outside) : Type 0 where
+  pub front : List ℕ
+  pub read : HasRead whole front now
+  pub soon : IsJustRead most front
+
+-- bytes of the header are missing among those that were read
+pub record LacksHeader (whole : Option (List ℕ)) (now : Outside) : Type 0 where
+  pub front : List ℕ
+  pub read : HasRead whole front now
+  pub short : is_short (header_of front) ≡ true
+
+-- An input stops the opening of a capture only where it can't be opened, or before its header is sure.
+abbrev pub IsStoppedEarly : Option (List ℕ) → Stop → Outside → Type 0
+IsStoppedEarly whole ReadFault now = (now.reading ≡ Closed) ⊎ LacksHeader whole now
+IsStoppedEarly whole WriteFault now = ⊥
+IsStoppedEarly whole NoMemory now = Unit {0}
 
 -- The reader has read these bytes of a capture with this header, and has gone on behind these packets.
 pub record IsReading (whole : Option (List ℕ)) (header : Header) (bytes : List ℕ) (packets : List Packet) (reader : CaptureReader) (now : Outside) : Type 0 where
@@ -106,6 +133,12 @@ pub record OpensCapture (name : List ℕ) (old : Outside) (reader : CaptureReade
 abbrev pub FindsCapture : List ℕ → Outside → Found CaptureReader → Outside → Type 0
 FindsCapture name old (Accepted reader) new = OpensCapture name old reader new
 FindsCapture name old (Refused ending) new = Finds {X = Capture} name (opened name) old (Refused ending) new
+
+-- the header of a capture that is there is judged as soon as it is sure
+abbrev pub IsFoundSoon : ℕ → Option (List ℕ) → Found CaptureReader → Outside → Type 0
+IsFoundSoon most whole (Accepted reader) now = HasJustRead most whole now
+IsFoundSoon most whole (Refused (NoInput name)) now = Unit {0}
+IsFoundSoon most whole (Refused ending) now = HasJustRead most whole now
 
 -- an accepted capture lies in an open input
 abbrev pub IsOpen : Found CaptureReader → Outside → Type 0

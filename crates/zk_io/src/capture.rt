@@ -1,5 +1,5 @@
 ghost use Rattle.std.specs.Prelude.{◌≡◌, ◌≢◌, ◌⊎◌, ◌+◌, ◌≤◌, ◌<◌, ◌++◌, ◌∷◌, [], ℕ, List, Option, true, false, length, Some, None, Ok, Err, IsTrue, IfSome, IfOk, OnOk, IfErr};
-ghost use Rattle.zk_base.specs.Shelf.{Outside, is_open, rest_of};
+ghost use Rattle.zk_base.specs.Shelf.{Outside, is_open, lies_under, rest_of};
 ghost use Rattle.zk_pcap.specs.Capture.{capture_of, end_from};
 ghost use Rattle.zk_pcap.specs.Header.{header_of};
 ghost use Rattle.zk_pcap.specs.Record.{IsBounded, record_at};
@@ -35,7 +35,7 @@ pub struct CaptureReader {
 }
 
 impl CaptureReader {
-    ghost use Rattle.zk_io.specs.Reading.{FindsCapture, HasRead, IsCapture, IsJudged, IsOpen, IsReading, IsReadThrough, has_ended, has_next};
+    ghost use Rattle.zk_io.specs.Reading.{FindsCapture, HasRead, IsCapture, IsFoundSoon, IsJudged, IsOpen, IsReading, IsReadThrough, IsStoppedEarly, has_ended, has_next};
 
     /// Opens the capture in a file, or says how a run ends where there is none: as `NoInput` where no
     /// such file is there, as `CaptureRefused` with the place of the fault where its header is refused.
@@ -52,6 +52,8 @@ impl CaptureReader {
         requires small { length chunk.old ≤ CHUNK }
         ensures found { IfOk result (λ found. FindsCapture file.now (S.outside shelf.old) found (S.outside shelf.new)) }
         ensures input { IfOk result (λ found. IsOpen found (S.outside shelf.new)) }
+        ensures soon { IfOk result (λ found. IsFoundSoon (length chunk.old) (lies_under (S.outside shelf.old).inputs file.now) found (S.outside shelf.new)) }
+        ensures early { IfErr result (λ stop. IsStoppedEarly (lies_under (S.outside shelf.old).inputs file.now) stop (S.outside shelf.new)) }
         ensures stopped { IfErr result (λ stop. DoesPart (file.now ∷ []) [] [] (S.outside shelf.old) stop (S.outside shelf.new)) }
     {
         let name = Bytes::copy_of(alloc, file)?;

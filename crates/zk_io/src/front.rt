@@ -2,7 +2,7 @@ ghost use Rattle.std.specs.Prelude.{◌≡◌, ◌⊎◌, ◌+◌, ◌≤◌, �
 ghost use Rattle.zk_base.specs.Shelf.{is_open, rest_of};
 ghost use Rattle.zk_pcap.specs.Header.{header_of};
 ghost use Rattle.zk_load.specs.Parts.{DoesAll, DoesPart};
-ghost use Rattle.zk_io.specs.Reading.{HasRead, is_short};
+ghost use Rattle.zk_io.specs.Reading.{HasRead, IsJustRead, IsStoppedEarly, is_short};
 
 use std::alloc::Global;
 use zk_base::{Bytes, Got, Shelf};
@@ -18,6 +18,8 @@ pub fn read_front<S: Shelf>(alloc: Global, shelf: &mut S, chunk: &mut [u8]) -> R
     ensures front { IfOk result (λ front. HasRead (rest_of (S.outside shelf.old)) front (S.outside shelf.new)) }
     ensures judged { IfOk result (λ front. (is_short (header_of front) ≡ false) ⊎ IfSome (rest_of (S.outside shelf.new)) (λ rest. rest ≡ [])) }
     ensures short { IfOk result (λ front. length front ≤ 23 + length chunk.old) }
+    ensures soon { IfOk result (λ front. IsJustRead (length chunk.old) front) }
+    ensures early { IfErr result (λ stop. IsStoppedEarly (rest_of (S.outside shelf.old)) stop (S.outside shelf.new)) }
     ensures stopped { IfErr result (λ stop. DoesPart [] [] [] (S.outside shelf.old) stop (S.outside shelf.new)) }
 {
     let mut front = Bytes::new(alloc);

@@ -1,6 +1,7 @@
-use Rattle.std.proofs.Common.{◌≡◌, ◌+◌, ◌<◌, ℕ, List, ◌++◌, length, take, refl, ap, ◌∙◌, arith, length-append, length-take-le}
+use Rattle.std.proofs.Common.{◌≡◌, ◌+◌, ◌<◌, ℕ, List, ◌++◌, length, take, refl, sym, ap, ◌∙◌, arith, length-append, length-take-le}
 use Rattle.std.proofs.lemmas.Result.{err_from_is_err_and}
 use Rattle.zk_load.proofs.SoFar.{read_more, stopped_for_memory, stopped_by_input}
+use Rattle.zk_io.proofs.EarlyLaws.{failed_early}
 use Rattle.zk_io.proofs.front.read_front.Goals as goal
 
 pub loop-shelf-smaller : goal.loop-shelf-smaller
@@ -20,8 +21,20 @@ loop-shelf-preserved g c =
     record {
       far = read_more (g.S.Shelf.outside c.args.shelf.now) (g.S.Shelf.outside c.loop-shelf.shelf) (g.S.Shelf.outside c.read.new.self) c.loop-shelf.front c.append.new.self
           c.loop-shelf.chunk c.read.new.buf c.in-Bytes.n c.loop-shelf.invariant.far c.in-Bytes.ensures.leaves c.in_ok-append-in-Bytes.ensures.ok;
+      soon = record {
+        before = c.loop-shelf.front;
+        piece = take c.in-Bytes.n c.read.new.buf;
+        joined = c.in_ok-append-in-Bytes.ensures.ok;
+        short = rw (← c.as_slice.ensures) (sym c.is_undecided.ensures.undecided ∙ c.loop-shelf-test.true);
+        few = omega (arith, length-take-le c.in-Bytes.n c.read.new.buf (omega (arith, c.in-Bytes.ensures.leaves.within)), c.in-Bytes.ensures.leaves.within);
+      };
       short = omega (arith, few, grown, c.in-Bytes.ensures.leaves.within);
     }
+
+pub returns-in_err-append-in-Bytes-clause-early : goal.returns-in_err-append-in-Bytes-clause-early
+returns-in_err-append-in-Bytes-clause-early g c =
+    let p = err_from_is_err_and c.from_residual.result c.from_residual.ensures.1 in
+    rw (p.1, p.2) tt
 
 pub returns-in_err-append-in-Bytes-clause-stopped : goal.returns-in_err-append-in-Bytes-clause-stopped
 returns-in_err-append-in-Bytes-clause-stopped g c =
@@ -36,3 +49,8 @@ returns-in_err-append-in-Bytes-clause-stopped g c =
 pub returns-in-Failed-clause-stopped : goal.returns-in-Failed-clause-stopped
 returns-in-Failed-clause-stopped g c =
     stopped_by_input (g.S.Shelf.outside c.args.shelf.now) (g.S.Shelf.outside c.loop-shelf.shelf) (g.S.Shelf.outside c.read.new.self) c.loop-shelf.front c.loop-shelf.invariant.far c.in-Failed.ensures.leaves
+
+pub returns-in-Failed-clause-early : goal.returns-in-Failed-clause-early
+returns-in-Failed-clause-early g c =
+    failed_early (g.S.Shelf.outside c.args.shelf.now) (g.S.Shelf.outside c.loop-shelf.shelf) (g.S.Shelf.outside c.read.new.self) c.loop-shelf.front c.loop-shelf.invariant.far c.in-Failed.ensures.leaves
+    (rw (← c.as_slice.ensures) (sym c.is_undecided.ensures.undecided ∙ c.loop-shelf-test.true))

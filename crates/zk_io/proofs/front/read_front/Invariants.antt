@@ -1,10 +1,12 @@
 use Rattle.std.proofs.Common.{◌+◌, ◌-◌, ◌≤◌, length}
 use Rattle.zk_load.proofs.SoFar.{IsReadSoFar}
+use Rattle.zk_io.specs.Reading.{IsJustRead}
 use Rattle.zk_io.proofs.front.read_front.Given as goal
 
 abbrev pub invariant-loop-shelf : goal.invariant-loop-shelf
 invariant-loop-shelf g l = record {
   far : IsReadSoFar (g.S.Shelf.outside l.initial.shelf) l.front (g.S.Shelf.outside l.shelf);
+  soon : IsJustRead (length l.chunk) l.front;
   short : length l.front ≤ 23 + length l.chunk;
 }
 

@@ -1,11 +1,13 @@
-use Rattle.std.proofs.Common.{[], ◌∷◌, refl, sym, subst}
+use Rattle.std.proofs.Common.{[], ◌∷◌, length, refl, sym, subst}
 use Rattle.std.proofs.lemmas.Result.{err_from_is_err_and}
+use Rattle.zk_base.specs.Shelf.{lies_under}
 use Rattle.zk_base.specs.declared.endings.Ending.TheVariants.{NoInput}
 use Rattle.zk_load.specs.declared.found.Found.TheVariants.{Refused}
 use Rattle.zk_io.specs.Reading.{FindsCapture, IsJudged}
 use Rattle.zk_load.specs.declared.stop.Stop.TheVariants.{NoMemory}
 use Rattle.zk_load.proofs.Doing.{out_of_memory, start_part, start_all, does_both_all, does_both_part}
 use Rattle.zk_io.proofs.OpenCapture.{open_input, found_by, found_absent, open_by}
+use Rattle.zk_io.proofs.EarlyLaws.{failed_start, stopped_early, found_soon}
 use Rattle.zk_io.proofs.capture.CaptureReader.open.Goals as goal
 
 pub returns-in_err-name-clause-stopped : goal.returns-in_err-name-clause-stopped
@@ -63,3 +65,34 @@ returns-in-Failed-clause-stopped g c =
 pub returns-in-NoMemory-clause-stopped : goal.returns-in-NoMemory-clause-stopped
 returns-in-NoMemory-clause-stopped g c =
     out_of_memory (c.args.file.now ∷ []) [] [] (g.S.Shelf.outside c.args.shelf.now) (g.S.Shelf.outside c.start.new.self) c.in-NoMemory.ensures.leaves
+
+pub returns-in_err-name-clause-early : goal.returns-in_err-name-clause-early
+returns-in_err-name-clause-early g c =
+    let p = err_from_is_err_and c.from_residual.result c.from_residual.ensures.1 in
+    rw (p.1, p.2) tt
+
+pub returns-in_err-front-in-Open-clause-early : goal.returns-in_err-front-in-Open-clause-early
+returns-in_err-front-in-Open-clause-early g c =
+    let exit = c.from_residual-in_err-front-in-Open in
+    let p = err_from_is_err_and exit.result exit.ensures.1 in
+    rw (p.1, p.2) (stopped_early c.args.file.now (g.S.Shelf.outside c.args.shelf.now) (g.S.Shelf.outside c.start.new.self) (g.S.Shelf.outside c.read_front.new.shelf) c.in_err-front-in-Open.field-0.0
+    c.in-Open.ensures.leaves c.in_err-front-in-Open.ensures.early)
+
+pub returns-in_err-judge-in-Open-clause-early : goal.returns-in_err-judge-in-Open-clause-early
+returns-in_err-judge-in-Open-clause-early g c =
+    let exit = c.from_residual-in_err-judge-in-Open in
+    let p = err_from_is_err_and exit.result exit.ensures.1 in
+    rw (p.1, p.2) tt
+
+pub returns-in_ok-judge-in-Open-clause-soon : goal.returns-in_ok-judge-in-Open-clause-soon
+returns-in_ok-judge-in-Open-clause-soon g c =
+    let found = c.in_ok-judge-in-Open.field-0 in
+    let front = c.in_ok-front-in-Open.front in
+    let judges = subst (λ name. IsJudged name front found) c.in_ok-name.ensures (subst (λ bytes. IsJudged c.in_ok-name.name bytes found) c.as_slice.ensures c.in_ok-judge-in-Open.ensures) in
+    found_soon c.args.file.now front (length c.args.chunk.now) (g.S.Shelf.outside c.args.shelf.now) (g.S.Shelf.outside c.start.new.self) (g.S.Shelf.outside c.read_front.new.shelf) found
+    c.in-Open.ensures.leaves c.in_ok-front-in-Open.ensures.front c.in_ok-front-in-Open.ensures.soon judges
+
+pub returns-in-Failed-clause-early : goal.returns-in-Failed-clause-early
+returns-in-Failed-clause-early g c =
+    let old = g.S.Shelf.outside c.args.shelf.now in
+    failed_start c.args.file.now (lies_under old.inputs c.args.file.now) old (g.S.Shelf.outside c.start.new.self) c.in-Failed.ensures.leaves

@@ -10,7 +10,7 @@ pub returns : goal.returns
 returns c whole now read =
     let bytes = c.args.front.now in
     let has : HasHeader bytes c.args.header = header_of-found bytes (Ok c.args.header) (sym c.requires.header) in
-    let front = c.in_ok-feed.ensures (take 24 bytes) (length-take-le 24 bytes has.whole) in
+    let front = c.in_ok-feed.ensures.stands (take 24 bytes) (length-take-le 24 bytes has.whole) in
     let piece = take (length bytes - 24) (drop 24 bytes) in
     let join : take 24 bytes ++ piece ≡ bytes =
     ap (λ rest. take 24 bytes ++ rest) (take_all (length bytes - 24) (drop 24 bytes) (omega (arith, length-drop 24 bytes))) ∙ take-append-drop 24 bytes in

@@ -8,7 +8,7 @@ use Rattle.zk_top.proofs.listing.Listing.new.Goals as goal
 
 pub returns : goal.returns
 returns c first = record {
-  stands = c.in_ok-new.ensures;
+  stands = c.in_ok-new.ensures.stands;
   begins = prefix_none (items_of list_options c.args.link [] _);
   says = subst (λ piece. HasSaid first [] piece first) (sym c.in_ok-with_capacity.ensures.items) (said_nothing first);
 }

@@ -21,11 +21,11 @@ use Rattle.zk_conn.specs.Told.{Told, Packet, Front, Reached, Removal, Ending}
 
 -- the end that began it
 abbrev pub originator_in : Instance → Endpoint
-originator_in instance = if instance.is_low then low_end instance.key else high_end instance.key
+originator_in instance = if instance.originator_is_low then low_end instance.key else high_end instance.key
 
 -- the other end
 abbrev pub responder_in : Instance → Endpoint
-responder_in instance = if instance.is_low then high_end instance.key else low_end instance.key
+responder_in instance = if instance.originator_is_low then high_end instance.key else low_end instance.key
 
 -- the instance has what is known of a connection that began so, by these events
 pub record Has (first : Opening) (instance : Instance) (events : List Told) : Type 0 where

@@ -41,7 +41,7 @@ pub struct Instance {
     pub resp: Half,
     pub history: History,
     /// The originator is the low end of the key, and else the high one.
-    pub is_low: bool,
+    pub originator_is_low: bool,
 }
 
 impl Instance {
@@ -65,26 +65,26 @@ impl Instance {
             orig: Half::new(),
             resp: Half::new(),
             history: History::new(),
-            is_low: is_answer == to.is_before(&from),
+            originator_is_low: is_answer == to.is_before(&from),
         }
     }
 
-    /// The end that began it.
+    /// The originator, which began the connection.
     pub fn originator(&self) -> Endpoint
         ensures { result ≡ originator_in self.now }
     {
-        if self.is_low {
+        if self.originator_is_low {
             self.key.low()
         } else {
             self.key.high()
         }
     }
 
-    /// The other end.
+    /// The responder, the other end.
     pub fn responder(&self) -> Endpoint
         ensures { result ≡ responder_in self.now }
     {
-        if self.is_low {
+        if self.originator_is_low {
             self.key.high()
         } else {
             self.key.low()
@@ -95,7 +95,7 @@ impl Instance {
     pub fn side_of(&self, p: &L4View) -> Side
         ensures { result ≡ side_of (originator_in self.now) p.now }
     {
-        let is_originator = if self.is_low {
+        let is_originator = if self.originator_is_low {
             self.key.low_sends(p)
         } else {
             self.key.high_sends(p)

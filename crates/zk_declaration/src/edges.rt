@@ -9,10 +9,9 @@ ghost use Rattle.zk_declaration.specs.Edges.{edges_at, kind_of, kinds, only, red
 use std::alloc::Global;
 use zk_base::{Mem, RecordNo};
 use zk_names::{FieldInfo, Home, Names, Stated, named_record, record_count};
-use zk_operator::copied_type;
 use zk_tree::{Decl, Field, Name};
-use zk_typed::Refusal;
 use zk_typed::script::ValueType;
+use zk_typed::{Refusal, copied_type};
 
 /// A field: the record type that has it, by its number, and its type.
 #[derive(Drop)]

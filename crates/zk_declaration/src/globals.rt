@@ -19,12 +19,10 @@ use crate::values::{Given, Values};
 use std::alloc::Global;
 use zk_base::Mem;
 use zk_names::{Declared, Home, Meant, Signature, place_in};
-use zk_operator::{
-    Attributes, attr_rules, copied_type, global_attribute, is_made, same_type, same_types,
-};
+use zk_operator::{Attributes, attr_rules, global_attribute, is_made, same_type, same_types};
 use zk_tree::{Attr, Expr, Lasting, Place, Redefining};
 use zk_typed::script::{SimpleType, ValueType};
-use zk_typed::{Refusal, Rule, one_broken};
+use zk_typed::{Refusal, Rule, copied_type, one_broken};
 
 /// The type of intervals.
 const INTERVAL: ValueType = ValueType::Simple(SimpleType::Interval);

@@ -17,10 +17,10 @@ use sqlite_items::at;
 use zk_base::Mem;
 use zk_expression::GlobalType;
 use zk_names::{Declared, Home, Kind, Meant, has_attr, place_in};
-use zk_operator::{Wanted, added_type, copied_type};
+use zk_operator::{Wanted, added_type};
 use zk_tree::{Assigning, Attr, Init, Name, Place, Redefining};
 use zk_typed::script::ValueType;
-use zk_typed::{Refusal, Rule, one_broken};
+use zk_typed::{Refusal, Rule, copied_type, one_broken};
 
 impl Valued<'_> {
     /// The type that is wanted of a value that a global of a type is given anew, where one can be given.

@@ -1,4 +1,4 @@
-ghost use Rattle.std.specs.Prelude.{◌≡◌, ◌||◌, ℕ, nat_lt, filter, OnOk, IfOk};
+ghost use Rattle.std.specs.Prelude.{◌≡◌, ◌||◌, ◌≤◌, ℕ, nat_lt, filter, length, OnOk, OnErr, IfOk};
 ghost use Rattle.std.specs.List.{list_all, list_any};
 ghost use Rattle.zk_typed.specs.Declarations.{adds_well};
 ghost use Rattle.zk_typed.specs.Resolving as spec;
@@ -21,7 +21,8 @@ const ROUNDS: u32 = 200;
 
 /// Raises the height of a record type to that of one of its fields and one more.
 fn raise(heights: &Heights, edge: &Edge, next: &mut [u8]) -> Result<(), Mem>
-    ensures { OnOk result ((number most : ℕ) → nat_lt most (height_at next.new number) ≡ nat_lt most (height_at next.old number) || list_any (is_raised heights.now.heights.items most) (edge_at number edge.now)) }
+    ensures raised { OnOk result ((number most : ℕ) → nat_lt most (height_at next.new number) ≡ nat_lt most (height_at next.old number) || list_any (is_raised heights.now.heights.items most) (edge_at number edge.now)) }
+    ensures err { OnErr result (length next.old ≤ edge.now.owner) }
 {
     let index = edge.owner as usize;
     let height = raised(heights.height(&edge.part));

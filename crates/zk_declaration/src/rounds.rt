@@ -19,9 +19,9 @@ use std::alloc::Global;
 use zk_base::Mem;
 use zk_expression::{GlobalType, Globals};
 use zk_names::{Declared, Home, Kind, Meant, Scripts};
-use zk_operator::{Typed, Wanted, copied_type, same_type};
+use zk_operator::{Typed, Wanted, same_type};
 use zk_tree::{Init, Type};
-use zk_typed::{Broken, Refusal, Rule};
+use zk_typed::{Broken, Refusal, Rule, copied_type};
 
 /// Whether a rule marks what can't be told for globals that rest on each other's initial values.
 pub fn is_mark(one: &Broken) -> bool

@@ -25,12 +25,12 @@ use sqlite_items::Boxed;
 use std::alloc::{AllocError, Global};
 use zk_base::{Mem, Sequence};
 use zk_operator::{
-    Typed, Wanted, applied, copied_keys, copied_type, operands_of, plain_shape, same_type,
-    simple_type, vector_alone, with_part,
+    Typed, Wanted, applied, operands_of, plain_shape, same_type, simple_type, vector_alone,
+    with_part,
 };
 use zk_tree::{Container, Expr, Item, Place};
 use zk_typed::script::{Primitive, SimpleType, ValueType};
-use zk_typed::{Refusal, Rule, one_broken};
+use zk_typed::{Refusal, Rule, copied_keys, copied_type, one_broken};
 
 /// The type of tables with keys of these types and values of a type.
 #[tactic(auto, using(crate::proofs::ElementLaws::table_is))]

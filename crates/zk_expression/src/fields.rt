@@ -1,4 +1,4 @@
-ghost use Rattle.std.specs.Prelude.{◌≡◌, ◌∷◌, [], false, IfOk, MatchResult};
+ghost use Rattle.std.specs.Prelude.{◌≡◌, ◌∷◌, ◌≤◌, ◌^◌, [], false, length, IfOk, OnErr, MatchResult};
 ghost use Rattle.std.specs.Option.{option_map};
 ghost use Rattle.zk_names.specs.Fields.{field_found as owned_found, fields_lent, known_or};
 ghost use Rattle.zk_operator.specs.Views.{typed_of};
@@ -16,10 +16,10 @@ use sqlite_items::Items;
 use std::alloc::Global;
 use zk_base::{Mem, RecordNo};
 use zk_names::FieldInfo;
-use zk_operator::{Typed, copied_type};
+use zk_operator::Typed;
 use zk_tree::{Name, Place};
 use zk_typed::script::{Expr, FieldNo, Primitive, ValueType};
-use zk_typed::{Refusal, Rule, one_broken};
+use zk_typed::{Refusal, Rule, copied_type, one_broken};
 
 /// A value, by where it is read.
 #[derive(Debug, Drop)]
@@ -35,7 +35,8 @@ pub fn field_named<'a, 'b>(
     fields: &'b [FieldInfo<'a>],
     name: &[u8],
 ) -> Result<Option<(u32, &'b FieldInfo<'a>)>, Mem>
-    ensures { IfOk result (λ found. option_map field_found found ≡ making.field_named name.now 0 (fields_lent fields.entry.now)) }
+    ensures found { IfOk result (λ found. option_map field_found found ≡ making.field_named name.now 0 (fields_lent fields.entry.now)) }
+    ensures err { OnErr result (2 ^ 32 ≤ length fields.entry.now) }
 {
     for (number, field) in fields.iter().enumerate() {
         if field.name == name {

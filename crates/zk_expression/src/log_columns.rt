@@ -17,10 +17,10 @@ use crate::log_settings::text_of;
 use std::alloc::{AllocError, Global};
 use zk_base::{Mem, RecordNo, Sequence};
 use zk_names::Leaf;
-use zk_operator::{Typed, Wanted, copied_keys, with_part};
+use zk_operator::{Typed, Wanted, with_part};
 use zk_tree::{Container, Expr, Item, Place};
 use zk_typed::script::{SimpleType, ValueType};
-use zk_typed::{Refusal, Rule, one_broken};
+use zk_typed::{Refusal, Rule, copied_keys, one_broken};
 
 /// A name in quotes.
 fn item_text(item: &Item) -> Option<&[u8]>

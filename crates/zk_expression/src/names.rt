@@ -16,10 +16,10 @@ use sqlite_items::{Items, at};
 use std::alloc::Global;
 use zk_base::{Bytes, Mem};
 use zk_names::{Declared, Kind, Meant, has_module};
-use zk_operator::{Typed, constant, copied_type};
+use zk_operator::{Typed, constant};
 use zk_tree::{Name, Place};
 use zk_typed::script::{Expr, Literal, SimpleType, ValueType};
-use zk_typed::{Refusal, Rule, one_broken};
+use zk_typed::{Refusal, Rule, copied_type, one_broken};
 
 /// The local that a name means, and its number: a name with `::` is one of a module's.
 pub fn local_meant<'a>(

@@ -1,4 +1,4 @@
-ghost use Rattle.std.specs.Prelude.{◌≡◌, ◌==◌, ◌<◌, ◌≤◌, ◌^◌, ◌++◌, ◌∷◌, [], ℕ, if◌then◌else◌, map, filter, length, slice_get, Some, IfOk, IfSome, IfNone, OnOk, All};
+ghost use Rattle.std.specs.Prelude.{◌≡◌, ◌==◌, ◌<◌, ◌++◌, ◌∷◌, [], ℕ, if◌then◌else◌, map, filter, length, slice_get, Some, IfOk, OnOk, All};
 ghost use Rattle.zk_base.specs.declared.numbers.EventNo.{EventNo as Event};
 ghost use Rattle.zk_typed.specs.Dispatch.{handlers_of};
 ghost use Rattle.zk_typed.specs.Meaning as meaning;
@@ -11,21 +11,13 @@ ghost use Rattle.zk_machine.specs.Handling.{expiring_from, numbered_of, numbers_
 use std::alloc::Global;
 use std::cmp::Reverse;
 use zk_base::{EventNo, HandlerNo, Mem};
-use zk_lower::{Code, GlobalCode, HandlerCode};
+use zk_lower::{Code, GlobalCode, HandlerCode, number_at};
 
 /// A handler and its number.
 #[derive(Clone, Copy, Debug)]
 pub struct Numbered {
     pub number: HandlerNo,
     pub handler: HandlerCode,
-}
-
-/// The number of what stands at a place of a list: none past the numbers of 32 bits.
-fn number_at(index: usize) -> Option<u32>
-    ensures some { IfSome result (λ number. number ≡ index) }
-    ensures none { IfNone result (2 ^ 32 ≤ index) }
-{
-    u32::try_from(index).ok()
 }
 
 /// Handlers with their numbers. More than a `u32` numbers are refused for want of memory.

@@ -1,6 +1,6 @@
 //! Several operations at once, where they commonly stand together: what they do is what they do one after another,
 //! and no operand is pushed to be taken away at once.
-ghost use Rattle.std.specs.Prelude.{◌≡◌, ◌+◌, [], ◌∷◌, Some, slice_get, IfOk, IfSome};
+ghost use Rattle.std.specs.Prelude.{◌≡◌, ◌+◌, ◌≤◌, ◌^◌, [], ◌∷◌, Some, slice_get, IfOk, IfSome, OnErr};
 ghost use Rattle.std.specs.Option.{option_map};
 ghost use Rattle.zk_lower.specs.Code as op;
 ghost use Rattle.zk_lower.specs.Frames.{pushed};
@@ -52,7 +52,8 @@ fn counts_hold(relation: Relation, a: u64, b: u64) -> bool
 
 /// The place so many operations on, where it has a number. No memory holds code in which it has none.
 fn past(at: usize, count: usize) -> Result<usize, Mem>
-    ensures { IfOk result (λ to. to ≡ at + count) }
+    ensures place { IfOk result (λ to. to ≡ at + count) }
+    ensures err { OnErr result (2 ^ 64 ≤ at + count) }
 {
     match at.checked_add(count) {
         Some(to) => Ok(to),

@@ -1,4 +1,4 @@
-ghost use Rattle.std.specs.Prelude.{◌≡◌, ◌+◌, List, ◌∷◌, map, reverse, length};
+ghost use Rattle.std.specs.Prelude.{◌≡◌, ◌+◌, ◌≤◌, ◌^◌, List, ◌∷◌, map, reverse, length, OnErr};
 ghost use Rattle.zk_tree.specs.Value.{Value as PlainValue};
 ghost use Rattle.zk_typed.specs.declared.script.stmt.Names.{Names as PlainNames};
 ghost use Rattle.zk_machine.specs.Found.{Found, turn_with};
@@ -237,7 +237,8 @@ impl Running {
 
     /// Goes on behind the end of a loop.
     fn jump_out(&mut self) -> Result<(), Halt>
-        ensures { (place : At) → Moves place result (steps.goes (self.old.at + 2) (held_of self.old) (state_of self.old.state)) (machine_of self.new) }
+        ensures goes { (place : At) → Moves place result (steps.goes (self.old.at + 2) (held_of self.old) (state_of self.old.state)) (machine_of self.new) }
+        ensures err { OnErr result (2 ^ 64 ≤ self.old.at + 2) }
     {
         match behind(self.at, 1) {
             Some(at) => {

@@ -1,4 +1,4 @@
-ghost use Rattle.std.specs.Prelude.{◌≡◌, ◌+◌, ◌∷◌, map, reverse, take, drop, IfSome, OnOk};
+ghost use Rattle.std.specs.Prelude.{◌≡◌, ◌+◌, ◌∷◌, ◌≤◌, ◌^◌, map, reverse, take, drop, IfSome, IfNone, OnOk, OnErr};
 ghost use Rattle.zk_lower.specs.Frames.{with_loops};
 ghost use Rattle.zk_lower.specs.Steps as steps;
 ghost use Rattle.zk_tree.specs.declared.place.Place.{Place as At};
@@ -41,7 +41,8 @@ pub struct Running {
 impl Running {
     /// Goes on behind the next operation. No memory holds code in which that place has no number.
     pub fn advance(&mut self) -> Result<(), Mem>
-        ensures { OnOk result (steps.goes (self.old.at + 1) (held_of self.old) (state_of self.old.state) ≡ steps.Goes (machine_of self.new)) }
+        ensures goes { OnOk result (steps.goes (self.old.at + 1) (held_of self.old) (state_of self.old.state) ≡ steps.Goes (machine_of self.new)) }
+        ensures err { OnErr result (2 ^ 64 ≤ self.old.at + 1) }
     {
         match self.at.checked_add(1) {
             Some(at) => {
@@ -224,7 +225,8 @@ impl Running {
 
     /// Goes on behind the next operations, so many of them.
     pub fn jump(&mut self, over: usize) -> Result<(), Mem>
-        ensures { OnOk result (steps.goes (self.old.at + 1 + over) (held_of self.old) (state_of self.old.state) ≡ steps.Goes (machine_of self.new)) }
+        ensures goes { OnOk result (steps.goes (self.old.at + 1 + over) (held_of self.old) (state_of self.old.state) ≡ steps.Goes (machine_of self.new)) }
+        ensures err { OnErr result (2 ^ 64 ≤ self.old.at + 1 + over) }
     {
         match behind(self.at, over) {
             Some(at) => {
@@ -307,7 +309,8 @@ fn push_handle(stack: &mut Vec<Value>, value: &Value) -> Result<(), Mem>
 
 /// The place behind the next operations, so many of them, where it has a number.
 pub fn behind(at: usize, over: usize) -> Option<usize>
-    ensures { IfSome result (λ to. to ≡ at + 1 + over) }
+    ensures some { IfSome result (λ to. to ≡ at + 1 + over) }
+    ensures none { IfNone result (2 ^ 64 ≤ at + 1 + over) }
 {
     match at.checked_add(1) {
         Some(next) => next.checked_add(over),

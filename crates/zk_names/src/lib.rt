@@ -5,7 +5,6 @@ mod arguing;
 mod bodies;
 mod calls;
 mod circles;
-mod copying;
 mod created;
 mod declared;
 mod ends;

@@ -10,7 +10,6 @@ ghost use Rattle.zk_names.specs.Keys.{param_types_of};
 ghost use Rattle.zk_names.specs.Lent.{home_of, meant_of, signature_of};
 ghost use Rattle.zk_names.specs.Scripted.{scripts_in};
 
-use crate::copying::copied_type;
 use crate::declared::{Meant, Signature};
 use crate::gathering::appended;
 use crate::home::Home;
@@ -20,8 +19,8 @@ use sqlite_items::Items;
 use std::alloc::{AllocError, Global};
 use zk_base::Sequence;
 use zk_tree::{BodyKind, Name, Param, Type};
-use zk_typed::Refusal;
 use zk_typed::script::ValueType;
+use zk_typed::{Refusal, copied_type};
 
 /// How deep types nest.
 const DEPTH: u8 = 200;

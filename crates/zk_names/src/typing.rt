@@ -15,7 +15,6 @@ ghost use Rattle.zk_names.specs.Leading.{Text, next_of, steps, text_at};
 ghost use Rattle.zk_names.specs.Lent.{home_of, text_lent};
 ghost use Rattle.zk_names.specs.Scripted.{scripts_in};
 
-use crate::copying::copied_type;
 use crate::declared::Meant;
 use crate::ends::end_of;
 use crate::gathering::appended;
@@ -26,7 +25,7 @@ use std::alloc::Global;
 use zk_base::{Mem, RecordNo, Sequence};
 use zk_tree::{Atomic, Name, Place, Type};
 use zk_typed::script::{SimpleType, ValueType};
-use zk_typed::{Broken, Refusal, Rule, one_broken};
+use zk_typed::{Broken, Refusal, Rule, copied_type, one_broken};
 
 /// The place of a byte in the file of a declaration.
 pub fn place_in(home: Home<'_>, byte: u64) -> Place

@@ -33,7 +33,7 @@ pub use membership::{is_left_of_in, operands_of, size_typed, vector_alone};
 pub use operands::{Typed, Wanted, applied, beside, fit, fits, one_operand, simple_type, to_int};
 pub use operators::{arithmetic, choice, inverted, negative, related, truths, turned};
 pub use relations::{binary_of, is_ordered, relates, relation_of};
-pub use same::{copied_keys, copied_type, same_keys, same_simple, same_type, same_types};
+pub use same::{same_keys, same_simple, same_type, same_types};
 pub use shapes::{added_type, empty_of, is_vector, keys_in, plain_shape, update_of};
 pub use table::{arithmetic_of, takes_left};
 pub use texts::{verb_takes, verbs, verbs_take};

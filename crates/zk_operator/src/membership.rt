@@ -8,12 +8,12 @@ ghost use Rattle.zk_typed.specs.View.{type_of, all_of};
 ghost use Rattle.zk_operator.specs.Views.{typed_of, typed_all};
 
 use crate::operands::{Typed, applied, one_operand};
-use crate::same::{copied_type, same_type};
+use crate::same::same_type;
 use sqlite_items::{Boxed, Items};
 use std::alloc::{AllocError, Global};
 use zk_tree::Place;
 use zk_typed::script::{Expr, Primitive, SimpleType, ValueType};
-use zk_typed::{Refusal, Rule, one_broken};
+use zk_typed::{Refusal, Rule, copied_type, one_broken};
 
 /// The typed forms of operands.
 #[tactic(auto, using(crate::proofs::OperandLists::exprs_are))]

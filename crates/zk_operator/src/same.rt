@@ -1,11 +1,8 @@
-ghost use Rattle.std.specs.Prelude.{◌≡◌, map, IfOk};
+ghost use Rattle.std.specs.Prelude.{◌≡◌, map};
 ghost use Rattle.zk_typed.specs.LogCalls as logs;
 ghost use Rattle.zk_typed.specs.Operations as spec;
 ghost use Rattle.zk_typed.specs.View.{type_of};
 
-use sqlite_items::Boxed;
-use std::alloc::{AllocError, Global};
-use zk_base::Sequence;
 use zk_typed::script::{SimpleType, ValueType};
 
 /// A number for each type without parts.
@@ -116,36 +113,4 @@ pub fn same_types(some: &[ValueType], others: &[ValueType]) -> bool
         }
     }
     left.is_empty()
-}
-
-/// A copy of the types of keys.
-pub fn copied_keys(alloc: Global, keys: &[SimpleType]) -> Result<Sequence<SimpleType>, AllocError>
-    ensures { IfOk result (λ copy. copy ≡ keys.now) }
-{
-    Ok(Sequence::from(Vec::from_slice(alloc, keys)?))
-}
-
-/// A copy of a type.
-pub fn copied_type(alloc: Global, one: &ValueType) -> Result<ValueType, AllocError>
-    ensures { IfOk result (λ copy. copy ≡ one.now) }
-{
-    match one {
-        ValueType::Simple(simple) => Ok(ValueType::Simple(*simple)),
-        ValueType::Record(number) => Ok(ValueType::Record(*number)),
-        ValueType::Table { keys, value } => {
-            let keys = copied_keys(alloc, keys.as_slice())?;
-            let value = copied_type(alloc, value.get())?;
-            let value = Boxed::new(alloc, value)?;
-            Ok(ValueType::Table { keys, value })
-        }
-        ValueType::Set { keys } => {
-            let keys = copied_keys(alloc, keys.as_slice())?;
-            Ok(ValueType::Set { keys })
-        }
-        ValueType::Vector { item } => {
-            let item = copied_type(alloc, item.get())?;
-            let item = Boxed::new(alloc, item)?;
-            Ok(ValueType::Vector { item })
-        }
-    }
 }

@@ -7,12 +7,12 @@ ghost use Rattle.zk_typed.specs.Forms as form;
 ghost use Rattle.zk_typed.specs.View.{type_of, expr_of};
 ghost use Rattle.zk_operator.specs.Rows.{adds_simple};
 
-use crate::same::{copied_keys, copied_type};
 use sqlite_items::Items;
 use std::alloc::{AllocError, Global};
 use zk_base::Mem;
 use zk_tree::Assigning;
 use zk_typed::script::{Binary, Expr, Primitive, Shape, SimpleType, ValueType};
+use zk_typed::{copied_keys, copied_type};
 
 /// What a table or set is made with that has neither an expiry nor a default. More keys than their number
 /// can be are more than memory holds.

@@ -23,7 +23,7 @@ ghost use Rattle.zk_statement.specs.Turns.{names_lent};
 use crate::context::{Context, env_in, place_of};
 use crate::made::done;
 use crate::mentions::mentions;
-use crate::turns::new_local;
+use crate::turns::{new_local, next_local};
 use sqlite_items::Items;
 use std::alloc::{AllocError, Global};
 use zk_base::Mem;
@@ -37,16 +37,6 @@ use zk_typed::{Refusal, Rule, one_broken};
 pub struct Begun {
     pub value_type: Option<ValueType>,
     pub made: Result<Stmt, Refusal>,
-}
-
-/// The number of the next local. More locals than numbers are more than memory holds.
-fn next_local(locals: &Locals<'_>) -> Result<u32, Mem>
-    ensures { IfOk result (λ number. number ≡ length (locals_of locals.now)) }
-{
-    match u32::try_from(locals.len()) {
-        Ok(number) => Ok(number),
-        Err(_) => Err(Mem),
-    }
 }
 
 /// Whether a name that a type mentions is hidden by a local.

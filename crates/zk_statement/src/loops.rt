@@ -23,10 +23,10 @@ use sqlite_items::Items;
 use std::alloc::{AllocError, Global};
 use zk_base::Mem;
 use zk_expression::Locals;
-use zk_operator::{Typed, Wanted, both, copied_type, is_vector};
+use zk_operator::{Typed, Wanted, both, is_vector};
 use zk_tree::{Expr, Keys, Name, Place};
-use zk_typed::Refusal;
 use zk_typed::script::{Names, Stmt, ValueType};
+use zk_typed::{Refusal, copied_type};
 
 /// What is broken in what a `for` goes over is told for the types of its names too.
 fn told_twice(alloc: Global, refusal: Refusal) -> Refusal

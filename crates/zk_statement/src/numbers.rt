@@ -13,10 +13,10 @@ use crate::turns::for_name;
 use std::alloc::Global;
 use zk_base::Mem;
 use zk_expression::Locals;
-use zk_operator::{copied_type, with_part};
+use zk_operator::with_part;
 use zk_tree::Name;
-use zk_typed::Refusal;
 use zk_typed::script::ValueType;
+use zk_typed::{Refusal, copied_type};
 
 /// A type, where it is known.
 fn copied_given(alloc: Global, one: &Option<ValueType>) -> Result<Option<ValueType>, Mem>

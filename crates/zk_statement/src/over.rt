@@ -11,10 +11,10 @@ ghost use Rattle.zk_statement.specs.Over.{turn_of, types_in, types_of_names};
 use crate::context::{Context, place_of};
 use std::alloc::Global;
 use zk_base::Mem;
-use zk_operator::{Typed, copied_type};
+use zk_operator::Typed;
 use zk_tree::{Keys, Name, Place};
 use zk_typed::script::{SimpleType, ValueType};
-use zk_typed::{Refusal, Rule, one_broken};
+use zk_typed::{Refusal, Rule, copied_type, one_broken};
 
 /// What a `for` gives at each turn: the types of the keys and of the value.
 #[derive(Debug, Drop)]

@@ -1,4 +1,4 @@
-ghost use Rattle.std.specs.Prelude.{◌≡◌, ◌++◌, ◌∷◌, [], length, IfOk, OnOk};
+ghost use Rattle.std.specs.Prelude.{◌≡◌, ◌++◌, ◌∷◌, ◌≤◌, ◌^◌, [], length, IfOk, OnOk, OnErr};
 ghost use Rattle.std.specs.Option.{option_map};
 ghost use Rattle.zk_expression.specs.Envs.{locals_of};
 ghost use Rattle.zk_expression.specs.Envs.{known_or};
@@ -41,6 +41,17 @@ fn fitting_local(
     }
 }
 
+/// The number of the next local. More locals than numbers are more than memory holds.
+pub fn next_local(locals: &Locals<'_>) -> Result<u32, Mem>
+    ensures number { IfOk result (λ number. number ≡ length (locals_of locals.now)) }
+    ensures err { OnErr result (2 ^ 32 ≤ length (locals_of locals.now)) }
+{
+    match u32::try_from(locals.len()) {
+        Ok(number) => Ok(number),
+        Err(_) => Err(Mem),
+    }
+}
+
 /// A new local, by its number. More locals than numbers are more than memory holds.
 pub fn new_local<'a>(
     alloc: Global,
@@ -51,9 +62,7 @@ pub fn new_local<'a>(
     ensures number { IfOk result (λ number. number ≡ length locals.old) }
     ensures visible { OnOk result (locals_of locals.new ≡ locals_of locals.old ++ record { name = name.now; type = known_or (option_map type_of value_type) } ∷ []) }
 {
-    let Ok(number) = u32::try_from(locals.len()) else {
-        return Err(Mem);
-    };
+    let number = next_local(locals)?;
     locals.add(alloc, LocalName { name, value_type })?;
     Ok(number)
 }

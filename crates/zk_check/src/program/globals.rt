@@ -24,8 +24,9 @@ use zk_base::{Mem, Sequence};
 use zk_declaration::{Given, Groups, Source, Values};
 use zk_expression::{Env, GlobalType, init_typed};
 use zk_names::{Declared, Home, Kind, Meant};
-use zk_operator::{Wanted, added_type, copied_type, empty_of};
+use zk_operator::{Wanted, added_type, empty_of};
 use zk_tree::{Assigning, Attr, Place, Redefining};
+use zk_typed::copied_type;
 use zk_typed::script::{Expr, Global as ProgramGlobal, SimpleType, ValueType};
 
 /// Where an expression of no body stands.

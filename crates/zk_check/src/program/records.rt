@@ -12,7 +12,8 @@ use std::alloc::Global;
 use zk_base::{Bytes, Mem, RecordNo, Sequence};
 use zk_declaration::Source;
 use zk_names::{FieldInfo, record_count};
-use zk_operator::{constant_typed, copied_type};
+use zk_operator::constant_typed;
+use zk_typed::copied_type;
 use zk_typed::script::{DefaultValue, Field, RecordType, SimpleType, ValueType};
 
 /// The empty value of a container's type.

@@ -1,18 +1,18 @@
 ghost use Rattle.std.specs.Prelude.{◌≡◌, IfOk};
 
+use crate::script::{SimpleType, ValueType};
 use sqlite_items::Boxed;
 use std::alloc::{AllocError, Global};
 use zk_base::Sequence;
-use zk_typed::script::{SimpleType, ValueType};
 
-/// A copy of the types of keys.
-fn copied_keys(alloc: Global, keys: &[SimpleType]) -> Result<Sequence<SimpleType>, AllocError>
+/// A copy of the types of keys. Want of memory is the only error.
+pub fn copied_keys(alloc: Global, keys: &[SimpleType]) -> Result<Sequence<SimpleType>, AllocError>
     ensures { IfOk result (λ copy. copy ≡ keys.now) }
 {
     Ok(Sequence::from(Vec::from_slice(alloc, keys)?))
 }
 
-/// A copy of a type.
+/// A copy of a type. Want of memory is the only error.
 pub fn copied_type(alloc: Global, one: &ValueType) -> Result<ValueType, AllocError>
     ensures { IfOk result (λ copy. copy ≡ one.now) }
 {

@@ -1,5 +1,5 @@
 -- What a machine that stands for a program comes to.
-use Rattle.std.proofs.Common.{◌≡◌, ℕ, zero, suc, ◌+◌, ◌<◌, List, [], ◌∷◌, ◌++◌, length, map, Some, None, slice_get, refl, sym, ap, ◌∙◌, append_assoc, arith}
+use Rattle.std.proofs.Common.{◌≡◌, ℕ, zero, suc, ◌+◌, ◌<◌, List, [], ◌∷◌, ◌++◌, length, map, Option, Some, None, slice_get, refl, sym, ap, ◌∙◌, append_assoc, arith}
 use Rattle.std.specs.Option.{option_map}
 use Rattle.std.proofs.lemmas.Option.{none-some, same_Some}
 use Rattle.zk_tree.specs.Value.{Value}
@@ -8,7 +8,8 @@ use Rattle.zk_typed.specs.declared.ends.BodyEnd.TheVariants as ended
 use Rattle.zk_base.specs.declared.time.Span.{Span}
 use Rattle.zk_typed.specs.Dispatch.{Left, left, handler_body, initial_body, expiry_body, told, world_after}
 use Rattle.zk_typed.specs.Running.{wait_of}
-use Rattle.zk_machine.specs.Expiring.{span_of}
+use Rattle.zk_machine.specs.declared.expiring.Expiring.{Expiring}
+use Rattle.zk_machine.specs.Expiring.{span_of, span_ran}
 use Rattle.zk_machine.specs.Leads.{ran_of}
 use Rattle.zk_machine.specs.declared.ends.Ending as rust
 use Rattle.zk_machine.specs.declared.ends.Ending.TheVariants as ending
@@ -80,6 +81,20 @@ pub left_span : (end : rust.Ending) (wait : Span) (state : State) → left (span
 left_span (ending.Done value) wait state = refl
 left_span (ending.Fault kind place) wait state = refl
 left_span (ending.Spent place) wait state = refl
+
+-- what an expiry function leaves and how long it waits, where this was given out before
+module _ (program : Program) (given : Told) (before : World) (budget : ℕ) (code : Code) (number : ℕ) (args : List Value) (of : Global) (found : Option Expiring) (one : Expiring) (now : State)
+    (means : ExpiriesMean) (goes_on : ExpiriesGoOn) (is : code ≡ lowered program) (there : slice_get program.globals number ≡ Some of)
+    (ran : expiry_run code number args before budget ≡ option_map (λ one. without_names (span_ran one now)) found) (is_one : found ≡ Some one) where
+  expiry_comes : without_names (expiry_body program of args (behind given before) budget) ≡ ran_behind given (without_names (span_ran one now))
+  expiry_comes = expiry_ends program given before budget code number args of (without_names (span_ran one now)) means goes_on is there (ran ∙ ap (option_map (λ one. without_names (span_ran one now))) is_one)
+
+  pub expiry_leaves : left (expiry_body program of args (behind given before) budget) ≡ left_behind given (left (ran_of one.ending now))
+  expiry_leaves = sym (left_names (expiry_body program of args (behind given before) budget)) ∙ (ap left expiry_comes ∙ (left_told given (without_names (span_ran one now))
+      ∙ ap (left_behind given) (left_names (span_ran one now) ∙ left_span one.ending one.wait now)))
+
+  pub expiry_waits : wait_of (expiry_body program of args (behind given before) budget) ≡ wait_of (span_ran one now)
+  expiry_waits = sym (wait_names (expiry_body program of args (behind given before) budget)) ∙ (ap wait_of expiry_comes ∙ (wait_told given (without_names (span_ran one now)) ∙ wait_names (span_ran one now)))
 
 -- a report stands behind what was given out
 rows_behind : (given : Told) (world : World) (row : Row) → behind given (record world { rows = world.rows ++ row ∷ [] }) ≡ record (behind given world) { rows = (given.rows ++ world.rows) ++ row ∷ [] }

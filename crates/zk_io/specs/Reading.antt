@@ -88,6 +88,12 @@ has_ended reader = reader.is_read_out
 abbrev pub next_place : CaptureReader → ℕ
 next_place reader = reader.feed.place
 
+-- the record that stands next in the capture that is being read is too long
+abbrev pub MeetsTooLong : CaptureReader → Outside → Type 0
+MeetsTooLong reader now =
+    (whole : Option (List ℕ)) × (header : Header) × (bytes : List ℕ) × (packets : List Packet)
+    × IsReading whole header bytes packets reader now × (is_too_long header bytes (end_from 24 packets) ≡ true)
+
 -- a capture is being read
 abbrev pub IsUnderWay : CaptureReader → Outside → Type 0
 IsUnderWay reader now =

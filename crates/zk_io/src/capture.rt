@@ -35,7 +35,7 @@ pub struct CaptureReader {
 }
 
 impl CaptureReader {
-    ghost use Rattle.zk_io.specs.Reading.{FindsCapture, HasRead, IsCapture, IsFoundSoon, IsJudged, IsOpen, IsReading, IsReadThrough, IsStoppedEarly, has_ended, has_next};
+    ghost use Rattle.zk_io.specs.Reading.{FindsCapture, HasRead, IsCapture, IsFoundSoon, IsJudged, IsOpen, IsReading, IsReadThrough, IsStoppedEarly, MeetsTooLong, has_ended, has_next};
 
     /// Opens the capture in a file, or says how a run ends where there is none: as `NoInput` where no
     /// such file is there, as `CaptureRefused` with the place of the fault where its header is refused.
@@ -100,7 +100,8 @@ impl CaptureReader {
     }
 
     /// Reads on until a packet stands next. Answers whether one does; else no other follows. Where one
-    /// stands already, or once the end of the input was met, nothing is asked of the shelf.
+    /// stands already, where the next record is too long, or once the end of the input was met, nothing
+    /// is asked of the shelf.
     ///
     /// `ReadFault` is an input that fails, `NoMemory` want of memory.
     pub fn fill<S: Shelf>(&mut self, shelf: &mut S) -> Result<bool, Stop>
@@ -116,6 +117,7 @@ impl CaptureReader {
         ensures unread { IsTrue (has_ended self.old) → shelf.new ≡ shelf.old }
         ensures ended { IsTrue (has_ended self.old) → IsTrue (has_ended self.new) }
         ensures there { IsTrue (has_next self.old) → shelf.new ≡ shelf.old }
+        ensures too_long { MeetsTooLong self.old (S.outside shelf.old) → shelf.new ≡ shelf.old }
         ensures stopped { IfErr result (λ stop. DoesPart [] [] [] (S.outside shelf.old) stop (S.outside shelf.new)) }
     {
         'pieces: loop {

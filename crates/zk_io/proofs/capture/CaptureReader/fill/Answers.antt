@@ -1,10 +1,14 @@
-use Rattle.std.proofs.Common.{◌≡◌, ◌⊎◌, ◌↔◌, ℕ, ◌+◌, ◌<◌, ◌≤◌, Bool, true, false, cond, [], IsTrue, IsSome, inl, inr, sym, subst, arith}
+use Rattle.std.proofs.Common.{◌≡◌, ◌⊎◌, ◌↔◌, ℕ, ◌+◌, ◌<◌, ◌≤◌, Bool, true, false, cond, List, [], IsTrue, IsSome, inl, inr, sym, subst, arith}
 use Rattle.zk_pcap.specs.declared.feed.Next.{Next}
 use Rattle.zk_pcap.specs.declared.feed.Next.TheVariants as next
-use Rattle.zk_pcap.specs.Standing.{first_record, is_packet}
+use Rattle.zk_pcap.specs.declared.headers.Header.{Header}
+use Rattle.zk_pcap.specs.declared.records.Packet.{Packet}
+use Rattle.zk_pcap.specs.Capture.{end_from}
+use Rattle.zk_pcap.specs.Standing.{StandsFor, IsNext, first_record, is_packet}
+use Rattle.zk_base.specs.Shelf.{Outside}
 use Rattle.zk_load.proofs.Doing.{does_both_all}
 use Rattle.zk_io.specs.declared.capture.CaptureReader.{CaptureReader}
-use Rattle.zk_io.specs.Reading.{has_next}
+use Rattle.zk_io.specs.Reading.{MeetsTooLong, has_next}
 use Rattle.zk_io.proofs.capture.CaptureReader.fill.Goals as goal
 
 smaller : (left less : ℕ) (out after : Bool) → out ≡ false → less ≤ left → (after ≡ true) ⊎ (less < left) → less + cond after 0 1 < left + cond out 0 1
@@ -23,6 +27,17 @@ none_next reader first stands same packet more there =
     let never : ⊥ = cc in
     never
 
+-- no record that is too long stands next where more has to come
+none_long : (reader first : CaptureReader) (now : Outside) (stands : Next) → reader ≡ first
+    → ((header : Header) (file : List ℕ) (packets : List Packet) → StandsFor reader.feed header file packets → IsNext header file (end_from 24 packets) stands)
+    → stands ≡ next.NeedMore → MeetsTooLong first now → ⊥
+none_long reader first now stands same is_next more (whole, header, bytes, packets, reading, long) =
+    let far : IsNext header bytes (end_from 24 packets) next.NeedMore =
+    subst (IsNext header bytes (end_from 24 packets)) more (is_next header bytes packets (subst (λ r. StandsFor r.feed header bytes packets) (sym same) reading.stands)) in
+    let short = far.1 in
+    let never : ⊥ = cc in
+    never
+
 pub pieces-smaller : goal.pieces-smaller
 pieces-smaller g c =
     smaller c.pieces.self.left c.read_piece.new.self.left c.pieces.self.is_read_out c.read_piece.new.self.is_read_out c.if-self.false
@@ -38,6 +53,7 @@ pieces-preserved g c = record {
       c.in_ok-read_piece.ensures.goes_on whole header far.0 packets far.1;
   over = λ ended. absurd (still_more c.pieces.self.is_read_out c.if-self.false (c.pieces.invariant.over ended).1);
   there = λ there. absurd (none_next c.pieces.self c.args.self.now c.next.result (c.pieces.invariant.there there).1 c.next.ensures.packet c.in-NeedMore.is there);
+  too_long = λ long. absurd (none_long c.pieces.self c.args.self.now (g.S.Shelf.outside c.args.shelf.now) c.next.result (c.pieces.invariant.too_long long).1 c.next.ensures.next c.in-NeedMore.is long);
 }
 
 pub returns-in-Packet-clause-unread : goal.returns-in-Packet-clause-unread
@@ -49,6 +65,9 @@ returns-in-Packet-clause-ended g c ended = (c.pieces.invariant.over ended).1
 pub returns-in-Packet-clause-there : goal.returns-in-Packet-clause-there
 returns-in-Packet-clause-there g c there = (c.pieces.invariant.there there).0
 
+pub returns-in-Packet-clause-too_long : goal.returns-in-Packet-clause-too_long
+returns-in-Packet-clause-too_long g c long = (c.pieces.invariant.too_long long).0
+
 pub returns-in-Bad-clause-unread : goal.returns-in-Bad-clause-unread
 returns-in-Bad-clause-unread g c ended = (c.pieces.invariant.over ended).0
 
@@ -57,6 +76,9 @@ returns-in-Bad-clause-ended g c ended = (c.pieces.invariant.over ended).1
 
 pub returns-in-Bad-clause-there : goal.returns-in-Bad-clause-there
 returns-in-Bad-clause-there g c there = (c.pieces.invariant.there there).0
+
+pub returns-in-Bad-clause-too_long : goal.returns-in-Bad-clause-too_long
+returns-in-Bad-clause-too_long g c long = (c.pieces.invariant.too_long long).0
 
 pub returns-then-self-clause-unread : goal.returns-then-self-clause-unread
 returns-then-self-clause-unread g c ended = (c.pieces.invariant.over ended).0
@@ -67,6 +89,9 @@ returns-then-self-clause-ended g c ended = (c.pieces.invariant.over ended).1
 pub returns-then-self-clause-there : goal.returns-then-self-clause-there
 returns-then-self-clause-there g c there = (c.pieces.invariant.there there).0
 
+pub returns-then-self-clause-too_long : goal.returns-then-self-clause-too_long
+returns-then-self-clause-too_long g c long = (c.pieces.invariant.too_long long).0
+
 pub returns-in_err-read_piece-clause-unread : goal.returns-in_err-read_piece-clause-unread
 returns-in_err-read_piece-clause-unread g c ended = absurd (still_more c.pieces.self.is_read_out c.if-self.false (c.pieces.invariant.over ended).1)
 
@@ -76,3 +101,7 @@ returns-in_err-read_piece-clause-ended g c ended = absurd (still_more c.pieces.s
 pub returns-in_err-read_piece-clause-there : goal.returns-in_err-read_piece-clause-there
 returns-in_err-read_piece-clause-there g c there =
     absurd (none_next c.pieces.self c.args.self.now c.next.result (c.pieces.invariant.there there).1 c.next.ensures.packet c.in-NeedMore.is there)
+
+pub returns-in_err-read_piece-clause-too_long : goal.returns-in_err-read_piece-clause-too_long
+returns-in_err-read_piece-clause-too_long g c long =
+    absurd (none_long c.pieces.self c.args.self.now (g.S.Shelf.outside c.args.shelf.now) c.next.result (c.pieces.invariant.too_long long).1 c.next.ensures.next c.in-NeedMore.is long)

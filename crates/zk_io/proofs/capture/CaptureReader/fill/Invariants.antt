@@ -3,10 +3,10 @@ use Rattle.zk_base.specs.Shelf.{is_open}
 use Rattle.zk_pcap.specs.declared.headers.Header.{Header}
 use Rattle.zk_pcap.specs.declared.records.Packet.{Packet}
 use Rattle.zk_load.specs.Parts.{DoesAll}
-use Rattle.zk_io.specs.Reading.{IsReading, has_ended, has_next}
+use Rattle.zk_io.specs.Reading.{IsReading, MeetsTooLong, has_ended, has_next}
 use Rattle.zk_io.proofs.capture.CaptureReader.fill.Given as goal
 
--- nothing but reading was done, and the reader goes on; where a packet stood next or the end was met before, nothing was done
+-- nothing but reading was done, and the reader goes on; where a packet or a record too long stood next, or the end was met before, nothing was done
 abbrev pub invariant-pieces : goal.invariant-pieces
 invariant-pieces g l = record {
   does : DoesAll [] [] [] (g.S.Shelf.outside l.initial.shelf) (g.S.Shelf.outside l.shelf);
@@ -16,6 +16,7 @@ invariant-pieces g l = record {
       → (longer : List ℕ) × IsReading whole header longer packets l.self (g.S.Shelf.outside l.shelf);
   over : IsTrue (has_ended l.initial.self) → (l.shelf ≡ l.initial.shelf) × IsTrue (has_ended l.self);
   there : IsTrue (has_next l.initial.self) → (l.shelf ≡ l.initial.shelf) × (l.self ≡ l.initial.self);
+  too_long : MeetsTooLong l.initial.self (g.S.Shelf.outside l.initial.shelf) → (l.shelf ≡ l.initial.shelf) × (l.self ≡ l.initial.self);
 }
 
 -- each turn but the last reads a byte at least

@@ -14,7 +14,12 @@ returns-in-Ok-clause-ended g c =
       within = c.run.ensures.within;
       usage = c.run.ensures.usage;
       complained = c.run.ensures.complains;
-      read_fault = λ is. (c.run.ensures.read_fault is).0;
-      write_fault = λ is. (c.run.ensures.write_fault is).0;
+      silent = c.run.ensures.silent;
+      faults = c.run.ensures.faults;
+      read_fault = c.run.ensures.read_fault;
+      write_fault = c.run.ensures.write_fault;
+      no_memory = c.run.ensures.no_memory;
       absent = c.run.ensures.absent;
+      present = c.run.ensures.present;
+      inputs = c.run.ensures.inputs;
     }))

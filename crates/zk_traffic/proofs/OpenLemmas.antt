@@ -1,6 +1,5 @@
 -- A value before the first packet, and behind the end.
 use Rattle.std.proofs.Common.{◌≡◌, ℕ, true, false, List, [], ◌++◌, map, OnOk, Result, Ok, Err, refl, sym, ap, subst, ◌∙◌, append_assoc}
-use Rattle.std.proofs.lemmas.Bool.{true≢false}
 use Rattle.zk_frag.specs.Standing as frags
 use Rattle.zk_pcap.specs.declared.records.Packet.{Packet}
 use Rattle.zk_pcap.specs.NetworkTime.{now}
@@ -33,7 +32,7 @@ stands_new new options link works options_are link_is time_is frags_are table_is
   table_is = table_is;
   items_are = items_are;
   none_fresh = λ none. no_runs;
-  fresh_is = λ before last is going. absurd (not_nil before last (sym is));
+  fresh_is = λ before last is. absurd (not_nil before last (sym is));
 }
 
 pub stands_ended : (old new : Traffic) (options : Options) (link : ℕ) (records : List Packet) (given : List Item) → StandsFor old options link records given false
@@ -51,5 +50,5 @@ stands_ended old new options link records given stands works options_are link_is
   items_are = ap (λ l. given ++ l) items_are ∙ sym (append_assoc given (items_in old.connections.items) (items_at_end options link records))
       ∙ ap (λ l. l ++ items_at_end options link records) stands.items_are ∙ sym (items_ended options link records);
   none_fresh = λ none. ap runs_of news_are ∙ stands.none_fresh none;
-  fresh_is = λ before last is open_is. absurd (true≢false open_is);
+  fresh_is = λ before last is. ap runs_of news_are ∙ stands.fresh_is before last is;
 }

@@ -205,7 +205,7 @@ stands_with old ready new options link step given stands taken works ready_items
       ∙ ap (λ x. x ++ ((a ++ b) ++ c)) (stands.items_are ∙ items_open options link step.before)
       ∙ sym (items-more options link step) ∙ sym (items_open options link (so_far step));
   none_fresh = λ none. absurd (not_nil step.before step.last none);
-  fresh_is = λ before last is going. taken.runs_are
+  fresh_is = λ before last is. taken.runs_are
       ∙ (let parts = same_from_push step.before before step.last last is in
       ap (λ l. fresh_at options link (record { before = l; last = step.last })) parts.0 ∙ ap (λ p. fresh_at options link (record { before = before; last = p })) parts.1);
 }

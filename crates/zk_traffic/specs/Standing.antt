@@ -38,5 +38,5 @@ pub record StandsFor (traffic : Traffic) (options : Options) (link : ℕ) (recor
   pub table_is : IsTable traffic.connections.table options.buffer (segments options link records) (now records) ended
   pub items_are : given ++ items_in traffic.connections.items ≡ items_of options link records ended
   pub none_fresh : records ≡ [] → runs_of traffic.connections.news ≡ []
-  pub fresh_is : (before : List Packet) (last : Packet) → records ≡ before ++ last ∷ [] → ended ≡ false
+  pub fresh_is : (before : List Packet) (last : Packet) → records ≡ before ++ last ∷ []
       → runs_of traffic.connections.news ≡ fresh_at options link (record { before = before; last = last })

@@ -69,12 +69,13 @@ impl News {
         }
     }
 
-    /// Begins anew.
+    /// Begins anew, and keeps no bytes.
     #[tactic(auto, unfolding(crate::specs::News::runs_of))]
     pub fn clear(&mut self)
         ensures runs { runs_of self.new ≡ [] }
         ensures gaps { self.new.gaps.items ≡ [] }
         ensures units { self.new.units.items ≡ [] }
+        ensures lean { self.new.bytes.items ≡ [] }
     {
         self.runs.clear();
         self.bytes.clear();

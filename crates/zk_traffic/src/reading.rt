@@ -1,4 +1,4 @@
-ghost use Rattle.std.specs.Prelude.{◌≡◌, true, List, Option, IfOk, OnOk};
+ghost use Rattle.std.specs.Prelude.{◌≡◌, true, List, Option, None, IfOk, OnOk};
 ghost use Rattle.zk_base.specs.declared.network.Side.{Side as SideData};
 ghost use Rattle.zk_http.specs.Places.{Both, Stream, of_side};
 ghost use Rattle.zk_traffic.specs.Reading.{Gets, Reads, StandsFor, held_in};
@@ -26,6 +26,7 @@ impl Reading {
     pub fn new(alloc: Global, protocol: Option<Protocol>) -> Result<Reading, Mem>
         ensures stands { IfOk result (λ reading. StandsFor reading protocol no_streams no_units) }
         ensures held { IfOk result (λ reading. (side : SideData) → held_in side reading ≡ 0) }
+        ensures idle { protocol ≡ None → IfOk result (λ reading. reading.readers ≡ None) }
     {
         if protocol.is_none() {
             return Ok(Reading { readers: None });

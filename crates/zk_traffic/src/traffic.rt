@@ -167,12 +167,12 @@ impl Traffic {
     }
 
     /// The k-th run of bytes by which the last packet moved a front: those of its sender's stream
-    /// first, by place. It stays until the next packet.
+    /// first, by place. It stays until the next packet, also behind the end.
     pub fn fresh(&self, k: usize) -> Option<Fresh<'_>>
-        ensures run { (options : OptionsData) (link : ℕ) (before : List Packet) (last : Packet) (given : List ItemData)
-            → StandsFor self.now options link (before ++ last ∷ []) given false
+        ensures run { (options : OptionsData) (link : ℕ) (before : List Packet) (last : Packet) (given : List ItemData) (ended : Bool)
+            → StandsFor self.now options link (before ++ last ∷ []) given ended
             → option_map fresh_lent result ≡ slice_get (fresh_at options link (record { before = before; last = last })) k }
-        ensures none { (options : OptionsData) (link : ℕ) (given : List ItemData) → StandsFor self.now options link [] given false → result ≡ None }
+        ensures none { (options : OptionsData) (link : ℕ) (given : List ItemData) (ended : Bool) → StandsFor self.now options link [] given ended → result ≡ None }
     {
         self.connections.news().run(k)
     }

@@ -1,4 +1,5 @@
 use Rattle.std.proofs.Common.{◌≡◌, ◌⊎◌, ◌↔◌, ℕ, ◌+◌, ◌<◌, ◌≤◌, Bool, true, false, cond, List, [], IsTrue, IsSome, inl, inr, sym, subst, arith}
+use Rattle.std.proofs.lemmas.Result.{err_from_is_err_and}
 use Rattle.zk_pcap.specs.declared.feed.Next.{Next}
 use Rattle.zk_pcap.specs.declared.feed.Next.TheVariants as next
 use Rattle.zk_pcap.specs.declared.headers.Header.{Header}
@@ -6,7 +7,7 @@ use Rattle.zk_pcap.specs.declared.records.Packet.{Packet}
 use Rattle.zk_pcap.specs.Capture.{end_from}
 use Rattle.zk_pcap.specs.Standing.{StandsFor, IsNext, first_record, is_packet}
 use Rattle.zk_base.specs.Shelf.{Outside}
-use Rattle.zk_load.proofs.Doing.{does_both_all}
+use Rattle.zk_load.proofs.Doing.{does_both_all, does_both_part}
 use Rattle.zk_io.specs.declared.capture.CaptureReader.{CaptureReader}
 use Rattle.zk_io.specs.Reading.{MeetsTooLong, has_next}
 use Rattle.zk_io.proofs.capture.CaptureReader.fill.Goals as goal
@@ -105,3 +106,11 @@ returns-in_err-read_piece-clause-there g c there =
 pub returns-in_err-read_piece-clause-too_long : goal.returns-in_err-read_piece-clause-too_long
 returns-in_err-read_piece-clause-too_long g c long =
     absurd (none_long c.pieces.self c.args.self.now (g.S.Shelf.outside c.args.shelf.now) c.next.result (c.pieces.invariant.too_long long).1 c.next.ensures.next c.in-NeedMore.is long)
+
+pub returns-in_err-read_piece-clause-stopped : goal.returns-in_err-read_piece-clause-stopped
+returns-in_err-read_piece-clause-stopped g c =
+    let old = g.S.Shelf.outside c.args.shelf.now in
+    let mid = g.S.Shelf.outside c.pieces.shelf in
+    let new = g.S.Shelf.outside c.read_piece.new.shelf in
+    let p = err_from_is_err_and c.from_residual.result c.from_residual.ensures.1 in
+    rw (p.1, p.2) (does_both_part [] [] [] [] [] old mid c.in_err-read_piece.field-0.0 new c.pieces.invariant.does.all c.in_err-read_piece.ensures.stopped)

@@ -11,5 +11,5 @@ pub returns : goal.returns
 returns c = λ place of.
     let held = held_of c.args.self.now in
     ap (λ ran. by ran (λ (truth : Value) (state : State). unless of c.args.over (c.args.self.now.at + 3) state truth held)) (c.in_ok-there.ensures place)
-    ∙ (ap (λ (at : ℕ). unless of c.args.over at (state_of c.has_count.new.self) (plain.Bool c.in_ok-there.there) held) (sym c.in_ok-self.ensures)
+    ∙ (ap (λ (at : ℕ). unless of c.args.over at (state_of c.has_count.new.self) (plain.Bool c.in_ok-there.there) held) (sym c.in_ok-self.ensures.place)
     ∙ c.in_ok-unless_true.ensures of)

@@ -1,8 +1,12 @@
 ghost use Rattle.std.specs.Prelude.{◌≡◌, ◌++◌, fold, flat_map, IfOk};
 ghost use Rattle.zk_typed.specs.Declaring.{predefined_names, scripts_of, with_words};
 ghost use Rattle.zk_typed.specs.LoadOrder.{load_order};
+ghost use Rattle.zk_typed.specs.Names.{is_record};
 ghost use Rattle.zk_names.specs.Ends.{AreEnds};
+ghost use Rattle.zk_names.specs.Indexing.{passing};
+ghost use Rattle.zk_names.specs.Leading.{AreCircles, HasWays};
 ghost use Rattle.zk_names.specs.Lent.{declared_lent, files_of, nodes_lent, stated_lent};
+ghost use Rattle.zk_names.specs.Numbering.{IsNumbered};
 ghost use Rattle.zk_names.specs.Scripted.{scripts_in};
 ghost use Rattle.zk_names.specs.Words.{known_scripts, with_body};
 
@@ -22,6 +26,34 @@ use std::alloc::Global;
 use zk_base::{Bytes, Mem};
 use zk_tree::Tree;
 
+/// What is found of record types, enums and names.
+#[derive(Drop)]
+struct Found {
+    records: Vec<usize>,
+    numbers: Numbers,
+    ways: Ways,
+    circles: Vec<bool>,
+}
+
+/// What is found of these record types, enums and names.
+fn find(alloc: Global, nodes: &[Node<'_>], table: &Table<'_>) -> Result<Found, Mem>
+    ensures recorded { IfOk result (λ found. found.records.items ≡ passing is_record (nodes_lent nodes.now)) }
+    ensures numbered { IfOk result (λ found. IsNumbered found.numbers (nodes_lent nodes.now) (declared_lent table.now.names.items)) }
+    ensures led { IfOk result (λ found. HasWays found.ways (declared_lent table.now.names.items)) }
+    ensures circled { IfOk result (λ found. AreCircles found.circles.items (declared_lent table.now.names.items)) }
+{
+    let records = record_places(alloc, nodes)?;
+    let numbers = Numbers::of(alloc, nodes, &table.names)?;
+    let ways = Ways::of(alloc, table)?;
+    let circles = all_circles(alloc, table, &ways)?;
+    Ok(Found {
+        records,
+        numbers,
+        ways,
+        circles,
+    })
+}
+
 /// What scripts declare by their declarations, their record types and enums, and their names, with the ends of names
 /// not found yet.
 #[tactic(auto, unfolding(crate::specs::Scripted::scripts_in))]
@@ -35,19 +67,16 @@ fn begun<'a>(
     ensures nodes { IfOk result (λ names. (scripts_in names).nodes ≡ nodes_lent nodes.entry.items) }
     ensures names { IfOk result (λ names. (scripts_in names).names ≡ declared_lent table.entry.names.items) }
 {
-    let records = record_places(alloc, &nodes)?;
-    let numbers = Numbers::of(alloc, &nodes, &table.names)?;
-    let ways = Ways::of(alloc, &table)?;
-    let circles = all_circles(alloc, &table, &ways)?;
+    let found = find(alloc, &nodes, &table)?;
     let ends = unknown_ends(alloc);
     Ok(Names {
         stated,
         nodes,
         table,
-        records,
-        numbers,
-        ways,
-        circles,
+        records: found.records,
+        numbers: found.numbers,
+        ways: found.ways,
+        circles: found.circles,
         ends,
     })
 }

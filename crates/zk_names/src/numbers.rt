@@ -10,6 +10,7 @@ use crate::first_places::FirstPlaces;
 use crate::kind::Kind;
 use crate::node::{Node, RECORDS};
 use crate::whole::Whole;
+use sqlite_items::Boxed;
 use std::alloc::Global;
 use zk_base::Mem;
 
@@ -17,17 +18,17 @@ use zk_base::Mem;
 const ENUMS: u32 = 3;
 
 /// The numbers of names among those of their kinds, and of record types and enums by the file and the place
-/// where their texts begin.
+/// where their texts begin, each map in a box, since what scripts declare is handed on by value.
 #[derive(Drop)]
 pub struct Numbers {
     alloc: Global,
-    variables: FirstPlaces<Whole>,
-    events: FirstPlaces<Whole>,
-    hooks: FirstPlaces<Whole>,
-    functions: FirstPlaces<Whole>,
-    log_words: FirstPlaces<Whole>,
-    records: FirstPlaces<(usize, u64)>,
-    enums: FirstPlaces<(usize, u64)>,
+    variables: Boxed<FirstPlaces<Whole>>,
+    events: Boxed<FirstPlaces<Whole>>,
+    hooks: Boxed<FirstPlaces<Whole>>,
+    functions: Boxed<FirstPlaces<Whole>>,
+    log_words: Boxed<FirstPlaces<Whole>>,
+    records: Boxed<FirstPlaces<(usize, u64)>>,
+    enums: Boxed<FirstPlaces<(usize, u64)>>,
 }
 
 /// Adds a name where it is of a kind.
@@ -48,13 +49,18 @@ fn add_name(
 }
 
 /// Where names stand first among those of a kind.
-fn names_of(alloc: Global, kind: Kind, names: &[Declared<'_>]) -> Result<FirstPlaces<Whole>, Mem>
+fn names_of(
+    alloc: Global,
+    kind: Kind,
+    names: &[Declared<'_>],
+) -> Result<Boxed<FirstPlaces<Whole>>, Mem>
     ensures { IfOk result (λ found. Stands bytes_eq found (names_of kind (declared_lent names.now))) }
 {
     let mut found = FirstPlaces::new(alloc);
     for one in names {
         add_name(alloc, kind, one, &mut found)?;
     }
+    let found = Boxed::new(alloc, found)?;
     Ok(found)
 }
 
@@ -74,13 +80,18 @@ fn add_spot(
 }
 
 /// Where record types stand first among their kind, or enums.
-fn spots(alloc: Global, records: bool, nodes: &[Node<'_>]) -> Result<FirstPlaces<(usize, u64)>, Mem>
+fn spots(
+    alloc: Global,
+    records: bool,
+    nodes: &[Node<'_>],
+) -> Result<Boxed<FirstPlaces<(usize, u64)>>, Mem>
     ensures { IfOk result (λ found. Stands spot_eq found (spots records (nodes_lent nodes.now))) }
 {
     let mut found = FirstPlaces::new(alloc);
     for node in nodes {
         add_spot(records, node, &mut found)?;
     }
+    let found = Boxed::new(alloc, found)?;
     Ok(found)
 }
 
@@ -113,11 +124,11 @@ impl Numbers {
         ensures { result.now ≡ of_kind kind self.now }
     {
         match kind {
-            Kind::Variable => &self.variables,
-            Kind::Event => &self.events,
-            Kind::Hook => &self.hooks,
-            Kind::Function => &self.functions,
-            Kind::LogWord => &self.log_words,
+            Kind::Variable => self.variables.get(),
+            Kind::Event => self.events.get(),
+            Kind::Hook => self.hooks.get(),
+            Kind::Function => self.functions.get(),
+            Kind::LogWord => self.log_words.get(),
         }
     }
 
@@ -136,7 +147,7 @@ impl Numbers {
         ensures number { IfOk result (λ number. (nodes : List TypeNode) (names : List DeclaredName) → IsNumbered self.now nodes names → number ≡ record_number nodes file place) }
         ensures err { OnErr result ((nodes : List TypeNode) (names : List DeclaredName) → IsNumbered self.now nodes names → 2 ^ 32 ≤ record_number nodes file place) }
     {
-        let among = self.records.number(&(file, place));
+        let among = self.records.get().number(&(file, place));
         match among.checked_add(RECORDS) {
             Some(number) => Ok(number),
             None => Err(Mem),
@@ -148,7 +159,7 @@ impl Numbers {
         ensures number { IfOk result (λ number. (nodes : List TypeNode) (names : List DeclaredName) → IsNumbered self.now nodes names → number ≡ enum_number nodes file place) }
         ensures err { OnErr result ((nodes : List TypeNode) (names : List DeclaredName) → IsNumbered self.now nodes names → 2 ^ 32 ≤ enum_number nodes file place) }
     {
-        let among = self.enums.number(&(file, place));
+        let among = self.enums.get().number(&(file, place));
         match among.checked_add(ENUMS) {
             Some(number) => Ok(number),
             None => Err(Mem),

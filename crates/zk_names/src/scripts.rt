@@ -40,14 +40,31 @@ fn numbered(number: u32, found: Option<FieldInfo<'_>>) -> Option<(u32, FieldInfo
     }
 }
 
+/// The record types of the logs of scripts with these names.
+fn log_types(alloc: Global, names: &Names<'_>) -> Result<LogTypes, Mem>
+    ensures { IfOk result (λ logs. AreTypes logs (flat_map (stated_created (scripts_in names.now)) (scripts_in names.now).stated)) }
+{
+    let created = all_created(alloc, names)?;
+    let logs = LogTypes::of(alloc, &created)?;
+    Ok(logs)
+}
+
+/// The fields of the record types, and the record types of the logs, of scripts with these names.
+fn fields_and_logs(alloc: Global, names: &Names<'_>) -> Result<(Fields, LogTypes), Mem>
+    ensures placed { IfOk result (λ both. AreFields both.0 (scripts_in names.now)) }
+    ensures told { IfOk result (λ both. AreTypes both.1 (flat_map (stated_created (scripts_in names.now)) (scripts_in names.now).stated)) }
+{
+    let fields = Fields::of(alloc, names)?;
+    let logs = log_types(alloc, names)?;
+    Ok((fields, logs))
+}
+
 impl<'a> Scripts<'a> {
     /// What scripts with these names declare.
     pub fn new(alloc: Global, names: Names<'a>) -> Result<Scripts<'a>, Mem>
         ensures { IfOk result (λ scripts. scripts_in scripts.names ≡ scripts_in names.entry) }
     {
-        let fields = Fields::of(alloc, &names)?;
-        let created = all_created(alloc, &names)?;
-        let logs = LogTypes::of(alloc, &created)?;
+        let (fields, logs) = fields_and_logs(alloc, &names)?;
         Ok(Scripts {
             names,
             fields,

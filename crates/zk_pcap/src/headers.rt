@@ -1,5 +1,5 @@
 ghost use Rattle.std.specs.Prelude.{◌≡◌, ◌≢◌, ◌<◌, ◌≤◌, ℕ, length, Ok, Err, IfOk};
-ghost use Rattle.zk_pcap.specs.Header.{counted, form_of, header_by, header_of, is_link, nano_of, HasHeader};
+ghost use Rattle.zk_pcap.specs.Header.{counted, form_of, header_by, header_of, is_link, is_version_2_4, nano_of, HasHeader};
 ghost use Rattle.zk_pcap.specs.declared.faults.CaptureFault.TheVariants.{NoMemory, Short};
 
 use crate::CaptureFault;
@@ -113,9 +113,7 @@ impl Form {
         if bytes.len() < MAGIC_LEN + VERSION_LEN {
             return Err(short(bytes));
         }
-        if T::read_u16(&bytes[MAJOR..]) != MAJOR_VERSION
-            || T::read_u16(&bytes[MINOR..]) != MINOR_VERSION
-        {
+        if !is_version_2_4::<T>(bytes) {
             return Err(CaptureFault::Version);
         }
         if bytes.len() < HEADER_LEN {
@@ -132,6 +130,14 @@ impl Form {
             link,
         })
     }
+}
+
+/// Whether the version is the one that is read.
+fn is_version_2_4<T: ByteOrder>(bytes: &[u8]) -> bool
+    requires { 8 ≤ length bytes.now }
+    ensures { result ≡ is_version_2_4 T.number_of bytes.now }
+{
+    T::read_u16(&bytes[MAJOR..]) == MAJOR_VERSION && T::read_u16(&bytes[MINOR..]) == MINOR_VERSION
 }
 
 /// Whether a magic number stands for nanoseconds, `None` where the number is none.

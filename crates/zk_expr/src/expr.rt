@@ -37,6 +37,15 @@ impl<F: Fn(Global, &mut Tokens<'_>, u64, Counted) -> Result<Expr, FormFault>> Ex
         (self.nested)(self.alloc, tokens, self.depth, what)
     }
 
+    /// Such a node where a tree holds it in a box.
+    pub fn boxed(&self, tokens: &mut Tokens<'_>, what: Counted) -> Result<Boxed<Expr>, FormFault>
+        requires { Nests self.now.depth (F.pre self.now.nested) (F.post self.now.nested) }
+        ensures { Gives (within self.now.depth SyntaxExpr (nest_of what) tokens.old) result tokens.new }
+    {
+        let node = self.nested(tokens, what)?;
+        Ok(Boxed::new(self.alloc, node)?)
+    }
+
     /// `$NAME=a`
     #[tactic(auto, unfolding(zk_tree::specs::Grammar::named_item))]
     fn named_item(&self, tokens: &mut Tokens<'_>) -> Result<Item, FormFault>
@@ -85,9 +94,8 @@ impl<F: Fn(Global, &mut Tokens<'_>, u64, Counted) -> Result<Expr, FormFault>> Ex
     {
         let place = tokens.place();
         tokens.sign(Sign::OpenParenthesis)?;
-        let inner = self.nested(tokens, Counted::Expr)?;
+        let inner = self.boxed(tokens, Counted::Expr)?;
         tokens.sign(Sign::CloseParenthesis)?;
-        let inner = Boxed::new(self.alloc, inner)?;
         Ok(Expr::Parenthesis { place, inner })
     }
 
@@ -99,9 +107,8 @@ impl<F: Fn(Global, &mut Tokens<'_>, u64, Counted) -> Result<Expr, FormFault>> Ex
     {
         let place = tokens.place();
         tokens.sign(Sign::Bar)?;
-        let inner = self.nested(tokens, Counted::Expr)?;
+        let inner = self.boxed(tokens, Counted::Expr)?;
         tokens.sign(Sign::Bar)?;
-        let inner = Boxed::new(self.alloc, inner)?;
         Ok(Expr::Size { place, inner })
     }
 

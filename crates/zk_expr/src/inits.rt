@@ -1,5 +1,8 @@
 ghost use Rattle.std.specs.Prelude.{◌≡◌};
+ghost use Rattle.zk_tree.specs.declared.keyword.Mark.TheVariants as mark;
+ghost use Rattle.zk_tree.specs.declared.token.Sign.TheVariants as sign;
 ghost use Rattle.zk_tree.specs.Grammar as grammar;
+ghost use Rattle.zk_tree.specs.Rules.{After};
 ghost use Rattle.zk_reader.specs.Reading.{Gives, read, within};
 
 use crate::expr::{Counted, Exprs};
@@ -108,6 +111,14 @@ fn perhaps_typed(
     Ok((name, Some(typed)))
 }
 
+/// `= INIT`
+fn given(alloc: Global, tokens: &mut Tokens<'_>, depth: u64) -> Result<Init, FormFault>
+    ensures { Gives (read (within depth) (After (mark.Sign sign.Equal) grammar.initial) tokens.old) result tokens.new }
+{
+    tokens.sign(Sign::Equal)?;
+    initial(alloc, tokens, depth)
+}
+
 /// `NAME`, `NAME: TYPE`, `NAME = INIT`, `NAME: TYPE = INIT`
 #[tactic(auto, unfolding(zk_tree::specs::Grammar::variable))]
 pub fn variable(
@@ -121,7 +132,5 @@ pub fn variable(
     if !tokens.begins(Sign::Equal) {
         return Ok((typed, None));
     }
-    tokens.sign(Sign::Equal)?;
-    let value = initial(alloc, tokens, depth)?;
-    Ok((typed, Some(value)))
+    given(alloc, tokens, depth).map(|value| (typed, Some(value)))
 }

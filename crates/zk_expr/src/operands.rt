@@ -1,14 +1,13 @@
-ghost use Rattle.std.specs.Prelude.{◌≡◌, IfOk};
+ghost use Rattle.std.specs.Prelude.{◌≡◌, length, Some};
 ghost use Rattle.zk_tree.specs.declared.expr.Expr.{Expr as SyntaxExpr};
-ghost use Rattle.zk_tree.specs.declared.expr.Expr.TheVariants as expr;
 ghost use Rattle.zk_tree.specs.declared.operator.Level.TheVariants as level;
 ghost use Rattle.zk_tree.specs.Grammar as grammar;
-ghost use Rattle.zk_reader.specs.Reading.{Gives, read, within, opens};
+ghost use Rattle.zk_reader.specs.Reading.{Gives, read, repeated, ◌>>=◌ as and_then, within, opens};
 ghost use Rattle.zk_expr.specs.Nesting.{Nests, nest_of};
 
 use crate::expr::{Counted, Exprs};
 use sqlite_items::{Boxed, Items};
-use std::alloc::{AllocError, Global};
+use std::alloc::Global;
 use zk_reader::{FormFault, Tokens, Turns, repeat};
 use zk_tree::{Expr, Level, Link, Part, Sign};
 
@@ -48,45 +47,26 @@ impl<F: Fn(Global, &mut Tokens<'_>, u64, Counted) -> Result<Expr, FormFault>> Tu
     }
 }
 
-/// An operand and what belongs to it.
-fn posted(alloc: Global, first: Expr, parts: Items<Part>) -> Result<Expr, AllocError>
-    ensures { IfOk result (λ e. e ≡ grammar.posted first parts) }
-{
-    if parts.is_empty() {
-        return Ok(first);
-    }
-    let first = Boxed::new(alloc, first)?;
-    Ok(Expr::Post { first, parts })
-}
-
-/// Operands with operators of a level between them.
-fn chained(
+/// An operand, and behind it operators of a level with an operand each.
+fn chain<N: Turns<Link>>(
     alloc: Global,
+    tokens: &mut Tokens<'_>,
     level: Level,
     first: Expr,
-    others: Items<Link>,
-) -> Result<Expr, AllocError>
-    ensures { IfOk result (λ e. e ≡ grammar.chained level first others) }
+    links: &N,
+) -> Result<Expr, FormFault>
+    requires { N.ready links.now }
+    ensures { Gives (and_then (repeated (N.goes links.now) (N.at links.now) (length tokens.old) tokens.old) (λ x. Some (grammar.chained level first x.0, x.1))) result tokens.new }
 {
-    if others.is_empty() {
+    if !links.goes_on(tokens) {
         return Ok(first);
     }
     let first = Boxed::new(alloc, first)?;
+    let others = repeat(links, tokens, Items::new(alloc))?;
     Ok(Expr::Chain {
         level,
         first,
         others,
-    })
-}
-
-/// `TEST ? YES : OTHER`
-fn chosen(alloc: Global, test: Expr, yes: Expr, other: Expr) -> Result<Expr, AllocError>
-    ensures { IfOk result (λ e. e ≡ expr.Choice test yes other) }
-{
-    Ok(Expr::Choice {
-        test: Boxed::new(alloc, test)?,
-        yes: Boxed::new(alloc, yes)?,
-        no: Boxed::new(alloc, other)?,
     })
 }
 
@@ -207,8 +187,12 @@ impl<F: Fn(Global, &mut Tokens<'_>, u64, Counted) -> Result<Expr, FormFault>> Ex
         ensures { Gives (read (within self.now.depth) grammar.post tokens.old) result tokens.new }
     {
         let first = self.prim(tokens)?;
+        if !self.goes_on(tokens) {
+            return Ok(first);
+        }
+        let first = Boxed::new(self.alloc, first)?;
         let parts = repeat(self, tokens, Items::new(self.alloc))?;
-        Ok(posted(self.alloc, first, parts)?)
+        Ok(Expr::Post { first, parts })
     }
 
     /// `!a`, `-a`, `++a`, `--a`
@@ -222,8 +206,7 @@ impl<F: Fn(Global, &mut Tokens<'_>, u64, Counted) -> Result<Expr, FormFault>> Ex
             return Err(FormFault::NoForm);
         };
         tokens.step();
-        let operand = self.nested(tokens, Counted::Unary)?;
-        let operand = Boxed::new(self.alloc, operand)?;
+        let operand = self.boxed(tokens, Counted::Unary)?;
         Ok(Expr::Unary {
             place,
             operator,
@@ -260,8 +243,13 @@ impl<F: Fn(Global, &mut Tokens<'_>, u64, Counted) -> Result<Expr, FormFault>> Ex
         ensures { Gives (read (within self.now.depth) grammar.term tokens.old) result tokens.new }
     {
         let first = self.operand(tokens)?;
-        let others = repeat(&Terms { exprs: self }, tokens, Items::new(self.alloc))?;
-        Ok(chained(self.alloc, Level::Term, first, others)?)
+        chain(
+            self.alloc,
+            tokens,
+            Level::Term,
+            first,
+            &Terms { exprs: self },
+        )
     }
 
     /// `a + b - c`
@@ -271,8 +259,7 @@ impl<F: Fn(Global, &mut Tokens<'_>, u64, Counted) -> Result<Expr, FormFault>> Ex
         ensures { Gives (read (within self.now.depth) grammar.sum tokens.old) result tokens.new }
     {
         let first = self.term(tokens)?;
-        let others = repeat(&Sums { exprs: self }, tokens, Items::new(self.alloc))?;
-        Ok(chained(self.alloc, Level::Sum, first, others)?)
+        chain(self.alloc, tokens, Level::Sum, first, &Sums { exprs: self })
     }
 
     /// `a`, `a == b`, `a in b`
@@ -286,8 +273,8 @@ impl<F: Fn(Global, &mut Tokens<'_>, u64, Counted) -> Result<Expr, FormFault>> Ex
             return Ok(left);
         };
         tokens.step();
-        let right = self.sum(tokens)?;
         let left = Boxed::new(self.alloc, left)?;
+        let right = self.sum(tokens)?;
         let right = Boxed::new(self.alloc, right)?;
         Ok(Expr::Compare {
             left,
@@ -303,12 +290,13 @@ impl<F: Fn(Global, &mut Tokens<'_>, u64, Counted) -> Result<Expr, FormFault>> Ex
         ensures { Gives (read (within self.now.depth) grammar.conjunction tokens.old) result tokens.new }
     {
         let first = self.compare(tokens)?;
-        let others = repeat(
-            &Conjunctions { exprs: self },
+        chain(
+            self.alloc,
             tokens,
-            Items::new(self.alloc),
-        )?;
-        Ok(chained(self.alloc, Level::And, first, others)?)
+            Level::And,
+            first,
+            &Conjunctions { exprs: self },
+        )
     }
 
     /// `a || b`
@@ -318,25 +306,26 @@ impl<F: Fn(Global, &mut Tokens<'_>, u64, Counted) -> Result<Expr, FormFault>> Ex
         ensures { Gives (read (within self.now.depth) grammar.disjunction tokens.old) result tokens.new }
     {
         let first = self.conjunction(tokens)?;
-        let others = repeat(
-            &Disjunctions { exprs: self },
+        chain(
+            self.alloc,
             tokens,
-            Items::new(self.alloc),
-        )?;
-        Ok(chained(self.alloc, Level::Or, first, others)?)
+            Level::Or,
+            first,
+            &Disjunctions { exprs: self },
+        )
     }
 
     /// `? b : c`
     #[tactic(auto, unfolding(zk_tree::specs::Grammar::arms))]
-    fn arms(&self, tokens: &mut Tokens<'_>) -> Result<(Expr, Expr), FormFault>
+    fn arms(&self, tokens: &mut Tokens<'_>) -> Result<(Boxed<Expr>, Boxed<Expr>), FormFault>
         requires { Nests self.now.depth (F.pre self.now.nested) (F.post self.now.nested) }
         ensures { Gives (read (within self.now.depth) grammar.arms tokens.old) result tokens.new }
     {
         tokens.sign(Sign::Question)?;
-        let yes = self.nested(tokens, Counted::Expr)?;
+        let yes = self.boxed(tokens, Counted::Expr)?;
         tokens.sign(Sign::Colon)?;
-        let other = self.nested(tokens, Counted::Cond)?;
-        Ok((yes, other))
+        let no = self.boxed(tokens, Counted::Cond)?;
+        Ok((yes, no))
     }
 
     /// `a`, `a ? b : c`
@@ -349,8 +338,9 @@ impl<F: Fn(Global, &mut Tokens<'_>, u64, Counted) -> Result<Expr, FormFault>> Ex
         if !tokens.begins(Sign::Question) {
             return Ok(test);
         }
-        let (yes, other) = self.arms(tokens)?;
-        Ok(chosen(self.alloc, test, yes, other)?)
+        let test = Boxed::new(self.alloc, test)?;
+        let (yes, no) = self.arms(tokens)?;
+        Ok(Expr::Choice { test, yes, no })
     }
 
     /// `a`, `a = b`
@@ -364,9 +354,8 @@ impl<F: Fn(Global, &mut Tokens<'_>, u64, Counted) -> Result<Expr, FormFault>> Ex
             return Ok(left);
         };
         tokens.step();
-        let right = self.nested(tokens, Counted::Expr)?;
         let left = Boxed::new(self.alloc, left)?;
-        let right = Boxed::new(self.alloc, right)?;
+        let right = self.boxed(tokens, Counted::Expr)?;
         Ok(Expr::Assign {
             left,
             operator,

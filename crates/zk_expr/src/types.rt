@@ -1,8 +1,11 @@
-ghost use Rattle.std.specs.Prelude.{◌≡◌, length};
+ghost use Rattle.std.specs.Prelude.{◌≡◌, length, Some};
 ghost use Rattle.zk_tree.specs.declared.types.«Type».{«Type» as SyntaxType};
 ghost use Rattle.zk_tree.specs.Grammar as grammar;
-ghost use Rattle.zk_tree.specs.Rules.{AType};
-ghost use Rattle.zk_reader.specs.Reading.{Gives, NestsOf, repeated, read, unread, within, opens};
+ghost use Rattle.zk_tree.specs.Rules.{AType, After, Nested};
+ghost use Rattle.zk_tree.specs.declared.keyword.Keyword.TheVariants as keyword;
+ghost use Rattle.zk_tree.specs.declared.keyword.Mark.TheVariants as mark;
+ghost use Rattle.zk_tree.specs.declared.token.Sign.TheVariants as sign;
+ghost use Rattle.zk_reader.specs.Reading.{Gives, NestsOf, ◌>>=◌ as and_then, mark_at, repeated, read, unread, within, opens};
 
 use crate::expr::Counted;
 use crate::operands::nested_expr;
@@ -53,6 +56,15 @@ pub fn attrs(alloc: Global, tokens: &mut Tokens<'_>, depth: u64) -> Result<Items
     ensures { Gives (repeated (opens grammar.attr) (read (within depth) grammar.attr) (length tokens.old) tokens.old) result tokens.new }
 {
     repeat(&AttrTurns { alloc, depth }, tokens, Items::new(alloc))
+}
+
+/// `ATTRIBUTES;`
+fn ended_attrs(alloc: Global, tokens: &mut Tokens<'_>, depth: u64) -> Result<Items<Attr>, FormFault>
+    ensures { Gives (and_then (repeated (opens grammar.attr) (read (within depth) grammar.attr) (length tokens.old) tokens.old) (λ x. and_then (mark_at (mark.Sign sign.Semicolon) x.1) (λ last. Some (x.0, last.1)))) result tokens.new }
+{
+    let attrs = attrs(alloc, tokens, depth)?;
+    tokens.sign(Sign::Semicolon)?;
+    Ok(attrs)
 }
 
 /// Words between braces.
@@ -125,6 +137,16 @@ impl<F: Fn(Global, &mut Tokens<'_>, u64) -> Result<Type, FormFault>> Types<F> {
         Ok((params, Some(result)))
     }
 
+    /// `of TYPE`
+    fn of_type(&self, tokens: &mut Tokens<'_>) -> Result<Boxed<Type>, FormFault>
+        requires { NestsOf AType self.now.depth (F.pre self.now.nested) (F.post self.now.nested) }
+        ensures { Gives (read (within self.now.depth) (After (mark.Word keyword.Of) (Nested AType)) tokens.old) result tokens.new }
+    {
+        tokens.word(Keyword::Of)?;
+        let of = self.nested(tokens)?;
+        Ok(Boxed::new(self.alloc, of)?)
+    }
+
     /// Fields between braces.
     #[tactic(auto, unfolding(zk_tree::specs::Grammar::fields))]
     pub fn fields(&self, tokens: &mut Tokens<'_>) -> Result<Items<Field>, FormFault>
@@ -156,9 +178,7 @@ impl<F: Fn(Global, &mut Tokens<'_>, u64) -> Result<Type, FormFault>> Types<F> {
         let place = tokens.place();
         tokens.word(Keyword::Table)?;
         let keys = self.key_types(tokens)?;
-        tokens.word(Keyword::Of)?;
-        let value = self.nested(tokens)?;
-        let value = Boxed::new(self.alloc, value)?;
+        let value = self.of_type(tokens)?;
         Ok(Type::Table { place, keys, value })
     }
 
@@ -182,9 +202,7 @@ impl<F: Fn(Global, &mut Tokens<'_>, u64) -> Result<Type, FormFault>> Types<F> {
     {
         let place = tokens.place();
         tokens.word(Keyword::Vector)?;
-        tokens.word(Keyword::Of)?;
-        let item = self.nested(tokens)?;
-        let item = Boxed::new(self.alloc, item)?;
+        let item = self.of_type(tokens)?;
         Ok(Type::Vector { place, item })
     }
 
@@ -331,9 +349,7 @@ impl<F: Fn(Global, &mut Tokens<'_>, u64) -> Result<Type, FormFault>> Element<Typ
     #[tactic(auto, unfolding(zk_tree::specs::Grammar::field))]
     fn read(types: &Types<F>, tokens: &mut Tokens<'_>) -> Result<Field, FormFault> {
         let (name, field_type) = types.typed(tokens)?;
-        let attrs = attrs(types.alloc, tokens, types.depth)?;
-        tokens.sign(Sign::Semicolon)?;
-        Ok(Field {
+        ended_attrs(types.alloc, tokens, types.depth).map(|attrs| Field {
             name,
             field_type,
             attrs,

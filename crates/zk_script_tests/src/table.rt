@@ -41,22 +41,21 @@ fn make(rt: &impl Abort, alloc: Global, table: &mut Table, call: &Call) -> Resul
     Ok(())
 }
 
-/// Makes calls and compares the due after each, and the entries at the end: order, key and value.
+/// Makes calls on a table and compares the due after each, and the entries at the end.
 fn compare(
     rt: &impl Abort,
     alloc: Global,
     table: &mut Table,
     calls: &[(Call, Due)],
-    entries: &[(u64, u64, u64)],
 ) -> Result<(), Mem> {
     for (number, (call, due)) in calls.iter().enumerate() {
         make(rt, alloc, table, call)?;
         let found = table.due().map(|(at, order)| (at.0, order));
         assert!(rt; found == *due, "call {number}");
     }
-    assert!(rt; table.len() == entries.len());
+    assert!(rt; table.len() == ENTRIES.len());
     let keys = table.keys()?;
-    for (number, (order, key, value)) in entries.iter().enumerate() {
+    for (number, (order, key, value)) in ENTRIES.iter().enumerate() {
         let key = key_of(alloc, *key)?;
         assert!(rt; keys.get(number) == Some(&key), "key {number}");
         assert!(rt; table.key(*order) == Some(&key), "order {number}");
@@ -68,7 +67,7 @@ fn compare(
     Ok(())
 }
 
-/// The entries that are there at the end.
+/// The entries that are there at the end: order, key and value.
 const ENTRIES: [(u64, u64, u64); 3] = [(1, 5, 50), (3, 9, 92), (4, 7, 71)];
 
 /// Calls on a table whose entries don't expire.
@@ -120,16 +119,23 @@ const RENEWED: [(Call, Due); 12] = [
     (Insert(9, 7, 71), Some((16, 1))),
 ];
 
+/// Compares calls on a new table whose entries expire so.
+fn compare_new(
+    rt: &impl Abort,
+    alloc: Global,
+    expiry: Option<Expiry>,
+    calls: &[(Call, Due)],
+) -> Result<(), Mem> {
+    let mut table = Table::new(alloc, expiry);
+    compare(rt, alloc, &mut table, calls)
+}
+
 #[test]
 fn calls_do_what_each_expiry_says(rt: HostRuntime) -> Result<(), Fail> {
     let alloc = rt.alloc();
-    let mut table = Table::new(alloc, None);
-    compare(&rt, alloc, &mut table, &WITHOUT, &ENTRIES)?;
-    let mut table = Table::new(alloc, Some(Expiry::Create(Span(10))));
-    compare(&rt, alloc, &mut table, &CREATED, &ENTRIES)?;
-    for expiry in [Expiry::Read(Span(10)), Expiry::Write(Span(10))] {
-        let mut table = Table::new(alloc, Some(expiry));
-        compare(&rt, alloc, &mut table, &RENEWED, &ENTRIES)?;
-    }
+    compare_new(&rt, alloc, None, &WITHOUT)?;
+    compare_new(&rt, alloc, Some(Expiry::Create(Span(10))), &CREATED)?;
+    compare_new(&rt, alloc, Some(Expiry::Read(Span(10))), &RENEWED)?;
+    compare_new(&rt, alloc, Some(Expiry::Write(Span(10))), &RENEWED)?;
     Ok(())
 }

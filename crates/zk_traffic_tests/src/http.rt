@@ -86,16 +86,21 @@ impl Told {
     }
 }
 
-/// The head that a text is, or where it is a response the head of the answer to `GET`.
-fn head_of(alloc: Global, side: Side, text: &[u8]) -> Result<Head, Fail> {
-    let mut told = Told::new(alloc);
+/// The first unit that a text is, or where it is a response that of the answer to `GET`.
+fn first_unit(told: &mut Told, side: Side, text: &[u8]) -> Result<StreamUnit, Fail> {
     if side == Side::Resp {
         told.give(Side::Orig, GET)?;
     }
     told.readers.add_bytes(side, text)?;
     told.readers.read(side, &mut told.units)?;
     let freed = told.units.pop_front().ok_or("no unit")?;
-    match freed.unit {
+    Ok(freed.unit)
+}
+
+/// The head that a text is, or where it is a response the head of the answer to `GET`.
+fn head_of(alloc: Global, side: Side, text: &[u8]) -> Result<Head, Fail> {
+    let mut told = Told::new(alloc);
+    match first_unit(&mut told, side, text)? {
         StreamUnit::Http(unit) => match unit.what {
             UnitKind::Head(head) => Ok(head),
             _ => Err("no head")?,

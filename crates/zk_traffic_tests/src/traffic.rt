@@ -122,23 +122,24 @@ fn note(traffic: &mut Traffic, items: &mut Vec<(Moment, u64, Shown)>) -> Result<
     Ok(())
 }
 
-/// Gives one of the frames, and notes its items.
+/// Gives frames in turn, each with its time, and notes their items.
 fn give(
     rt: &impl Abort,
     traffic: &mut Traffic,
-    index: u8,
+    frames: &[(u8, &[u8])],
     items: &mut Vec<(Moment, u64, Shown)>,
 ) -> Result<(), Mem> {
-    assert!(rt; index < 4);
-    let (hundredths, frame) = FRAMES[usize::from(index)];
-    assert!(rt; frame.len() <= 100);
-    traffic.packet(PacketView {
-        moment: at(hundredths),
-        orig_len: frame.len() as u32,
-        bytes: frame,
-        place: 0,
-    })?;
-    note(traffic, items)
+    for (hundredths, frame) in frames {
+        assert!(rt; frame.len() <= 100);
+        traffic.packet(PacketView {
+            moment: at(*hundredths),
+            orig_len: frame.len() as u32,
+            bytes: frame,
+            place: 0,
+        })?;
+        note(traffic, items)?;
+    }
+    Ok(())
 }
 
 #[test]
@@ -150,9 +151,7 @@ fn bytes_that_the_capture_lacks_are_a_gap(rt: HostRuntime) -> Result<(), Fail> {
     };
     let mut traffic = Traffic::new(rt.alloc(), options, LINKTYPE_ETHERNET)?;
     let mut items = Vec::new(rt.alloc());
-    give(&rt, &mut traffic, 0, &mut items)?;
-    give(&rt, &mut traffic, 1, &mut items)?;
-    give(&rt, &mut traffic, 2, &mut items)?;
+    give(&rt, &mut traffic, &FRAMES[..3], &mut items)?;
     match traffic.fresh(0) {
         Some(run) => {
             assert!(rt; run.conn.0 == 1 && run.side == Side::Resp && run.from == 0);
@@ -161,7 +160,7 @@ fn bytes_that_the_capture_lacks_are_a_gap(rt: HostRuntime) -> Result<(), Fail> {
         None => assert!(rt; false),
     }
     assert!(rt; traffic.fresh(1).is_none());
-    give(&rt, &mut traffic, 3, &mut items)?;
+    give(&rt, &mut traffic, &FRAMES[3..], &mut items)?;
     assert!(rt; traffic.fresh(0).is_none());
     assert!(rt; traffic.kept() == 40);
     let wanted = [

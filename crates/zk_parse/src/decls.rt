@@ -45,8 +45,7 @@ fn declared(
     ensures { Gives (read (within depth) grammar.declared tokens.old) result tokens.new }
 {
     let variable = variable(alloc, tokens, depth)?;
-    let attrs = attrs(alloc, tokens, depth)?;
-    Ok((variable, attrs))
+    attrs(alloc, tokens, depth).map(|attrs| (variable, attrs))
 }
 
 /// `global NAME: TYPE = INIT ATTRIBUTES;`, or with `const`.
@@ -56,10 +55,8 @@ fn variable_decl(alloc: Global, tokens: &mut Tokens<'_>, depth: u64) -> Result<D
 {
     let place = tokens.place();
     let lasting = tokens.take_lasting()?;
-    let declared = declared(alloc, tokens, depth)?;
-    tokens.sign(Sign::Semicolon)?;
-    let (((name, variable_type), init), attrs) = declared;
-    Ok(Decl::Variable {
+    let (((name, variable_type), init), attrs) = declared(alloc, tokens, depth)?;
+    tokens.sign(Sign::Semicolon).map(|()| Decl::Variable {
         place,
         lasting,
         name,
@@ -179,8 +176,9 @@ fn redef_decl(alloc: Global, tokens: &mut Tokens<'_>, depth: u64) -> Result<Decl
     let place = tokens.place();
     tokens.word(Keyword::Redef)?;
     let redefinition = redefined(alloc, tokens, depth)?;
-    tokens.sign(Sign::Semicolon)?;
-    Ok(redefine(place, redefinition))
+    tokens
+        .sign(Sign::Semicolon)
+        .map(|()| redefine(place, redefinition))
 }
 
 /// Parameters and attributes.
@@ -226,8 +224,7 @@ fn function_decl(alloc: Global, tokens: &mut Tokens<'_>, depth: u64) -> Result<D
     tokens.word(Keyword::Function)?;
     let name = tokens.name(alloc)?;
     let (params, result_type) = signature(alloc, tokens, depth)?;
-    let body = block(alloc, tokens, depth)?;
-    Ok(Decl::Function {
+    block(alloc, tokens, depth).map(|body| Decl::Function {
         place,
         name,
         params,

@@ -1,7 +1,10 @@
 ghost use Rattle.std.specs.Prelude.{◌≡◌};
 ghost use Rattle.zk_tree.specs.declared.stmt.Stmt.{Stmt as SyntaxStmt};
+ghost use Rattle.zk_tree.specs.declared.keyword.Keyword.TheVariants as keyword;
+ghost use Rattle.zk_tree.specs.declared.keyword.Mark.TheVariants as mark;
+ghost use Rattle.zk_tree.specs.declared.token.Sign.TheVariants as sign;
 ghost use Rattle.zk_tree.specs.Grammar as grammar;
-ghost use Rattle.zk_tree.specs.Rules.{AStmt};
+ghost use Rattle.zk_tree.specs.Rules.{AnExpr, AStmt, After, Before, Nested};
 ghost use Rattle.zk_reader.specs.Reading.{Gives, NestsOf, read, unread, within};
 
 use sqlite_items::{Boxed, Items};
@@ -9,6 +12,19 @@ use std::alloc::Global;
 use zk_expr::{Counted, exprs, named_args, nested_expr, variable};
 use zk_reader::{Element, FormFault, Tokens, listed, up_to_brace};
 use zk_tree::{Block, Expr, Item, Keys, Keyword, Name, Sign, Stmt};
+
+/// An expression, and the sign behind it.
+fn ended_expr(
+    alloc: Global,
+    tokens: &mut Tokens<'_>,
+    depth: u64,
+    end: Sign,
+) -> Result<Expr, FormFault>
+    ensures { Gives (read (within depth) (Before (Nested AnExpr) (mark.Sign end)) tokens.old) result tokens.new }
+{
+    let value = nested_expr(alloc, tokens, depth, Counted::Expr)?;
+    tokens.sign(end).map(|()| value)
+}
 
 /// `NAME`, `[NAME, ..]`
 #[tactic(auto, unfolding(zk_tree::specs::Grammar::for_keys))]
@@ -51,9 +67,7 @@ fn for_head(
     tokens.sign(Sign::OpenParenthesis)?;
     let names = for_names(alloc, tokens)?;
     tokens.word(Keyword::In)?;
-    let over = nested_expr(alloc, tokens, depth, Counted::Expr)?;
-    tokens.sign(Sign::CloseParenthesis)?;
-    Ok((names, over))
+    ended_expr(alloc, tokens, depth, Sign::CloseParenthesis).map(|over| (names, over))
 }
 
 /// `local NAME: TYPE = INIT;`
@@ -64,8 +78,7 @@ fn local_stmt(alloc: Global, tokens: &mut Tokens<'_>, depth: u64) -> Result<Stmt
     let place = tokens.place();
     tokens.word(Keyword::Local)?;
     let ((name, local_type), init) = variable(alloc, tokens, depth)?;
-    tokens.sign(Sign::Semicolon)?;
-    Ok(Stmt::Local {
+    tokens.sign(Sign::Semicolon).map(|()| Stmt::Local {
         place,
         name,
         local_type,
@@ -97,18 +110,19 @@ fn event_stmt(alloc: Global, tokens: &mut Tokens<'_>, depth: u64) -> Result<Stmt
     Ok(Stmt::Event { place, name, items })
 }
 
-/// `{ NAME(..) }`
+/// `{ NAME(..) };`
 #[tactic(auto, unfolding(zk_tree::specs::Grammar::scheduled))]
 fn scheduled(
     alloc: Global,
     tokens: &mut Tokens<'_>,
     depth: u64,
 ) -> Result<(Name, Items<Item>), FormFault>
-    ensures { Gives (read (within depth) grammar.scheduled tokens.old) result tokens.new }
+    ensures { Gives (read (within depth) (Before grammar.scheduled (mark.Sign sign.Semicolon)) tokens.old) result tokens.new }
 {
     tokens.sign(Sign::OpenBrace)?;
     let event = named_args(alloc, tokens, depth)?;
     tokens.sign(Sign::CloseBrace)?;
+    tokens.sign(Sign::Semicolon)?;
     Ok(event)
 }
 
@@ -120,9 +134,7 @@ fn schedule_stmt(alloc: Global, tokens: &mut Tokens<'_>, depth: u64) -> Result<S
     let place = tokens.place();
     tokens.word(Keyword::Schedule)?;
     let delay = nested_expr(alloc, tokens, depth, Counted::Expr)?;
-    let (name, items) = scheduled(alloc, tokens, depth)?;
-    tokens.sign(Sign::Semicolon)?;
-    Ok(Stmt::Schedule {
+    scheduled(alloc, tokens, depth).map(|(name, items)| Stmt::Schedule {
         place,
         delay,
         name,
@@ -137,8 +149,7 @@ fn add_stmt(alloc: Global, tokens: &mut Tokens<'_>, depth: u64) -> Result<Stmt, 
 {
     let place = tokens.place();
     tokens.word(Keyword::Add)?;
-    let element = nested_expr(alloc, tokens, depth, Counted::Expr)?;
-    tokens.sign(Sign::Semicolon)?;
+    let element = ended_expr(alloc, tokens, depth, Sign::Semicolon)?;
     Ok(Stmt::Add { place, element })
 }
 
@@ -149,8 +160,7 @@ fn delete_stmt(alloc: Global, tokens: &mut Tokens<'_>, depth: u64) -> Result<Stm
 {
     let place = tokens.place();
     tokens.word(Keyword::Delete)?;
-    let element = nested_expr(alloc, tokens, depth, Counted::Expr)?;
-    tokens.sign(Sign::Semicolon)?;
+    let element = ended_expr(alloc, tokens, depth, Sign::Semicolon)?;
     Ok(Stmt::Delete { place, element })
 }
 
@@ -163,8 +173,7 @@ fn returned(alloc: Global, tokens: &mut Tokens<'_>, depth: u64) -> Result<Option
         tokens.sign(Sign::Semicolon)?;
         return Ok(None);
     }
-    let value = nested_expr(alloc, tokens, depth, Counted::Expr)?;
-    tokens.sign(Sign::Semicolon)?;
+    let value = ended_expr(alloc, tokens, depth, Sign::Semicolon)?;
     Ok(Some(value))
 }
 
@@ -184,8 +193,7 @@ fn return_stmt(alloc: Global, tokens: &mut Tokens<'_>, depth: u64) -> Result<Stm
 fn expr_stmt(alloc: Global, tokens: &mut Tokens<'_>, depth: u64) -> Result<Stmt, FormFault>
     ensures { Gives (read (within depth) grammar.expr_stmt tokens.old) result tokens.new }
 {
-    let value = nested_expr(alloc, tokens, depth, Counted::Expr)?;
-    tokens.sign(Sign::Semicolon)?;
+    let value = ended_expr(alloc, tokens, depth, Sign::Semicolon)?;
     Ok(Stmt::Expr { value })
 }
 
@@ -251,6 +259,15 @@ impl<F: Fn(Global, &mut Tokens<'_>, u64) -> Result<Stmt, FormFault>> Stmts<F> {
         (self.nested)(self.alloc, tokens, self.depth)
     }
 
+    /// A statement, in a box as trees hold it.
+    fn boxed(&self, tokens: &mut Tokens<'_>) -> Result<Boxed<Stmt>, FormFault>
+        requires { NestsOf AStmt self.now.depth (F.pre self.now.nested) (F.post self.now.nested) }
+        ensures { Gives (within self.now.depth SyntaxStmt AStmt tokens.old) result tokens.new }
+    {
+        let stmt = self.nested(tokens)?;
+        Ok(Boxed::new(self.alloc, stmt)?)
+    }
+
     /// Statements between braces.
     #[tactic(auto, unfolding(zk_tree::specs::Grammar::block))]
     pub fn block(&self, tokens: &mut Tokens<'_>) -> Result<Block, FormFault>
@@ -280,11 +297,17 @@ impl<F: Fn(Global, &mut Tokens<'_>, u64) -> Result<Stmt, FormFault>> Stmts<F> {
         ensures { Gives (read (within self.now.depth) grammar.guarded tokens.old) result tokens.new }
     {
         tokens.sign(Sign::OpenParenthesis)?;
-        let test = nested_expr(self.alloc, tokens, self.depth, Counted::Expr)?;
-        tokens.sign(Sign::CloseParenthesis)?;
-        let body = self.nested(tokens)?;
-        let body = Boxed::new(self.alloc, body)?;
-        Ok((test, body))
+        let test = ended_expr(self.alloc, tokens, self.depth, Sign::CloseParenthesis)?;
+        self.boxed(tokens).map(|body| (test, body))
+    }
+
+    /// `else NO`
+    fn other(&self, tokens: &mut Tokens<'_>) -> Result<Boxed<Stmt>, FormFault>
+        requires { NestsOf AStmt self.now.depth (F.pre self.now.nested) (F.post self.now.nested) }
+        ensures { Gives (read (within self.now.depth) (After (mark.Word keyword.Else) (Nested AStmt)) tokens.old) result tokens.new }
+    {
+        tokens.word(Keyword::Else)?;
+        self.boxed(tokens)
     }
 
     /// `(TEST) YES`, `(TEST) YES else NO`
@@ -300,10 +323,7 @@ impl<F: Fn(Global, &mut Tokens<'_>, u64) -> Result<Stmt, FormFault>> Stmts<F> {
         if !tokens.begins_word(Keyword::Else) {
             return Ok((guarded, None));
         }
-        tokens.word(Keyword::Else)?;
-        let other = self.nested(tokens)?;
-        let other = Boxed::new(self.alloc, other)?;
-        Ok((guarded, Some(other)))
+        self.other(tokens).map(|other| (guarded, Some(other)))
     }
 
     /// `if ( TEST ) YES`, `if ( TEST ) YES else NO`
@@ -339,9 +359,7 @@ impl<F: Fn(Global, &mut Tokens<'_>, u64) -> Result<Stmt, FormFault>> Stmts<F> {
         let place = tokens.place();
         tokens.word(Keyword::For)?;
         let ((keys, value), over) = for_head(self.alloc, tokens, self.depth)?;
-        let body = self.nested(tokens)?;
-        let body = Boxed::new(self.alloc, body)?;
-        Ok(Stmt::For {
+        self.boxed(tokens).map(|body| Stmt::For {
             place,
             keys,
             value,

@@ -12,6 +12,7 @@ ghost use Rattle.zk_top.specs.Sink.{Beginning, CanTake, HasTaken, TakesSome};
 ghost use Rattle.zk_top.specs.Writing.{no_output};
 
 use crate::sink::Sink;
+use sqlite_items::Boxed;
 use std::alloc::Global;
 use zk_base::{Mem, Moment, Shelf};
 use zk_events::{Engine, ItemEnd, lines_given, lines_stay};
@@ -30,13 +31,13 @@ impl Player {
     ghost use Rattle.zk_top.specs.Replay.{Gives, Plays, output_at};
 
     /// A program before its beginning, and where its output goes. Each body has so many units.
-    pub fn new(alloc: Global, code: Code, budget: u64, sink: Sink) -> Result<Player, Mem>
+    pub fn new(alloc: Global, code: Boxed<Code>, budget: u64, sink: Sink) -> Result<Player, Mem>
         ensures plays { IfOk result (λ player. (first : Beginning) (program : Program) (now : Outside) → lower.code_of code ≡ lowered program
             → HasTaken first no_output sink now → Plays first program budget New player now) }
         ensures sink { IfOk result (λ player. player.sink ≡ sink) }
     {
         Ok(Player {
-            engine: Engine::new(alloc, code, budget)?,
+            engine: Engine::new(alloc, code.into_inner(), budget)?,
             sink,
         })
     }

@@ -20,6 +20,7 @@ use crate::player::Player;
 use crate::sink::Sink;
 use crate::summary::RowCounts;
 use crate::writer::Writer;
+use sqlite_items::Boxed;
 use std::alloc::Global;
 use zk_base::{Mem, Moment, Shelf};
 use zk_events::{ItemEnd, lines_stay};
@@ -67,7 +68,7 @@ impl Replay {
         alloc: Global,
         options: Options,
         link: u16,
-        code: Code,
+        code: Boxed<Code>,
         budget: u64,
         sink: Sink,
     ) -> Result<Replay, Mem>
@@ -283,7 +284,7 @@ pub fn count_rows<S: Shelf>(
     alloc: Global,
     shelf: &mut S,
     options: Options,
-    code: Code,
+    code: Boxed<Code>,
     budget: u64,
     reader: &mut CaptureReader,
 ) -> Result<(Came, RowCounts), Stop>
@@ -302,7 +303,7 @@ pub fn replay_capture<S: Shelf>(
     alloc: Global,
     shelf: &mut S,
     options: Options,
-    code: Code,
+    code: Boxed<Code>,
     budget: u64,
     reader: &mut CaptureReader,
 ) -> Result<Came, Stop>

@@ -1,10 +1,12 @@
+use sqlite_items::Boxed;
 use zk_base::ScriptKind;
 use zk_lower::Code;
 
 /// A program that can be run.
 #[derive(Debug, Drop)]
 pub struct Runnable {
-    pub code: Code,
+    /// In a box, since it is handed on by value.
+    pub code: Boxed<Code>,
     /// Whether it handles packets.
     pub packets: bool,
 }

@@ -12,6 +12,7 @@ ghost use Rattle.zk_top.specs.Printed.{handles};
 ghost use Rattle.zk_top.specs.Script.{default_scripts, scripts_before, judged, name_of, program_of, refused_at};
 
 use crate::runnable::{Refusal, Runnable};
+use sqlite_items::Boxed;
 use std::alloc::Global;
 use zk_base::{Bytes, Ending, Mem, ScriptKind, Sequence, Shelf, Word};
 use zk_check::{CheckFault, PACKET_SEEN, check};
@@ -75,8 +76,9 @@ fn compile(alloc: Global, scripts: &[(Bytes, Tree)]) -> Result<Found<Runnable>, 
 fn runnable(alloc: Global, program: &Program) -> Result<Runnable, Mem>
     ensures { IfOk result (λ runnable. Runs runnable (plain_program program.now)) }
 {
+    let code = lower(alloc, program)?;
     Ok(Runnable {
-        code: lower(alloc, program)?,
+        code: Boxed::new(alloc, code)?,
         packets: handles_packets(program),
     })
 }

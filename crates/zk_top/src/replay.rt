@@ -63,7 +63,7 @@ impl Came {
 impl Replay {
     ghost use Rattle.zk_top.specs.Replay.{After, Comes, HasCome, HasPlayed, HasRun, IsOver, StopsOver, items_in, output_at};
 
-    /// A replay of a capture with frames of a link type, before its beginning, and where its output goes.
+    /// A replay of a capture with frames of a link type, before its beginning, and where its output goes. It is large, so it is in a box.
     fn new(
         alloc: Global,
         options: Options,
@@ -71,16 +71,17 @@ impl Replay {
         code: Boxed<Code>,
         budget: u64,
         sink: Sink,
-    ) -> Result<Replay, Mem>
+    ) -> Result<Box<Replay>, Mem>
         ensures comes { IfOk result (λ replay. (first : Beginning) (program : Program) (now : Outside) → lower.code_of code ≡ lowered program
             → HasTaken first no_output sink now
-            → Comes first (record { options = options; link = link; program = program; budget = budget }) [] [] false New replay now) }
-        ensures sink { IfOk result (λ replay. replay.player.sink ≡ sink) }
+            → Comes first (record { options = options; link = link; program = program; budget = budget }) [] [] false New replay.value now) }
+        ensures sink { IfOk result (λ replay. replay.value.player.sink ≡ sink) }
     {
-        Ok(Replay {
+        let replay = Replay {
             traffic: Traffic::new(alloc, options, link)?,
             player: Player::new(alloc, code, budget, sink)?,
-        })
+        };
+        Ok(Box::new(alloc, replay)?)
     }
 
     /// Begins the run.

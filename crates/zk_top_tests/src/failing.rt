@@ -66,8 +66,9 @@ fn first_otherwise(
     row: &Failing,
 ) -> Result<Option<u64>, Mem> {
     let words = words(alloc, row.line)?;
-    let mut whole = SureShelf::new(alloc, inputs(alloc, files)?)?;
-    let _ = run(alloc, &words, &mut whole);
+    let whole = SureShelf::new(alloc, inputs(alloc, files)?)?;
+    let mut whole = Box::new(alloc, whole)?;
+    let _ = run(alloc, &words, &mut *whole);
     for (n, status) in row.statuses.iter().enumerate() {
         let call = n as u64 + 1;
         if !stops_so(alloc, files, row, &words, &whole, call, *status)? {

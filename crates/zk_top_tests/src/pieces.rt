@@ -45,24 +45,24 @@ impl Shelf for Narrow {
 }
 
 /// Lists a capture that is read in pieces of at most so many bytes.
-fn list_by(alloc: Global, bytes: &[u8], most: usize) -> Result<(Ending, SureShelf), Mem> {
+fn list_by(alloc: Global, bytes: &[u8], most: usize) -> Result<(Ending, Box<Narrow>), Mem> {
     let shelf = SureShelf::new(alloc, inputs(alloc, &[(b"c.pcap", bytes)])?)?;
+    let mut narrow = Box::new(alloc, Narrow { shelf, most })?;
     let words = words(alloc, b"list c.pcap")?;
-    let mut narrow = Narrow { shelf, most };
-    let ending = run(alloc, &words, &mut narrow);
-    Ok((ending, narrow.shelf))
+    let ending = run(alloc, &words, &mut *narrow);
+    Ok((ending, narrow))
 }
 
 #[test]
 fn a_capture_has_the_same_lines_in_pieces_of_any_size(rt: HostRuntime) -> Result<(), Fail> {
     for (n, (bytes, lines)) in ROWS.iter().enumerate() {
         for most in [1, 7, 65_536] {
-            let (ending, shelf) = list_by(rt.alloc(), bytes, most)?;
+            let (ending, narrow) = list_by(rt.alloc(), bytes, most)?;
             assert!(rt;
                 matches!(ending, Ending::Done),
                 "row {n} in pieces of {most}"
             );
-            assert_eq!(rt; shelf.said(), *lines, "row {n} in pieces of {most}");
+            assert_eq!(rt; narrow.shelf.said(), *lines, "row {n} in pieces of {most}");
         }
     }
     Ok(())
@@ -75,9 +75,13 @@ fn a_long_capture_has_the_same_lines_in_pieces_of_any_size(rt: HostRuntime) -> R
     assert!(rt; bytes.len() > 65_536);
     let (_, whole) = list_by(rt.alloc(), bytes.as_slice(), 65_536)?;
     for most in [1, 7] {
-        let (ending, shelf) = list_by(rt.alloc(), bytes.as_slice(), most)?;
+        let (ending, narrow) = list_by(rt.alloc(), bytes.as_slice(), most)?;
         assert!(rt; matches!(ending, Ending::Done), "in pieces of {most}");
-        assert_eq!(rt; shelf.said(), whole.said(), "in pieces of {most}");
+        assert_eq!(rt;
+            narrow.shelf.said(),
+            whole.shelf.said(),
+            "in pieces of {most}"
+        );
     }
     Ok(())
 }
@@ -86,12 +90,12 @@ fn a_long_capture_has_the_same_lines_in_pieces_of_any_size(rt: HostRuntime) -> R
 #[test]
 fn a_header_is_refused_as_soon_as_it_is_sure(rt: HostRuntime) -> Result<(), Fail> {
     for (most, calls) in [(1, 6), (3, 4), (65_536, 3)] {
-        let (ending, shelf) = list_by(rt.alloc(), &[0; 100], most)?;
+        let (ending, narrow) = list_by(rt.alloc(), &[0; 100], most)?;
         assert!(rt;
             matches!(ending, Ending::CaptureRefused { place: 0, .. }),
             "in pieces of {most}"
         );
-        assert_eq!(rt; shelf.calls(), calls, "in pieces of {most}");
+        assert_eq!(rt; narrow.shelf.calls(), calls, "in pieces of {most}");
     }
     Ok(())
 }

@@ -253,7 +253,7 @@ fn is_as(row: &Row, facts: &Facts) -> bool {
 #[test]
 fn each_state_has_its_facts_and_its_removal(rt: HostRuntime) -> Result<(), Fail> {
     for (n, row) in STATES.iter().enumerate() {
-        let mut conns = Conns::new(rt.alloc());
+        let mut conns = Box::new(rt.alloc(), Conns::new(rt.alloc()))?;
         for told in row.told {
             tell(&rt, &mut conns, row.proto, *told);
         }
@@ -278,7 +278,7 @@ fn from_port(port: u16, flags: u8) -> L4View {
 fn instances_are_numbered_as_they_begin_and_removed_by_moment_and_number(
     rt: HostRuntime,
 ) -> Result<(), Fail> {
-    let mut conns = Conns::new(rt.alloc());
+    let mut conns = Box::new(rt.alloc(), Conns::new(rt.alloc()))?;
     let second = 1_000_000;
     // ports 1, 2 and 3 begin; 3 is reset, and 1 goes on
     let rows = [

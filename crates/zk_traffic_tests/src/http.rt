@@ -42,13 +42,14 @@ fn say(text: &mut String, unit: &Unit) -> Result<(), Fail> {
 }
 
 impl Told {
-    fn new(alloc: Global) -> Told {
-        Told {
+    fn new(alloc: Global) -> Result<Box<Told>, Fail> {
+        let told = Told {
             readers: Readers::new(alloc, Some(Protocol::Http)),
             units: VecDeque::new(alloc),
             asked: String::new(alloc),
             answered: String::new(alloc),
-        }
+        };
+        Ok(Box::new(alloc, told)?)
     }
 
     /// Reads what has come, and says the units that it frees.
@@ -99,7 +100,7 @@ fn first_unit(told: &mut Told, side: Side, text: &[u8]) -> Result<StreamUnit, Fa
 
 /// The head that a text is, or where it is a response the head of the answer to `GET`.
 fn head_of(alloc: Global, side: Side, text: &[u8]) -> Result<Head, Fail> {
-    let mut told = Told::new(alloc);
+    let mut told = Told::new(alloc)?;
     match first_unit(&mut told, side, text)? {
         StreamUnit::Http(unit) => match unit.what {
             UnitKind::Head(head) => Ok(head),
@@ -184,7 +185,7 @@ const REQUESTS: [(&[u8], u64, &str); 7] = [
 #[test]
 fn a_request_tells_its_body(rt: HostRuntime) -> Result<(), Fail> {
     for (n, (text, gap, units)) in REQUESTS.iter().enumerate() {
-        let mut told = Told::new(rt.alloc());
+        let mut told = Told::new(rt.alloc())?;
         told.give(Side::Orig, text)?;
         told.finish(Side::Orig, *gap, true)?;
         assert!(rt; told.asked.as_str() == *units, "in row {n}");
@@ -263,7 +264,7 @@ const RESPONSES: [(&[u8], &[u8], u64, &str); 11] = [
 #[test]
 fn a_response_tells_its_body(rt: HostRuntime) -> Result<(), Fail> {
     for (n, (request, response, gap, units)) in RESPONSES.iter().enumerate() {
-        let mut told = Told::new(rt.alloc());
+        let mut told = Told::new(rt.alloc())?;
         told.give(Side::Orig, request)?;
         told.give(Side::Resp, response)?;
         told.finish(Side::Resp, *gap, true)?;
@@ -280,8 +281,8 @@ fn piece(bytes: &[u8], cut: usize, turn: usize) -> &[u8] {
 }
 
 /// What is told of an exchange whose sides come so many bytes at a time.
-fn told_of(alloc: Global, exchange: &Exchange, cut: usize) -> Result<Told, Fail> {
-    let mut told = Told::new(alloc);
+fn told_of(alloc: Global, exchange: &Exchange, cut: usize) -> Result<Box<Told>, Fail> {
+    let mut told = Told::new(alloc)?;
     for turn in 0..10_000 {
         let request = piece(exchange.requests.bytes, cut, turn);
         let response = piece(exchange.responses.bytes, cut, turn);
@@ -315,7 +316,7 @@ fn units_are_the_same_however_streams_are_cut(rt: HostRuntime) -> Result<(), Fai
 
 #[test]
 fn many_small_chunks_are_read_once(rt: HostRuntime) -> Result<(), Fail> {
-    let mut told = Told::new(rt.alloc());
+    let mut told = Told::new(rt.alloc())?;
     told.give(Side::Orig, GET)?;
     told.give(
         Side::Resp,

@@ -177,10 +177,11 @@ fn what_a_read_brings_stands_next(rt: HostRuntime) -> Result<(), Fail> {
     let alloc = rt.alloc();
     let name = Bytes::copy_of(alloc, b"records")?;
     let records = Bytes::copy_of(alloc, &QUERY_AND_ANSWER[24..])?;
-    let mut shelf = SureShelf::new(alloc, vec![in alloc; (name, records)]?)?;
-    let mut feed = Feed::new(alloc, &Header::read(&HEADER)?)?;
+    let shelf = SureShelf::new(alloc, vec![in alloc; (name, records)]?)?;
+    let mut shelf = Box::new(alloc, shelf)?;
+    let mut feed = Box::new(alloc, Feed::new(alloc, &Header::read(&HEADER)?)?)?;
     if shelf.start(b"records") == Started::Open {
-        assert!(rt; feed.read_from(&mut shelf, 100)? == Got::Bytes(100));
+        assert!(rt; feed.read_from(&mut *shelf, 100)? == Got::Bytes(100));
     }
     let Next::Packet(query) = feed.next() else {
         panic!(rt; "a packet")

@@ -149,7 +149,8 @@ fn bytes_that_the_capture_lacks_are_a_gap(rt: HostRuntime) -> Result<(), Fail> {
         buffer: 1 << 20,
         packets: false,
     };
-    let mut traffic = Traffic::new(rt.alloc(), options, LINKTYPE_ETHERNET)?;
+    let traffic = Traffic::new(rt.alloc(), options, LINKTYPE_ETHERNET)?;
+    let mut traffic = Box::new(rt.alloc(), traffic)?;
     let mut items = Vec::new(rt.alloc());
     give(&rt, &mut traffic, &FRAMES[..3], &mut items)?;
     match traffic.fresh(0) {

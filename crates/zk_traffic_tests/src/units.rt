@@ -42,7 +42,8 @@ fn note(units: &mut VecDeque<Freed>, shown: &mut Vec<Shown>) -> Result<(), Mem> 
 
 #[test]
 fn both_sides_give_their_units_in_turn(rt: HostRuntime) -> Result<(), Fail> {
-    let mut readers = Readers::new(rt.alloc(), protocol_at(Proto::Tcp, 8080));
+    let readers = Readers::new(rt.alloc(), protocol_at(Proto::Tcp, 8080));
+    let mut readers = Box::new(rt.alloc(), readers)?;
     let mut units = VecDeque::new(rt.alloc());
     let mut shown = Vec::new(rt.alloc());
     readers.add_bytes(
@@ -69,7 +70,8 @@ fn both_sides_give_their_units_in_turn(rt: HostRuntime) -> Result<(), Fail> {
 
 #[test]
 fn a_gap_ends_a_side_of_dns(rt: HostRuntime) -> Result<(), Fail> {
-    let mut readers = Readers::new(rt.alloc(), protocol_at(Proto::Tcp, 53));
+    let readers = Readers::new(rt.alloc(), protocol_at(Proto::Tcp, 53));
+    let mut readers = Box::new(rt.alloc(), readers)?;
     let mut units = VecDeque::new(rt.alloc());
     let mut shown = Vec::new(rt.alloc());
     let query = b"\x00\x11\x12\x34\x01\x00\x00\x01\x00\x00\x00\x00\x00\x00\x00\x00\x01\x00\x01\x00";

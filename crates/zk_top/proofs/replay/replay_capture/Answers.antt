@@ -31,24 +31,24 @@ returns-in_err-replay-clause-stopped g c =
 pub play-requires-clause-ready : goal.play-requires-clause-ready
 play-requires-clause-ready g c =
     let old = g.S.Shelf.outside c.args.shelf.now in
-    subst (λ sink. CanTake sink old) (sym c.in_ok-replay.ensures.sink) (c.in_ok-writer.ensures.ready old)
+    subst (λ replay. CanTake replay.player.sink old) (sym c.deref_mut.ensures.value) (subst (λ sink. CanTake sink old) (sym c.in_ok-replay.ensures.sink) (c.in_ok-writer.ensures.ready old))
 
 pub returns-clause-replays : goal.returns-clause-replays
 returns-clause-replays g c = IfOk-weaker c.play.result _ _ (λ came does program whole header bytes are reading.
     let old = g.S.Shelf.outside c.args.shelf.now in
     let plan : Plan = record { options = c.args.options; link = header.link; program = program; budget = c.args.budget } in
     let first : Beginning = record { outside = old; target = Written } in
-    let begins : Comes first plan [] [] false New c.in_ok-replay.replay old =
-    subst (λ link. Comes first (record { options = c.args.options; link = link; program = program; budget = c.args.budget }) [] [] false New c.in_ok-replay.replay old) (c.link.ensures whole header bytes [] old reading)
+    let begins : Comes first plan [] [] false New c.in_ok-replay.replay.value old =
+    subst (λ link. Comes first (record { options = c.args.options; link = link; program = program; budget = c.args.budget }) [] [] false New c.in_ok-replay.replay.value old) (c.link.ensures whole header bytes [] old reading)
     (c.in_ok-replay.ensures.comes first program old are (refl, c.in_ok-writer.ensures.given old)) in
-    does first plan whole header bytes refl begins reading) c.play.ensures.replays
+    does first plan whole header bytes refl (subst (λ replay. Comes first plan [] [] false New replay old) (sym c.deref_mut.ensures.value) begins) reading) c.play.ensures.replays
 
 pub returns-clause-stopped : goal.returns-clause-stopped
 returns-clause-stopped g c = IfErr-weaker c.play.result _ _ (λ stop does program whole header bytes are reading.
     let old = g.S.Shelf.outside c.args.shelf.now in
     let plan : Plan = record { options = c.args.options; link = header.link; program = program; budget = c.args.budget } in
     let first : Beginning = record { outside = old; target = Written } in
-    let begins : Comes first plan [] [] false New c.in_ok-replay.replay old =
-    subst (λ link. Comes first (record { options = c.args.options; link = link; program = program; budget = c.args.budget }) [] [] false New c.in_ok-replay.replay old) (c.link.ensures whole header bytes [] old reading)
+    let begins : Comes first plan [] [] false New c.in_ok-replay.replay.value old =
+    subst (λ link. Comes first (record { options = c.args.options; link = link; program = program; budget = c.args.budget }) [] [] false New c.in_ok-replay.replay.value old) (c.link.ensures whole header bytes [] old reading)
     (c.in_ok-replay.ensures.comes first program old are (refl, c.in_ok-writer.ensures.given old)) in
-    does first plan whole header bytes refl begins reading) c.play.ensures.stopped
+    does first plan whole header bytes refl (subst (λ replay. Comes first plan [] [] false New replay old) (sym c.deref_mut.ensures.value) begins) reading) c.play.ensures.stopped

@@ -8,7 +8,7 @@ ghost use Rattle.zk_typed.specs.View.{expr_of};
 ghost use Rattle.zk_expression.specs.Parts.{is_one_of, one_form};
 
 use std::alloc::{AllocError, Global};
-use zk_operator::{Typed, applied, fits, is_left_of_in, operands_of, same_type, turned};
+use zk_operator::{Typed, apply, fits, is_left_of_in, operands_of, same_type, turned};
 use zk_tree::Place;
 use zk_typed::script::{Expr, Primitive, SimpleType, ValueType};
 use zk_typed::{Refusal, Rule, one_broken};
@@ -57,8 +57,7 @@ fn with_last(
 {
     operands.push(last)?;
     let operands = operands_of(alloc, operands)?;
-    let truth = ValueType::Simple(SimpleType::Bool);
-    Ok(applied(truth, primitive, operands).expr)
+    Ok(apply(primitive, operands))
 }
 
 /// Whether values are one of a type.

@@ -18,7 +18,7 @@ use crate::fields::field_of;
 use crate::judge::Judge;
 use crate::refuse::wrong;
 use std::alloc::Global;
-use zk_operator::{Typed, Wanted, applied, both, one_operand};
+use zk_operator::{Typed, Wanted, applied, both, value_operand};
 use zk_tree::{Expr, Item, Name, Part, Place};
 use zk_typed::script::{Primitive, SimpleType, ValueType};
 use zk_typed::{Refusal, Rule, one_broken};
@@ -47,7 +47,7 @@ impl<F: Fn(Global, &Env<'_>, u64, Wanted<'_>, &Expr) -> Result<Typed, Refusal>> 
     {
         match field_of(self.alloc, self.env, place, name, &one) {
             Ok((field, value_type)) => {
-                let operands = one_operand(self.alloc, one.expr)?;
+                let operands = value_operand(self.alloc, one)?;
                 Ok(applied(value_type, Primitive::Field(field), operands))
             }
             Err(refusal) => {
@@ -64,7 +64,7 @@ impl<F: Fn(Global, &Env<'_>, u64, Wanted<'_>, &Expr) -> Result<Typed, Refusal>> 
     {
         match field_of(self.alloc, self.env, place, name, &one) {
             Ok((field, _)) => {
-                let operands = one_operand(self.alloc, one.expr)?;
+                let operands = value_operand(self.alloc, one)?;
                 let truth = ValueType::Simple(SimpleType::Bool);
                 Ok(applied(truth, Primitive::HasField(field), operands))
             }

@@ -30,7 +30,10 @@ pub use kinds::signature_attrs;
 pub use laws::operators_keep_types;
 pub use literals::{constant, interval_of, literal_typed};
 pub use membership::{is_left_of_in, operands_of, size_typed, vector_alone};
-pub use operands::{Typed, Wanted, applied, beside, fit, fits, one_operand, simple_type, to_int};
+pub use operands::{
+    Typed, Wanted, applied, apply, beside, fit, fits, one_operand, simple_type, to_int,
+    value_operand,
+};
 pub use operators::{arithmetic, choice, inverted, negative, related, truths, turned};
 pub use relations::{binary_of, is_ordered, relates, relation_of};
 pub use same::{same_keys, same_simple, same_type, same_types};

@@ -7,7 +7,7 @@ ghost use Rattle.zk_typed.specs.Typing as spec;
 ghost use Rattle.zk_typed.specs.View.{type_of, all_of};
 ghost use Rattle.zk_operator.specs.Views.{typed_of, typed_all};
 
-use crate::operands::{Typed, applied, one_operand};
+use crate::operands::{Typed, applied, value_operand};
 use crate::same::same_type;
 use sqlite_items::{Boxed, Items};
 use std::alloc::{AllocError, Global};
@@ -82,7 +82,7 @@ pub fn size_typed(alloc: Global, place: Place, one: Typed) -> Result<Typed, Refu
         drop(one);
         return Err(Refusal::Broken(one_broken(alloc, Rule::WrongType, place)?));
     }
-    let operands = one_operand(alloc, one.expr)?;
+    let operands = value_operand(alloc, one)?;
     Ok(applied(
         ValueType::Simple(SimpleType::Count),
         Primitive::Size,

@@ -6,7 +6,7 @@ ghost use Rattle.zk_typed.specs.Operations as operations;
 ghost use Rattle.zk_typed.specs.Predefined as type;
 ghost use Rattle.zk_typed.specs.Tells.{Tells};
 ghost use Rattle.zk_typed.specs.Typing as spec;
-ghost use Rattle.zk_typed.specs.View.{type_of, all_of};
+ghost use Rattle.zk_typed.specs.View.{type_of, expr_of, all_of};
 ghost use Rattle.zk_operator.specs.Views.{typed_of, wanted_in, pair_of};
 
 use crate::same::same_type;
@@ -59,17 +59,38 @@ pub fn two_operands(alloc: Global, one: Expr, other: Expr) -> Result<Items<Expr>
     Ok(Items::from_vec(all))
 }
 
-/// What a primitive makes of operands.
+/// A value as an operand.
+pub fn value_operand(alloc: Global, one: Typed) -> Result<Items<Expr>, AllocError>
+    ensures { IfOk result (λ all. all ≡ one.expr ∷ []) }
+{
+    one_operand(alloc, one.expr)
+}
+
+/// Two values as operands.
+pub fn value_operands(alloc: Global, one: Typed, other: Typed) -> Result<Items<Expr>, AllocError>
+    ensures { IfOk result (λ all. all ≡ one.expr ∷ other.expr ∷ []) }
+{
+    two_operands(alloc, one.expr, other.expr)
+}
+
+/// A primitive of operands.
 #[tactic(auto, using(crate::proofs::Forms::apply_is))]
+pub fn apply(primitive: Primitive, operands: Items<Expr>) -> Expr
+    ensures { expr_of result ≡ form.Apply primitive (all_of operands) }
+{
+    Expr::Apply {
+        primitive,
+        operands,
+    }
+}
+
+/// What a primitive makes of operands.
 pub fn applied(value_type: ValueType, primitive: Primitive, operands: Items<Expr>) -> Typed
     ensures { typed_of result ≡ spec.typed (type_of value_type) (form.Apply primitive (all_of operands)) }
 {
     Typed {
         value_type,
-        expr: Expr::Apply {
-            primitive,
-            operands,
-        },
+        expr: apply(primitive, operands),
     }
 }
 
@@ -77,7 +98,7 @@ pub fn applied(value_type: ValueType, primitive: Primitive, operands: Items<Expr
 pub fn to_int(alloc: Global, one: Typed) -> Result<Typed, AllocError>
     ensures { IfOk result (λ made. typed_of made ≡ spec.to_int (typed_of one)) }
 {
-    let operands = one_operand(alloc, one.expr)?;
+    let operands = value_operand(alloc, one)?;
     Ok(applied(
         ValueType::Simple(SimpleType::Int),
         Primitive::Unary(Unary::ToInt),

@@ -10,7 +10,7 @@ ghost use Rattle.zk_typed.specs.Forms as form;
 ghost use Rattle.zk_operator.specs.Rows.{negative_type, wrong_operand};
 ghost use Rattle.zk_operator.specs.Views.{typed_of};
 
-use crate::operands::{Typed, applied, one_operand, two_operands};
+use crate::operands::{Typed, applied, apply, one_operand, value_operand, value_operands};
 use crate::relations::relates;
 use crate::same::same_type;
 use crate::table::{arithmetic_of, takes_left};
@@ -52,7 +52,7 @@ pub fn arithmetic(
 {
     match arithmetic_type(operator, &a.value_type, &b.value_type) {
         Some(gives) => {
-            let operands = two_operands(alloc, a.expr, b.expr)?;
+            let operands = value_operands(alloc, a, b)?;
             Ok(applied(
                 ValueType::Simple(gives),
                 Primitive::Binary(operator),
@@ -95,7 +95,7 @@ fn unrelated(
 fn compared(alloc: Global, relation: Relation, a: Typed, b: Typed) -> Result<Typed, AllocError>
     ensures { IfOk result (λ made. typed_of made ≡ spec.typed type.bool (spec.apply (primitive.Compare relation) (typed_of a ∷ typed_of b ∷ []))) }
 {
-    let operands = two_operands(alloc, a.expr, b.expr)?;
+    let operands = value_operands(alloc, a, b)?;
     Ok(applied(
         ValueType::Simple(SimpleType::Bool),
         Primitive::Compare(relation),
@@ -169,21 +169,34 @@ pub fn truths(alloc: Global, level: Level, a: Typed, b: Typed) -> Result<Typed, 
     }
 }
 
+/// A value's type, and the value in a box of its own.
+fn boxed_with_type(alloc: Global, one: Typed) -> Result<(ValueType, Boxed<Expr>), AllocError>
+    ensures { IfOk result (λ made. (made.0 ≡ one.value_type) × (made.1 ≡ one.expr)) }
+{
+    let Typed { value_type, expr } = one;
+    match Boxed::new(alloc, expr) {
+        Ok(expr) => Ok((value_type, expr)),
+        Err(error) => {
+            drop(value_type);
+            Err(error)
+        }
+    }
+}
+
 /// `test ? a : b`, of the type of its first arm.
 pub fn choice(alloc: Global, test: Typed, a: Typed, b: Typed) -> Result<Typed, AllocError>
     ensures { IfOk result (λ made. typed_of made ≡ spec.typed (type_of a.value_type) (form.Choice (expr_of test.expr) (expr_of a.expr) (expr_of b.expr))) }
 {
-    let Typed { value_type, expr } = a;
     match boxed_pair(alloc, test, b) {
         Ok((test, no)) => {
-            let yes = Boxed::new(alloc, expr)?;
+            let (value_type, yes) = boxed_with_type(alloc, a)?;
             Ok(Typed {
                 value_type,
                 expr: Expr::Choice { test, yes, no },
             })
         }
         Err(error) => {
-            drop(expr);
+            drop(a);
             Err(error)
         }
     }
@@ -193,7 +206,7 @@ pub fn choice(alloc: Global, test: Typed, a: Typed, b: Typed) -> Result<Typed, A
 pub fn inverted(alloc: Global, one: Typed) -> Result<Typed, AllocError>
     ensures { IfOk result (λ made. typed_of made ≡ spec.typed type.bool (spec.apply (primitive.Unary unary.Not) (typed_of one ∷ []))) }
 {
-    let operands = one_operand(alloc, one.expr)?;
+    let operands = value_operand(alloc, one)?;
     Ok(applied(
         ValueType::Simple(SimpleType::Bool),
         Primitive::Unary(Unary::Not),
@@ -209,12 +222,7 @@ pub fn turned(alloc: Global, is_turned: bool, one: Expr) -> Result<Expr, AllocEr
         return Ok(one);
     }
     let operands = one_operand(alloc, one)?;
-    let made = applied(
-        ValueType::Simple(SimpleType::Bool),
-        Primitive::Unary(Unary::Not),
-        operands,
-    );
-    Ok(made.expr)
+    Ok(apply(Primitive::Unary(Unary::Not), operands))
 }
 
 /// The type of the negative of a value.
@@ -247,7 +255,7 @@ pub fn negative(alloc: Global, place: Place, one: Typed) -> Result<Typed, Refusa
     };
     match gives {
         Some(gives) => {
-            let operands = one_operand(alloc, one.expr)?;
+            let operands = value_operand(alloc, one)?;
             Ok(applied(
                 ValueType::Simple(gives),
                 Primitive::Unary(Unary::Negate),

@@ -1,10 +1,13 @@
+use std::alloc::Global;
 use std::process::Abort;
 use std::test::Fail;
 use zk_base::{Addr, ConnNo, Moment, Proto, Side};
-use zk_conn::{ConnState, Conns, Facts, L4View, Touched};
+use zk_conn::{ConnState, Conns, Facts, L4View, Removed, Touched};
 use zk_l4::flags::{ACK, FIN, RST, SYN};
 
 const MILLISECOND: i64 = 1_000;
+
+const SECOND: i64 = 1_000_000;
 
 /// One thing that connections are told of the one connection of a row.
 #[derive(Clone, Copy)]
@@ -51,6 +54,11 @@ fn view(proto: Proto, from_client: bool, flags: u8, payload_len: u32) -> L4View 
         payload_len,
         ip_len: 40,
     }
+}
+
+/// Connections of which nothing is told.
+fn no_conns(alloc: Global) -> Result<Box<Conns>, Fail> {
+    Ok(Box::new(alloc, Conns::new(alloc))?)
 }
 
 /// Tells connections one thing of instance 1.
@@ -243,25 +251,41 @@ const STATES: [Row; 15] = [
     },
 ];
 
-/// Whether what is known of a connection is what its row says.
-fn is_as(row: &Row, facts: &Facts) -> bool {
+/// Connections that were told what a row says.
+fn told_of(rt: &impl Abort, alloc: Global, row: &Row) -> Result<Box<Conns>, Fail> {
+    let mut conns = no_conns(alloc)?;
+    for told in row.told {
+        tell(rt, &mut conns, row.proto, *told);
+    }
+    Ok(conns)
+}
+
+/// Whether what was known of a connection that is removed is what its row says.
+fn is_as(row: &Row, removed: &Option<Removed>) -> bool {
+    match removed {
+        Some(removed) => are_as(row, &removed.facts),
+        None => false,
+    }
+}
+
+fn are_as(row: &Row, facts: &Facts) -> bool {
     facts.state == row.state
         && facts.history.as_bytes() == row.history
         && [facts.orig.size, facts.resp.size] == row.sizes
 }
 
+/// Whether a connection is due when its row says, and is then known as it says.
+fn is_removed_as(row: &Row, conns: &mut Conns, removal: Moment) -> bool {
+    conns.due() == Some((removal, ConnNo(1))) && is_as(row, &conns.remove_due(removal))
+}
+
 #[test]
 fn each_state_has_its_facts_and_its_removal(rt: HostRuntime) -> Result<(), Fail> {
     for (n, row) in STATES.iter().enumerate() {
-        let mut conns = Box::new(rt.alloc(), Conns::new(rt.alloc()))?;
-        for told in row.told {
-            tell(&rt, &mut conns, row.proto, *told);
-        }
+        let mut conns = told_of(&rt, rt.alloc(), row)?;
         assert!(rt; 0 <= row.removal && row.removal <= 1_000_000);
         let removal = Moment(row.removal * MILLISECOND);
-        assert!(rt; conns.due() == Some((removal, ConnNo(1))), "in row {n}");
-        let removed = conns.remove_due(removal).expect(&rt, "one is due");
-        assert!(rt; is_as(row, &removed.facts), "in row {n}");
+        assert!(rt; is_removed_as(row, &mut conns, removal), "in row {n}");
     }
     Ok(())
 }
@@ -274,26 +298,33 @@ fn from_port(port: u16, flags: u8) -> L4View {
     }
 }
 
-#[test]
-fn instances_are_numbered_as_they_begin_and_removed_by_moment_and_number(
-    rt: HostRuntime,
-) -> Result<(), Fail> {
-    let mut conns = Box::new(rt.alloc(), Conns::new(rt.alloc()))?;
-    let second = 1_000_000;
-    // ports 1, 2 and 3 begin; 3 is reset, and 1 goes on
-    let rows = [
-        (0, from_port(1, SYN), ConnNo(1), true, false),
-        (0, from_port(2, SYN), ConnNo(2), true, false),
-        (second, from_port(3, SYN), ConnNo(3), true, false),
-        (2 * second, from_port(3, RST), ConnNo(3), false, true),
-        (3 * second, from_port(1, ACK), ConnNo(1), false, false),
-        (6 * second, from_port(2, ACK), ConnNo(2), false, false),
-    ];
-    for (n, (at, packet, conn, opened, reset)) in rows.iter().enumerate() {
-        assert!(rt; 0 <= *at && *at <= 10 * second);
-        let touched = conns.packet(Moment(*at), packet)?;
+/// The moment of a packet, the client's port, the control bits, the instance, and whether it was opened and
+/// reset. Ports 1, 2 and 3 begin; 3 is reset, and 1 goes on.
+const PORTS: [(i64, u16, u8, u64, bool, bool); 6] = [
+    (0, 1, SYN, 1, true, false),
+    (0, 2, SYN, 2, true, false),
+    (SECOND, 3, SYN, 3, true, false),
+    (2 * SECOND, 3, RST, 3, false, true),
+    (3 * SECOND, 1, ACK, 1, false, false),
+    (6 * SECOND, 2, ACK, 2, false, false),
+];
+
+/// Whether this instance was removed at this moment.
+fn is_removed(removed: &Option<Removed>, conn: u64, at: Moment) -> bool {
+    match removed {
+        Some(removed) => (removed.conn, removed.at) == (ConnNo(conn), at),
+        None => false,
+    }
+}
+
+/// Connections that were told the packets of `PORTS`.
+fn with_ports(rt: &impl Abort, alloc: Global) -> Result<Box<Conns>, Fail> {
+    let mut conns = no_conns(alloc)?;
+    for (n, (at, port, flags, conn, opened, reset)) in PORTS.iter().enumerate() {
+        assert!(rt; 0 <= *at && *at <= 10 * SECOND);
+        let touched = conns.packet(Moment(*at), &from_port(*port, *flags))?;
         let wanted = Touched {
-            conn: *conn,
+            conn: ConnNo(*conn),
             side: Side::Orig,
             opened: *opened,
             established: false,
@@ -302,19 +333,23 @@ fn instances_are_numbered_as_they_begin_and_removed_by_moment_and_number(
         };
         assert!(rt; touched == wanted, "in row {n}");
     }
-    assert!(rt; conns.due() == Some((Moment(7 * second), ConnNo(3))));
-    let first = conns
-        .remove_due(Moment(7 * second))
-        .expect(&rt, "one is due");
-    assert!(rt; (first.conn, first.at) == (ConnNo(3), Moment(7 * second)));
+    Ok(conns)
+}
+
+#[test]
+fn instances_are_numbered_as_they_begin_and_removed_by_moment_and_number(
+    rt: HostRuntime,
+) -> Result<(), Fail> {
+    let mut conns = with_ports(&rt, rt.alloc())?;
+    let first = Moment(7 * SECOND);
+    assert!(rt; conns.due() == Some((first, ConnNo(3))));
+    assert!(rt; is_removed(&conns.remove_due(first), 3, first));
     // a packet at the removal moment begins the next instance of its key
-    let again = conns.packet(Moment(7 * second), &from_port(3, SYN))?;
+    let again = conns.packet(first, &from_port(3, SYN))?;
     assert!(rt; (again.conn, again.opened) == (ConnNo(4), true));
-    let next = conns
-        .remove_due(Moment(303 * second))
-        .expect(&rt, "one is due");
-    assert!(rt; (next.conn, next.at) == (ConnNo(1), Moment(303 * second)));
-    let least = conns.end(Moment(304 * second)).expect(&rt, "one is live");
-    assert!(rt; (least.conn, least.at) == (ConnNo(2), Moment(304 * second)));
+    let next = Moment(303 * SECOND);
+    assert!(rt; is_removed(&conns.remove_due(next), 1, next));
+    let end = Moment(304 * SECOND);
+    assert!(rt; is_removed(&conns.end(end), 2, end));
     Ok(())
 }

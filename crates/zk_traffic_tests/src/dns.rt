@@ -1,6 +1,6 @@
 use std::alloc::Global;
 use std::test::Fail;
-use zk_dns::{AnswerKind, DnsFault, DnsRecord, Message};
+use zk_dns::{Answer, AnswerKind, DnsFault, DnsRecord, Message};
 
 /// A query for the address of www.example.com.
 const QUERY: &[u8] = &[
@@ -87,8 +87,9 @@ fn says(what: &AnswerKind, want: &Want) -> bool {
 /// The type, the class, the TTL and the data of an answer.
 type Row = (u16, u16, u32, Want);
 
-fn record_of(alloc: Global, bytes: &[u8]) -> Result<DnsRecord, Fail> {
-    Ok(Message::read(bytes)?.to_record(alloc)?)
+fn record_of(alloc: Global, bytes: &[u8]) -> Result<Box<DnsRecord>, Fail> {
+    let record = Message::read(bytes)?.to_record(alloc)?;
+    Ok(Box::new(alloc, record)?)
 }
 
 #[test]
@@ -126,16 +127,22 @@ const ANSWERS: [Row; 10] = [
     (1, 3, 300, Want::Other),
 ];
 
+/// Whether an answer about the root is what its row says.
+fn is_told(answer: &Answer, row: &Row) -> bool {
+    let (rtype, rclass, ttl, want) = row;
+    (answer.rtype, answer.rclass, answer.ttl) == (*rtype, *rclass, *ttl)
+        && answer.name.as_slice() == b".".as_slice()
+        && says(&answer.what, want)
+}
+
 #[test]
 fn answers_are_those_that_tshark_prints(rt: HostRuntime) -> Result<(), Fail> {
     let told = record_of(rt.alloc(), KINDS)?;
     assert!(rt; told.counts == [1, 10, 0, 0]);
     assert!(rt; (told.qr, told.aa, told.rd, told.ra, told.rcode) == (true, true, true, true, 3));
     assert!(rt; told.answers.len() == ANSWERS.len());
-    for (answer, (rtype, rclass, ttl, want)) in told.answers.as_slice().iter().zip(ANSWERS.iter()) {
-        assert!(rt; (answer.rtype, answer.rclass, answer.ttl) == (*rtype, *rclass, *ttl));
-        assert!(rt; answer.name.as_slice() == b".".as_slice());
-        assert!(rt; says(&answer.what, want), "in type {rtype}");
+    for (answer, row) in told.answers.as_slice().iter().zip(ANSWERS.iter()) {
+        assert!(rt; is_told(answer, row), "in type {}", row.0);
     }
     Ok(())
 }

@@ -53,6 +53,11 @@ fn packet(rt: &impl Abort, alloc: Global, fields: Fields<'_>) -> Result<Vec<u8>,
     Ok(bytes)
 }
 
+/// No fragments so far.
+fn no_frags(alloc: Global) -> Result<Box<Frags>, Fail> {
+    Ok(Box::new(alloc, Frags::new(alloc))?)
+}
+
 /// What a fragment did.
 fn taken(
     rt: &impl Abort,
@@ -77,6 +82,19 @@ fn part(offset: u16, more: bool, payload: &[u8]) -> Fields<'_> {
     }
 }
 
+/// What three fragments do whose last comes first, at 0, and the others later.
+fn backwards(
+    rt: &impl Abort,
+    alloc: Global,
+    frags: &mut Frags,
+    later: i64,
+) -> Result<[Joined; 3], Mem> {
+    let last = taken(rt, alloc, frags, 0, part(2, false, b"CCCCCCCC"))?;
+    let middle = taken(rt, alloc, frags, later, part(1, true, b"bbbbbbbbXXXXXXXX"))?;
+    let first = taken(rt, alloc, frags, later, part(0, true, b"aaaaaaaaYYYYYYYY"))?;
+    Ok([last, middle, first])
+}
+
 #[test]
 fn a_group_takes_fragments_for_30_seconds_and_first_copies_stand(
     rt: HostRuntime,
@@ -87,25 +105,9 @@ fn a_group_takes_fragments_for_30_seconds_and_first_copies_stand(
         (31 * SECOND, Joined::Held),
     ];
     for (later, want) in rows {
-        let mut frags = Frags::new(rt.alloc());
-        let last = taken(&rt, rt.alloc(), &mut frags, 0, part(2, false, b"CCCCCCCC"))?;
-        assert!(rt; last == Joined::Held, "at {later}");
-        let middle = taken(
-            &rt,
-            rt.alloc(),
-            &mut frags,
-            later,
-            part(1, true, b"bbbbbbbbXXXXXXXX"),
-        )?;
-        assert!(rt; middle == Joined::Held, "at {later}");
-        let first = taken(
-            &rt,
-            rt.alloc(),
-            &mut frags,
-            later,
-            part(0, true, b"aaaaaaaaYYYYYYYY"),
-        )?;
-        assert!(rt; first == want, "at {later}");
+        let mut frags = no_frags(rt.alloc())?;
+        let joined = backwards(&rt, rt.alloc(), &mut frags, later)?;
+        assert!(rt; joined == [Joined::Held, Joined::Held, want], "at {later}");
         if want == Joined::Whole {
             assert!(rt;
                 frags.whole() == b"aaaaaaaabbbbbbbbCCCCCCCC".as_slice(),
@@ -127,7 +129,7 @@ fn pieces_in_any_order_make_the_datagram(rt: HostRuntime) -> Result<(), Fail> {
         part(3, true, b"ddddddddeeeeeeee"),
         part(1, true, b"bbbbbbbb"),
     ];
-    let mut frags = Frags::new(rt.alloc());
+    let mut frags = no_frags(rt.alloc())?;
     for (n, piece) in pieces.iter().enumerate() {
         let joined = taken(&rt, rt.alloc(), &mut frags, SECOND, *piece)?;
         assert!(rt; joined == Joined::Held, "in row {n}");

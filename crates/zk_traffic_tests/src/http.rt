@@ -6,6 +6,7 @@ mod exchanges;
 use exchanges::{EXCHANGES, Exchange, PIECE};
 use std::alloc::Global;
 use std::collections::VecDeque;
+use std::process::Abort;
 use std::test::Fail;
 use zk_base::Side;
 use zk_http::{Head, Start, Unit, UnitKind};
@@ -98,11 +99,17 @@ fn first_unit(told: &mut Told, side: Side, text: &[u8]) -> Result<StreamUnit, Fa
     Ok(freed.unit)
 }
 
-/// The head that a text is, or where it is a response the head of the answer to `GET`.
-fn head_of(alloc: Global, side: Side, text: &[u8]) -> Result<Head, Fail> {
+/// The first unit of new readers.
+fn unit_of(alloc: Global, side: Side, text: &[u8]) -> Result<Box<StreamUnit>, Fail> {
     let mut told = Told::new(alloc)?;
-    match first_unit(&mut told, side, text)? {
-        StreamUnit::Http(unit) => match unit.what {
+    let unit = first_unit(&mut told, side, text)?;
+    Ok(Box::new(alloc, unit)?)
+}
+
+/// The head that a unit is.
+fn head_of(unit: &StreamUnit) -> Result<&Head, Fail> {
+    match unit {
+        StreamUnit::Http(unit) => match &unit.what {
             UnitKind::Head(head) => Ok(head),
             _ => Err("no head")?,
         },
@@ -112,11 +119,9 @@ fn head_of(alloc: Global, side: Side, text: &[u8]) -> Result<Head, Fail> {
 
 #[test]
 fn the_head_of_a_request_has_its_parts(rt: HostRuntime) -> Result<(), Fail> {
-    let request = head_of(
-        rt.alloc(),
-        Side::Orig,
-        b"\r\nGET /a?b HTTP/1.0\nHost: \t a.test \r\nX:\r\n\n",
-    )?;
+    let text = b"\r\nGET /a?b HTTP/1.0\nHost: \t a.test \r\nX:\r\n\n";
+    let unit = unit_of(rt.alloc(), Side::Orig, text)?;
+    let request = head_of(&unit)?;
     match &request.start {
         Start::Request {
             method,
@@ -139,7 +144,9 @@ fn the_head_of_a_request_has_its_parts(rt: HostRuntime) -> Result<(), Fail> {
 
 #[test]
 fn the_head_of_a_response_has_its_parts(rt: HostRuntime) -> Result<(), Fail> {
-    let response = head_of(rt.alloc(), Side::Resp, b"HTTP/1.1 404 N\xc3\xa4 o \r\n\r\n")?;
+    let text = b"HTTP/1.1 404 N\xc3\xa4 o \r\n\r\n";
+    let unit = unit_of(rt.alloc(), Side::Resp, text)?;
+    let response = head_of(&unit)?;
     match &response.start {
         Start::Response {
             minor,
@@ -182,12 +189,18 @@ const REQUESTS: [(&[u8], u64, &str); 7] = [
     ),
 ];
 
+/// What is told of a request behind which a gap comes, and then the end.
+fn request_told(alloc: Global, text: &[u8], gap: u64) -> Result<Box<Told>, Fail> {
+    let mut told = Told::new(alloc)?;
+    told.give(Side::Orig, text)?;
+    told.finish(Side::Orig, gap, true)?;
+    Ok(told)
+}
+
 #[test]
 fn a_request_tells_its_body(rt: HostRuntime) -> Result<(), Fail> {
     for (n, (text, gap, units)) in REQUESTS.iter().enumerate() {
-        let mut told = Told::new(rt.alloc())?;
-        told.give(Side::Orig, text)?;
-        told.finish(Side::Orig, *gap, true)?;
+        let told = request_told(rt.alloc(), text, *gap)?;
         assert!(rt; told.asked.as_str() == *units, "in row {n}");
     }
     Ok(())
@@ -261,13 +274,24 @@ const RESPONSES: [(&[u8], &[u8], u64, &str); 11] = [
     ),
 ];
 
+/// What is told of a response behind which a gap comes, and then the end.
+fn response_told(
+    alloc: Global,
+    request: &[u8],
+    response: &[u8],
+    gap: u64,
+) -> Result<Box<Told>, Fail> {
+    let mut told = Told::new(alloc)?;
+    told.give(Side::Orig, request)?;
+    told.give(Side::Resp, response)?;
+    told.finish(Side::Resp, gap, true)?;
+    Ok(told)
+}
+
 #[test]
 fn a_response_tells_its_body(rt: HostRuntime) -> Result<(), Fail> {
     for (n, (request, response, gap, units)) in RESPONSES.iter().enumerate() {
-        let mut told = Told::new(rt.alloc())?;
-        told.give(Side::Orig, request)?;
-        told.give(Side::Resp, response)?;
-        told.finish(Side::Resp, *gap, true)?;
+        let told = response_told(rt.alloc(), request, response, *gap)?;
         assert!(rt; told.answered.as_str() == *units, "in row {n}");
     }
     Ok(())
@@ -314,19 +338,22 @@ fn units_are_the_same_however_streams_are_cut(rt: HostRuntime) -> Result<(), Fai
     Ok(())
 }
 
-#[test]
-fn many_small_chunks_are_read_once(rt: HostRuntime) -> Result<(), Fail> {
-    let mut told = Told::new(rt.alloc())?;
-    told.give(Side::Orig, GET)?;
-    told.give(
-        Side::Resp,
-        b"HTTP/1.1 200 OK\r\nTransfer-Encoding: chunked\r\n\r\n",
-    )?;
+/// Gives a response of many small chunks, of which nothing is held.
+fn give_chunks(rt: &impl Abort, told: &mut Told) -> Result<(), Fail> {
+    let head = b"HTTP/1.1 200 OK\r\nTransfer-Encoding: chunked\r\n\r\n";
+    told.give(Side::Resp, head)?;
     for _ in 0..4_000 {
         told.give(Side::Resp, PIECE)?;
         assert!(rt; told.readers.held(Side::Resp) == 0);
     }
-    told.give(Side::Resp, b"0\r\n\r\n")?;
+    told.give(Side::Resp, b"0\r\n\r\n")
+}
+
+#[test]
+fn many_small_chunks_are_read_once(rt: HostRuntime) -> Result<(), Fail> {
+    let mut told = Told::new(rt.alloc())?;
+    told.give(Side::Orig, GET)?;
+    give_chunks(&rt, &mut told)?;
     assert!(rt; told.asked.as_str() == "head 18\ndone 18 0 14 0\n");
     assert!(rt; told.answered.as_str() == "head 47\ndone 2400052 400000 41 0\n");
     Ok(())

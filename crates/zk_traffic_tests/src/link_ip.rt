@@ -51,35 +51,37 @@ fn is_printed(packet: &Ip4<'_>, want: &Printed) -> bool {
         && !packet.more()
 }
 
+/// Three frames.
+const PRINTED: [Printed; 3] = [
+    Printed {
+        frame: &FRAME_1,
+        src: TEN_77_0_1,
+        dst: TEN_77_0_2,
+        protocol: 17,
+        identification: 0xc2cc,
+        full_len: 55 - 20,
+    },
+    Printed {
+        frame: &FRAME_10,
+        src: TEN_77_0_2,
+        dst: TEN_77_0_1,
+        protocol: 6,
+        identification: 0x0000,
+        full_len: 60 - 20,
+    },
+    Printed {
+        frame: &FRAME_22,
+        src: TEN_77_0_2,
+        dst: TEN_77_0_1,
+        protocol: 6,
+        identification: 0x0000,
+        full_len: 40 - 20,
+    },
+];
+
 #[test]
 fn headers_of_a_capture_read_as_tshark_prints_them(rt: HostRuntime) {
-    let printed = [
-        Printed {
-            frame: &FRAME_1,
-            src: TEN_77_0_1,
-            dst: TEN_77_0_2,
-            protocol: 17,
-            identification: 0xc2cc,
-            full_len: 55 - 20,
-        },
-        Printed {
-            frame: &FRAME_10,
-            src: TEN_77_0_2,
-            dst: TEN_77_0_1,
-            protocol: 6,
-            identification: 0x0000,
-            full_len: 60 - 20,
-        },
-        Printed {
-            frame: &FRAME_22,
-            src: TEN_77_0_2,
-            dst: TEN_77_0_1,
-            protocol: 6,
-            identification: 0x0000,
-            full_len: 40 - 20,
-        },
-    ];
-    for (n, want) in printed.iter().enumerate() {
+    for (n, want) in PRINTED.iter().enumerate() {
         let part = ip_part(LINKTYPE_ETHERNET, want.frame);
         assert!(rt; part == Some(&want.frame[14..]), "in row {n}");
         let packet = Ip4::read(&want.frame[14..], true).expect(&rt, "the checksums are right");

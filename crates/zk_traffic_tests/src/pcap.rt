@@ -1,8 +1,9 @@
 ghost use Rattle.std.specs.Prelude.{◌<◌, ◌≤◌, length};
 
+use crate::shelves::one_input;
 use std::alloc::Global;
 use std::test::Fail;
-use zk_base::{Bytes, Got, Shelf, Started, SureShelf};
+use zk_base::{Got, Shelf, Started, SureShelf};
 use zk_pcap::{CaptureEnding, CaptureFault, Feed, Header, Next, Packet, packets};
 
 /// A header of little-endian numbers, microseconds and Ethernet.
@@ -123,12 +124,18 @@ fn headers_are_judged_from_the_left(rt: HostRuntime) {
     assert!(rt; CaptureFault::Version.place() == 4 && CaptureFault::Link.place() == 20);
 }
 
+/// A feed for the packets behind this header.
+fn feed_behind(alloc: Global, header: &[u8]) -> Result<Box<Feed>, Fail> {
+    let feed = Feed::new(alloc, &Header::read(header)?)?;
+    Ok(Box::new(alloc, feed)?)
+}
+
 /// The packets of a file that comes in pieces of so many bytes, and where an unfinished record begins.
 fn in_pieces(alloc: Global, file: &[u8], size: usize) -> Result<(Vec<Packet>, Option<u64>), Fail>
     requires size { 0 < size }
     requires header { 24 ≤ length file.now }
 {
-    let mut feed = Feed::new(alloc, &Header::read(file)?)?;
+    let mut feed = feed_behind(alloc, file)?;
     let mut found = Vec::new(alloc);
     for piece in file[24..].chunks(size) {
         feed.push(piece)?;
@@ -172,14 +179,17 @@ fn pieces_give_the_packets_of_the_whole(rt: HostRuntime) -> Result<(), Fail> {
     Ok(())
 }
 
+/// A shelf with the records of the capture.
+fn records(alloc: Global) -> Result<Box<SureShelf>, Fail> {
+    let inputs = one_input(alloc, b"records", &QUERY_AND_ANSWER[24..])?;
+    let shelf = SureShelf::new(alloc, inputs)?;
+    Ok(Box::new(alloc, shelf)?)
+}
+
 #[test]
 fn what_a_read_brings_stands_next(rt: HostRuntime) -> Result<(), Fail> {
-    let alloc = rt.alloc();
-    let name = Bytes::copy_of(alloc, b"records")?;
-    let records = Bytes::copy_of(alloc, &QUERY_AND_ANSWER[24..])?;
-    let shelf = SureShelf::new(alloc, vec![in alloc; (name, records)]?)?;
-    let mut shelf = Box::new(alloc, shelf)?;
-    let mut feed = Box::new(alloc, Feed::new(alloc, &Header::read(&HEADER)?)?)?;
+    let mut shelf = records(rt.alloc())?;
+    let mut feed = feed_behind(rt.alloc(), &HEADER)?;
     if shelf.start(b"records") == Started::Open {
         assert!(rt; feed.read_from(&mut *shelf, 100)? == Got::Bytes(100));
     }

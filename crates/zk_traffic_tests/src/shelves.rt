@@ -1,3 +1,4 @@
+use std::alloc::Global;
 use std::test::Fail;
 use zk_base::{Bytes, Got, MemShelf, Shelf, Started, Wrote};
 
@@ -43,7 +44,16 @@ fn wrote_letter(wrote: Wrote) -> u8 {
 
 /// The calls that fail, what each call answers, the output, what is said and complained, and
 /// the number of the last call.
-const ROWS: [(&[u64], &[u8; 7], Option<&[u8]>, &[u8], &[u8], u64); 6] = [
+type Row = (
+    &'static [u64],
+    &'static [u8; 7],
+    Option<&'static [u8]>,
+    &'static [u8],
+    &'static [u8],
+    u64,
+);
+
+const ROWS: [Row; 6] = [
     (&[], b"OBDDDDA", Some(b"12345"), b"hello", b"mistake", 7),
     (&[1], b"F-DDDDA", Some(b"12345"), b"hello", b"mistake", 6),
     (&[2], b"OFDDDDA", Some(b"12345"), b"hello", b"mistake", 7),
@@ -52,18 +62,36 @@ const ROWS: [(&[u64], &[u8; 7], Option<&[u8]>, &[u8], &[u8], u64); 6] = [
     (&[6, 4, 5], b"OBDFFFA", Some(b"12"), b"he", b"mis", 7),
 ];
 
+/// The inputs of a shelf that has one.
+pub fn one_input(alloc: Global, name: &[u8], content: &[u8]) -> Result<Vec<(Bytes, Bytes)>, Fail> {
+    let name = Bytes::copy_of(alloc, name)?;
+    let content = Bytes::copy_of(alloc, content)?;
+    Ok(vec![in alloc; (name, content)]?)
+}
+
+/// A shelf with a greeting, at which the calls of these numbers fail.
+fn greeting(alloc: Global, fails: &[u64]) -> Result<Box<MemShelf>, Fail> {
+    let fails = Vec::from_slice(alloc, fails)?;
+    let inputs = one_input(alloc, b"greeting", b"good day")?;
+    let shelf = MemShelf::new(alloc, inputs, fails)?;
+    Ok(Box::new(alloc, shelf)?)
+}
+
+/// Whether a shelf is left as its row says.
+fn is_left(shelf: &MemShelf, row: &Row) -> bool {
+    let (_, _, output, said, complained, calls) = row;
+    shelf.output(b"log") == *output
+        && shelf.said() == *said
+        && shelf.complained() == *complained
+        && shelf.calls() == *calls
+}
+
 #[test]
 fn the_calls_that_are_told_fail_and_halve_their_pieces(rt: HostRuntime) -> Result<(), Fail> {
-    let alloc = rt.alloc();
-    for (fails, answers, output, said, complained, calls) in &ROWS {
-        let name = Bytes::copy_of(alloc, b"greeting")?;
-        let content = Bytes::copy_of(alloc, b"good day")?;
-        let inputs = vec![in alloc; (name, content)]?;
-        let mut shelf = MemShelf::new(alloc, inputs, Vec::from_slice(alloc, fails)?)?;
-        assert!(rt; answers_of(&mut shelf) == **answers);
-        assert!(rt; shelf.output(b"log") == *output);
-        assert!(rt; shelf.said() == *said && shelf.complained() == *complained);
-        assert!(rt; shelf.calls() == *calls);
+    for row in &ROWS {
+        let mut shelf = greeting(rt.alloc(), row.0)?;
+        assert!(rt; answers_of(&mut shelf) == *row.1);
+        assert!(rt; is_left(&shelf, row));
     }
     Ok(())
 }

@@ -1,12 +1,13 @@
 ghost use Rattle.std.specs.Prelude.{◌≤ℤ◌, ◌^◌, pos};
 
+use std::alloc::Global;
 use std::process::Abort;
 use std::test::Fail;
 use zk_base::{LINKTYPE_ETHERNET, Mem, Moment, Side};
 use zk_conn::ConnState;
 use zk_http::{Reason, Unit, UnitKind};
 use zk_pcap::PacketView;
-use zk_traffic::{Options, Traffic, What};
+use zk_traffic::{Fresh, Options, Traffic, What};
 
 /// What an item shows, its connection and its facts aside.
 #[derive(Clone, Copy, Debug, PartialEq, Eq)]
@@ -142,35 +143,53 @@ fn give(
     Ok(())
 }
 
-#[test]
-fn bytes_that_the_capture_lacks_are_a_gap(rt: HostRuntime) -> Result<(), Fail> {
+/// Ethernet before its first packet.
+fn no_traffic(alloc: Global) -> Result<Box<Traffic>, Fail> {
     let options = Options {
         check: true,
         buffer: 1 << 20,
         packets: false,
     };
-    let traffic = Traffic::new(rt.alloc(), options, LINKTYPE_ETHERNET)?;
-    let mut traffic = Box::new(rt.alloc(), traffic)?;
+    let traffic = Traffic::new(alloc, options, LINKTYPE_ETHERNET)?;
+    Ok(Box::new(alloc, traffic)?)
+}
+
+/// Whether a run is the response of `FRAMES`.
+fn is_response(run: Option<Fresh<'_>>) -> bool {
+    match run {
+        Some(run) => {
+            run.conn.0 == 1
+                && run.side == Side::Resp
+                && run.from == 0
+                && run.bytes == b"HTTP/1.1 200 OK\r\nContent-Length: 2\r\n\r\nhi".as_slice()
+        }
+        None => false,
+    }
+}
+
+/// The items of `FRAMES`.
+const ITEMS: [(Moment, u64, Shown); 5] = [
+    (Moment(0), 1, Opened),
+    (Moment(10_000), 1, Established),
+    (Moment(40_000), 1, Gap(Side::Orig, 0, 32)),
+    (
+        Moment(40_000),
+        1,
+        Shown::Violation(Side::Orig, 1, Reason::Gap),
+    ),
+    (Moment(40_000), 1, Ended(Side::Orig)),
+];
+
+#[test]
+fn bytes_that_the_capture_lacks_are_a_gap(rt: HostRuntime) -> Result<(), Fail> {
+    let mut traffic = no_traffic(rt.alloc())?;
     let mut items = Vec::new(rt.alloc());
     give(&rt, &mut traffic, &FRAMES[..3], &mut items)?;
-    match traffic.fresh(0) {
-        Some(run) => {
-            assert!(rt; run.conn.0 == 1 && run.side == Side::Resp && run.from == 0);
-            assert!(rt; run.bytes == b"HTTP/1.1 200 OK\r\nContent-Length: 2\r\n\r\nhi".as_slice());
-        }
-        None => assert!(rt; false),
-    }
+    assert!(rt; is_response(traffic.fresh(0)));
     assert!(rt; traffic.fresh(1).is_none());
     give(&rt, &mut traffic, &FRAMES[3..], &mut items)?;
     assert!(rt; traffic.fresh(0).is_none());
     assert!(rt; traffic.kept() == 40);
-    let wanted = [
-        (at(0), 1, Opened),
-        (at(1), 1, Established),
-        (at(4), 1, Gap(Side::Orig, 0, 32)),
-        (at(4), 1, Shown::Violation(Side::Orig, 1, Reason::Gap)),
-        (at(4), 1, Ended(Side::Orig)),
-    ];
-    assert!(rt; items.as_slice() == wanted.as_slice());
+    assert!(rt; items.as_slice() == ITEMS.as_slice());
     Ok(())
 }

@@ -1,3 +1,4 @@
+use std::alloc::Global;
 use std::collections::VecDeque;
 use std::test::Fail;
 use zk_base::{Mem, Proto, Side};
@@ -40,10 +41,23 @@ fn note(units: &mut VecDeque<Freed>, shown: &mut Vec<Shown>) -> Result<(), Mem> 
     Ok(())
 }
 
+/// The readers of a connection to this port of a server.
+fn readers_at(alloc: Global, port: u16) -> Result<Box<Readers>, Fail> {
+    let readers = Readers::new(alloc, protocol_at(Proto::Tcp, port));
+    Ok(Box::new(alloc, readers)?)
+}
+
+/// A request, and the response that came before it.
+const EXCHANGE: [Shown; 4] = [
+    Head(Side::Orig, 32),
+    Done(Side::Orig, 32, 0),
+    Head(Side::Resp, 38),
+    Done(Side::Resp, 40, 2),
+];
+
 #[test]
 fn both_sides_give_their_units_in_turn(rt: HostRuntime) -> Result<(), Fail> {
-    let readers = Readers::new(rt.alloc(), protocol_at(Proto::Tcp, 8080));
-    let mut readers = Box::new(rt.alloc(), readers)?;
+    let mut readers = readers_at(rt.alloc(), 8080)?;
     let mut units = VecDeque::new(rt.alloc());
     let mut shown = Vec::new(rt.alloc());
     readers.add_bytes(
@@ -57,21 +71,17 @@ fn both_sides_give_their_units_in_turn(rt: HostRuntime) -> Result<(), Fail> {
     readers.end(Side::Orig);
     readers.read(Side::Orig, &mut units)?;
     note(&mut units, &mut shown)?;
-    let wanted = [
-        Head(Side::Orig, 32),
-        Done(Side::Orig, 32, 0),
-        Head(Side::Resp, 38),
-        Done(Side::Resp, 40, 2),
-    ];
-    assert!(rt; shown.as_slice() == wanted.as_slice());
+    assert!(rt; shown.as_slice() == EXCHANGE.as_slice());
     assert!(rt; readers.held(Side::Resp) == 0);
     Ok(())
 }
 
+/// A query, and the gap behind it.
+const CUT_OFF: [Shown; 2] = [Dns(Side::Orig, 0x1234, 17), DnsBad(Side::Orig, 7, 0)];
+
 #[test]
 fn a_gap_ends_a_side_of_dns(rt: HostRuntime) -> Result<(), Fail> {
-    let readers = Readers::new(rt.alloc(), protocol_at(Proto::Tcp, 53));
-    let mut readers = Box::new(rt.alloc(), readers)?;
+    let mut readers = readers_at(rt.alloc(), 53)?;
     let mut units = VecDeque::new(rt.alloc());
     let mut shown = Vec::new(rt.alloc());
     let query = b"\x00\x11\x12\x34\x01\x00\x00\x01\x00\x00\x00\x00\x00\x00\x00\x00\x01\x00\x01\x00";
@@ -81,8 +91,7 @@ fn a_gap_ends_a_side_of_dns(rt: HostRuntime) -> Result<(), Fail> {
     readers.add_bytes(Side::Orig, query)?;
     readers.read(Side::Orig, &mut units)?;
     note(&mut units, &mut shown)?;
-    let wanted = [Dns(Side::Orig, 0x1234, 17), DnsBad(Side::Orig, 7, 0)];
-    assert!(rt; shown.as_slice() == wanted.as_slice());
+    assert!(rt; shown.as_slice() == CUT_OFF.as_slice());
     assert!(rt; readers.held(Side::Orig) == 0);
     Ok(())
 }

@@ -21,7 +21,7 @@ use Rattle.zk_typed.specs.declared.rule.Rule.{Rule}
 use Rattle.zk_typed.specs.declared.rule.Rule.TheVariants as rule
 use Rattle.zk_typed.specs.declared.script.primitive.BuiltIn.{BuiltIn}
 use Rattle.zk_typed.specs.declared.script.primitive.BuiltIn.TheVariants as built_in
-use Rattle.zk_typed.specs.Checked.{Checked, broken, broken_anyway, with_rule, ◌>>◌, both, each, require, rules_of}
+use Rattle.zk_typed.specs.Checked.{Checked, broken, broken_anyway, with_rule, ◌>>◌, both, each, require}
 use Rattle.zk_typed.specs.LogCalls.{Call, item_expr, word_of, settings, setting, optional, columns_type, if_known, created_in, log_type, path_literal, log_path, named_signature, event_kind, hook_kind, event_setting, policy_setting, string_set, names_setting, among, setting_name, setting_rules, only_settings, not_local, stream_settings, create_typed, filter_settings, filter_typed, with_settings, row_wanted, log_with, astray, log_arguments, log_of, log_word, wordless, all_wordless, log_behind, log_typed}
 use Rattle.zk_typed.specs.Making.{Called, argument, arguments, printed, format_text, lone_argument, by_row, built_in_typed, gives, made_of, made_by, item_values, call_typed, call_of, hook_typed, record_typed}
 use Rattle.zk_typed.specs.Names.{Declared, Meant, KnownType, WrittenType, Hook, Function, BuiltInFunction, Log, LogFunction, CreateStream, AddFilter, RemoveFilter, RemoveDefaultFilter, Write, Signature, look_up}
@@ -34,6 +34,15 @@ use Rattle.zk_sound.specs.Agreeing.{IsKnown}
 use Rattle.zk_sound.proofs.Growth.{all_append}
 use Rattle.zk_sound.proofs.Quiet.{Quiet, CallRight, Right, FindsRight, calls, in_items, never_quiet, never_named, quiet_with, quiet_along, name_right, items_right, item_right, argument_right, each_right, values_right, arguments_right, record_right, bracket_right}
 use Rattle.zk_sound.proofs.Told.{Tells, untold_both, untold_bind}
+
+-- What is never so ----------------------------------------------------------------------------------------------------
+
+-- Where the facts at hand unfold far, a contradiction is told by one of these: `cc` would unfold them all.
+never_told : {A : Type 0} (one : A) (more : List A) → one ∷ more ≡ [] → ⊥
+never_told one more e = cc
+
+never_true : false ≡ true → ⊥
+never_true e = cc
 
 -- Settings by their names ----------------------------------------------------------------------------------------------
 
@@ -116,7 +125,7 @@ module _ (env : Env) (tells : (name : Name) → Tells (type_named env.scripts en
     where
       by : (f : Expr-F Expr Item Part Link) → out-Expr one ≡ f → Right env (calls env depth one)
       by (written.Name name) is = name_right env depth one name is
-      by f is = let never : Quiet {A = Declared} (broken rule.WrongType (expr_place env one)) = rw is at e in absurd cc
+      by f is = absurd (never_told _ _ (rw is at e))
 
   event_right : (depth : ℕ) (known : Option RecordNo) (one : Expr) → Quiet (event_setting env known one) → Right env (calls env depth one)
   event_right depth known one e =
@@ -136,7 +145,7 @@ module _ (env : Env) (tells : (name : Name) → Tells (type_named env.scripts en
     where
       by : (f : Expr-F Expr Item Part Link) → out-Expr one ≡ f → Right env (calls env depth one)
       by (written.Name name) is = name_right env depth one name is
-      by f is = let never : rules_of (columns_in items) ≡ [] = e in absurd (let told = rw (there, is) at never in cc)
+      by f is = absurd (never_told _ _ (rw (there, is) at e))
 
   -- a setting whose value is judged
   judged_right : {A : Type 0} (judge : Expr → Checked A) (depth : ℕ) → ((one : Expr) → Quiet (judge one) → Right env (calls env depth one)) → (items : List Item) (name : List ℕ) (one : Expr) → setting name items ≡ Some one → Quiet (optional judge (setting name items)) → Right env (calls env depth one)
@@ -359,22 +368,22 @@ module _ (env : Env) (tells : (name : Name) → Tells (type_named env.scripts en
       quiet = (untold_both (columns_in items) ev (untold_both (both (columns_in items) ev) rest (untold_both only (both (both (columns_in items) ev) rest) told.0).1).0).0
 
       named : (one : Expr) (name : Name) → setting (codes "columns") items ≡ Some one → out-Expr one ≡ written.Name name → (local : Bool) → is_local env name ≡ local → IsKnown (if_known (columns_type env.scripts env.home items))
-      named one name there is true k = absurd (let never = rw (there, is, k) at quiet in cc)
+      named one name there is true k = absurd (never_told _ _ (rw (there, is, k) at quiet))
       named one name there is false k = of_named (type_named env.scripts env.home name) refl (tells name)
         where
           of_named : (of : Checked ValueType) → type_named env.scripts env.home name ≡ of → Tells (type_named env.scripts env.home name) → IsKnown (if_known (columns_type env.scripts env.home items))
           of_named (Ok (Record number)) t h = rw (there, is, t) tt
-          of_named (Ok of) t h = absurd (let never = rw (there, is, k, t) at quiet in cc)
+          of_named (Ok of) t h = absurd (never_told _ _ (rw (there, is, k, t) at quiet))
           of_named (Err []) t h = absurd (rw t at h)
-          of_named (Err (one ∷ rules)) t h = absurd (let never = rw (there, is, k, t) at quiet in cc)
+          of_named (Err (one ∷ rules)) t h = absurd (never_told _ _ (rw (there, is, k, t) at quiet))
 
       by : (found : Option Expr) → setting (codes "columns") items ≡ found → IsKnown (if_known (columns_type env.scripts env.home items))
-      by None there = absurd (let never = rw there at told.1 in cc)
+      by None there = absurd (never_true (rw there at told.1))
       by (Some one) there = of_form (out-Expr one) refl
         where
           of_form : (f : Expr-F Expr Item Part Link) → out-Expr one ≡ f → IsKnown (if_known (columns_type env.scripts env.home items))
           of_form (written.Name name) is = named one name there is (is_local env name) refl
-          of_form f is = absurd (let never = rw (there, is) at quiet in cc)
+          of_form f is = absurd (never_told _ _ (rw (there, is) at quiet))
 
   -- what stands behind the word says the record type
   said_known : (place : Place) (word : Declared) (known : Option RecordNo) (others : List Item) → Quiet (log_of check env place CreateStream word known others) → IsKnown (said env.scripts env.home others)
@@ -447,8 +456,8 @@ module _ (env : Env) (tells : (name : Name) → Tells (type_named env.scripts en
 
       meant : (one : Declared) (of : Meant) → look_up env.scripts.names env.home.module_name name.text ≡ Some one → one.meant ≡ of → AllByRecursion IsKnown (created_in env.scripts word call)
       meant one (Log CreateStream) there means = says items (judged one there means (is_local env name) refl)
-      meant one of there means = absurd (let never = rw (there, means) at is_one in cc)
+      meant one of there means = absurd (never_true (rw (there, means) at is_one))
 
       by : (found : Option Declared) → look_up env.scripts.names env.home.module_name name.text ≡ found → AllByRecursion IsKnown (created_in env.scripts word call)
-      by None there = absurd (let never = rw there at is_one in cc)
+      by None there = absurd (never_true (rw there at is_one))
       by (Some one) there = meant one one.meant there refl

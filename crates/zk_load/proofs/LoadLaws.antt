@@ -1,6 +1,7 @@
 -- How far the loading of scripts has come.
-use Rattle.std.proofs.Common.{◌≡◌, ℕ, suc, zero, ◌+◌, ◌-◌, ◌<◌, ◌≤◌, true, false, cond, List, [], ◌∷◌, ◌++◌, flat_map, reverse, length, length-append, arith, Some, refl, sym, ap, subst, ◌∙◌, append_assoc, append-nil}
-use Rattle.std.proofs.lemmas.List.{reverse-append, reverse-reverse}
+use Rattle.std.proofs.Common.{◌≡◌, ℕ, suc, zero, ◌+◌, ◌-◌, ◌<◌, ◌≤◌, Bool, true, false, ◌||◌, cond, get_or, take, List, [], ◌∷◌, ◌++◌, flat_map, reverse, length, length-append, arith, Some, refl, sym, ap, subst, ◌∙◌, append_assoc, append-nil}
+use Rattle.std.proofs.lemmas.List.{reverse-append, reverse-reverse, take_more}
+use Rattle.std.proofs.lemmas.List.Folds.{list_any_more}
 use Rattle.std.specs.Str.{bytes_eq}
 use Rattle.std.specs.HashSet.{contains}
 use Rattle.zk_base.specs.declared.endings.Ending.{Ending}
@@ -36,6 +37,28 @@ read_passed scripts name names was = ap (λ b. cond b (unread scripts names) (na
 
 pub unread_next : (scripts : plain.Scripts) (name : List ℕ) (names : List (List ℕ)) → is_read scripts name ≡ false → unread scripts (name ∷ names) ≡ name ∷ names
 unread_next scripts name names was = ap (λ b. cond b (unread scripts names) (name ∷ names)) was
+
+-- a name is among those before, or is this one
+either : (first one : Bool) → cond one true first ≡ (first || one)
+either true true = refl
+either true false = refl
+either false true = refl
+either false false = refl
+
+-- one name more that was read
+pub name_more : (scripts : plain.Scripts) (index : ℕ) (script : List ℕ × Tree) (name copied : List ℕ) (was is : Bool) → index < length scripts → script ≡ get_or scripts index script →
+    copied ≡ script.0 → is ≡ cond (bytes_eq copied name) true was → was ≡ is_read (take index scripts) name → is ≡ is_read (take (index + 1) scripts) name
+name_more scripts index script name copied was is within there same is_so before =
+    let called : List ℕ × Tree → Bool = λ one. bytes_eq one.0 name in
+    is_so ∙ ap (λ b. cond (bytes_eq copied name) true b) before ∙ either (is_read (take index scripts) name) (bytes_eq copied name)
+    ∙ ap (λ text. is_read (take index scripts) name || bytes_eq text name) same ∙ ap (λ one. is_read (take index scripts) name || called one) there
+    ∙ sym (list_any_more called scripts index script within)
+
+-- one name more that is to be read
+pub name_waits : (pending next names : List (List ℕ)) (index : ℕ) (name copied : List ℕ) → index < length names → name ≡ get_or names index name →
+    copied ≡ name → next ≡ pending ++ copied ∷ [] → pending ≡ take index names → next ≡ take (index + 1) names
+name_waits pending next names index name copied within there same adds before =
+    adds ∙ ap (λ (front : List (List ℕ)). front ++ copied ∷ []) before ∙ ap (λ (one : List ℕ). take index names ++ one ∷ []) (same ∙ there) ∙ sym (take_more names index name within)
 
 -- One script after another -----------------------------------------------------------------------------------
 

@@ -36,12 +36,12 @@ impl Scripts {
     fn new(alloc: Global, before: Sequence<(Bytes, Tree)>, names: &[Word]) -> Result<Scripts, Mem>
         ensures { IfOk result (λ scripts. Waits scripts before names.now) }
     {
-        let known = names_of(alloc, before.as_slice())?;
         let mut pending = Vec::with_capacity(alloc, names.len())?;
         for name in names {
             pending.push(Whole::copy_of(alloc, name.as_slice())?)?;
         }
         pending.reverse();
+        let known = names_of(alloc, before.as_slice())?;
         Ok(Scripts {
             read: before.into_vec(),
             names: known,
@@ -71,10 +71,10 @@ impl Scripts {
     {
         let mut loads = loads_of(alloc, &tree)?;
         loads.reverse();
-        self.pending.append(&mut loads)?;
         let bytes = Bytes::copy_of(alloc, name.as_slice())?;
-        self.names.insert(name)?;
         self.read.push((bytes, tree))?;
+        self.pending.append(&mut loads)?;
+        self.names.insert(name)?;
         Ok(())
     }
 }

@@ -1,3 +1,6 @@
+//! A call on a shelf is proved for any files, so the tests make their shelves of any files too, and hand over the
+//! runtime once.
+
 use super::*;
 use crate::arguments::ArgumentFault;
 use crate::status;
@@ -15,73 +18,107 @@ fn own_folder(rt: &HostRuntime) -> Result<PathBuf, Fail> {
     Ok(folder)
 }
 
+/// A shelf to which nothing was said or complained.
+fn silent<F: Files>(alloc: Global, files: F) -> DirShelf<F, Vec<u8>, Vec<u8>> {
+    DirShelf::new(files, Vec::new(alloc), Vec::new(alloc))
+}
+
+/// Whether nothing is there until it is made, and what is made anew is empty.
+fn is_written<S: Shelf>(shelf: &mut S, name: &[u8], with_blank: &[u8]) -> bool {
+    shelf.start(name) == Started::Absent
+        && shelf.create(name) == Wrote::Done
+        // A name is the whole of it: one that ends in a blank is another one.
+        && shelf.start(with_blank) == Started::Absent
+        && shelf.append(name, b"gone") == Wrote::Done
+        && shelf.create(name) == Wrote::Done
+        && shelf.append(name, b"zee") == Wrote::Done
+        && shelf.append(name, b"ks") == Wrote::Done
+}
+
+/// Whether what was written is read, two bytes at a time.
+fn is_read<S: Shelf>(shelf: &mut S, name: &[u8]) -> bool {
+    let mut buf = [0; 2];
+    shelf.start(name) == Started::Open
+        && shelf.read(&mut buf) == Got::Bytes(2)
+        && buf == *b"ze"
+        && shelf.read(&mut buf) == Got::Bytes(2)
+        && buf == *b"ek"
+        && shelf.read(&mut buf) == Got::Bytes(1)
+        && buf[0] == b's'
+        && shelf.read(&mut buf) == Got::End
+}
+
+/// Whether files hold what is written to one of them.
+fn hold<F: Files + Drop>(alloc: Global, files: F, name: &[u8], with_blank: &[u8]) -> bool {
+    let mut shelf = silent(alloc, files);
+    is_written(&mut shelf, name, with_blank) && is_read(&mut shelf, name)
+}
+
 #[test]
 fn a_real_folder_holds_what_was_written(rt: HostRuntime) -> Result<(), Fail> {
     let folder = own_folder(&rt)?;
-    let path = folder.join(rt.alloc(), "out.log")?;
-    let name = path.as_str().as_bytes();
-    let mut shelf = DirShelf::new(&rt, Vec::new(rt.alloc()), Vec::new(rt.alloc()));
-
-    // Nothing is there until it is made, and what is made anew is empty.
-    assert!(rt; shelf.start(name) == Started::Absent);
-    assert!(rt; shelf.create(name) == Wrote::Done);
-    // A name is the whole of it: one that ends in a blank is another one.
+    let name = folder.join(rt.alloc(), "out.log")?;
+    let name = name.as_str().as_bytes();
     let with_blank = folder.join(rt.alloc(), "out.log ")?;
-    assert!(rt; shelf.start(with_blank.as_str().as_bytes()) == Started::Absent);
-    assert!(rt; shelf.append(name, b"gone") == Wrote::Done);
-    assert!(rt; shelf.create(name) == Wrote::Done);
-    assert!(rt; shelf.append(name, b"zee") == Wrote::Done);
-    assert!(rt; shelf.append(name, b"ks") == Wrote::Done);
-
-    let mut buf = [0; 2];
-    assert!(rt; shelf.start(name) == Started::Open);
-    assert!(rt; shelf.read(&mut buf) == Got::Bytes(2));
-    assert!(rt; buf == *b"ze");
-    assert!(rt; shelf.read(&mut buf) == Got::Bytes(2));
-    assert!(rt; buf == *b"ek");
-    assert!(rt; shelf.read(&mut buf) == Got::Bytes(1));
-    assert!(rt; buf[0] == b's');
-    assert!(rt; shelf.read(&mut buf) == Got::End);
-
+    let with_blank = with_blank.as_str().as_bytes();
+    assert!(rt; hold(rt.alloc(), &rt, name, with_blank));
     fs::remove_dir_all(&rt, folder.as_path())?;
     Ok(())
 }
 
+/// Whether what can't be read is told as absent or as a fault.
+fn is_not_read<S: Shelf>(shelf: &mut S) -> bool {
+    // A folder is opened, and can't be read.
+    shelf.start(b"/") == Started::Open
+        && shelf.read(&mut [0; 8]) == Got::Failed
+        && shelf.start(b"\xff.pcap") == Started::Failed
+        && shelf.start(b"/dev/null/c.pcap") == Started::Failed
+        && shelf.start(b"/dev/nothing.pcap") == Started::Absent
+}
+
+/// Whether what can't be written is told as a fault.
+fn is_not_written<F: Files, O: Write, E: Write>(shelf: &mut DirShelf<F, O, E>) -> bool {
+    shelf.create(b"/") == Wrote::Failed
+        && shelf.create(b"\xff.log") == Wrote::Failed
+        && shelf.append(b"/dev/full", b"row") == Wrote::Failed
+        && shelf.append(b"/dev/nothing.log", b"row") == Wrote::Failed
+        && shelf.append(b"\xff.log", b"row") == Wrote::Failed
+}
+
+/// What a shelf counts where all of that is so.
+fn counted<F: Files + Drop>(alloc: Global, files: F) -> Option<Counts> {
+    let mut shelf = silent(alloc, files);
+    if is_not_read(&mut shelf) && is_not_written(&mut shelf) {
+        Some(shelf.counts)
+    } else {
+        None
+    }
+}
+
 #[test]
 fn what_cannot_be_read_or_written_is_counted(rt: HostRuntime) -> Result<(), Fail> {
-    let mut shelf = DirShelf::new(&rt, Vec::new(rt.alloc()), Vec::new(rt.alloc()));
-    let mut buf = [0; 8];
-
-    // A folder is opened, and can't be read.
-    assert!(rt; shelf.start(b"/") == Started::Open);
-    assert!(rt; shelf.read(&mut buf) == Got::Failed);
-    assert!(rt; shelf.start(b"\xff.pcap") == Started::Failed);
-    assert!(rt; shelf.start(b"/dev/null/c.pcap") == Started::Failed);
-    assert!(rt; shelf.start(b"/dev/nothing.pcap") == Started::Absent);
-    assert!(rt; shelf.create(b"/") == Wrote::Failed);
-    assert!(rt; shelf.create(b"\xff.log") == Wrote::Failed);
-    assert!(rt; shelf.append(b"/dev/full", b"row") == Wrote::Failed);
-    assert!(rt; shelf.append(b"/dev/nothing.log", b"row") == Wrote::Failed);
-    assert!(rt; shelf.append(b"\xff.log", b"row") == Wrote::Failed);
-    assert!(rt;
-        shelf.counts
-            == Counts {
-                read_faults: 3,
-                write_faults: 5,
-                absences: 1
-            }
-    );
+    let counts = Counts {
+        read_faults: 3,
+        write_faults: 5,
+        absences: 1,
+    };
+    assert!(rt; counted(rt.alloc(), &rt) == Some(counts));
     Ok(())
+}
+
+/// Whether what is said and what is complained come to two writers.
+fn are_told_apart<F: Files + Drop>(alloc: Global, files: F) -> bool {
+    let mut shelf = silent(alloc, files);
+    shelf.say(b"one, ") == Wrote::Done
+        && shelf.complain(b"wrong") == Wrote::Done
+        && shelf.say(b"two") == Wrote::Done
+        && shelf.out.as_slice() == b"one, two".as_slice()
+        && shelf.err.as_slice() == b"wrong".as_slice()
 }
 
 #[test]
 fn standard_output_and_error_are_told_apart(rt: HostRuntime) -> Result<(), Fail> {
-    let mut shelf = DirShelf::new(&rt, Vec::new(rt.alloc()), Vec::new(rt.alloc()));
-    assert!(rt; shelf.say(b"one, ") == Wrote::Done);
-    assert!(rt; shelf.complain(b"wrong") == Wrote::Done);
-    assert!(rt; shelf.say(b"two") == Wrote::Done);
-    assert!(rt; shelf.out.as_slice() == b"one, two".as_slice());
-    assert!(rt; shelf.err.as_slice() == b"wrong".as_slice());
+    assert!(rt; are_told_apart(rt.alloc(), &rt));
     Ok(())
 }
 
@@ -93,15 +130,31 @@ fn list(alloc: Global, file: &[u8]) -> Result<Vec<Word>, Mem> {
     Ok(words)
 }
 
+/// The status of a run that lists a capture.
+fn status_over<S: Shelf>(alloc: Global, shelf: &mut S, file: &[u8]) -> Result<u8, Mem> {
+    let words = list(alloc, file)?;
+    Ok(status(alloc, Ok(words), shelf))
+}
+
+/// Whether runs over a folder and an absent file, and without words, end with the status of their fault.
+fn end_so<F: Files>(alloc: Global, shelf: &mut DirShelf<F, Vec<u8>, Vec<u8>>) -> Result<bool, Mem> {
+    Ok(
+        status_over(alloc, shelf, b"/")? == 5
+            && shelf.err.is_empty()
+            && status_over(alloc, shelf, b"/dev/nothing.pcap")? == 9
+            && shelf.err.as_slice() == b"zeekoff: no file /dev/nothing.pcap\n".as_slice()
+            && status(alloc, Err(ArgumentFault::NotText), shelf) == 10,
+    )
+}
+
+/// Whether they do over files.
+fn runs_end_so<F: Files + Drop>(alloc: Global, files: F) -> Result<bool, Mem> {
+    let mut shelf = silent(alloc, files);
+    end_so(alloc, &mut shelf)
+}
+
 #[test]
 fn a_run_over_real_files_ends_with_the_status_of_its_fault(rt: HostRuntime) -> Result<(), Fail> {
-    let alloc = rt.alloc();
-    let mut shelf = DirShelf::new(&rt, Vec::new(alloc), Vec::new(alloc));
-    assert!(rt; status(alloc, Ok(list(alloc, b"/")?), &mut shelf) == 5);
-    assert!(rt; shelf.err.is_empty());
-    let absent = list(alloc, b"/dev/nothing.pcap")?;
-    assert!(rt; status(alloc, Ok(absent), &mut shelf) == 9);
-    assert!(rt; shelf.err.as_slice() == b"zeekoff: no file /dev/nothing.pcap\n".as_slice());
-    assert!(rt; status(alloc, Err(ArgumentFault::NotText), &mut shelf) == 10);
+    assert!(rt; runs_end_so(rt.alloc(), &rt)?);
     Ok(())
 }

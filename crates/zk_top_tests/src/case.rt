@@ -1,4 +1,5 @@
 use std::alloc::Global;
+use std::test::Fail;
 use zk_base::{Bytes, Mem, SureShelf, Word};
 use zk_top::run;
 
@@ -81,18 +82,35 @@ fn differing(shelf: &SureShelf, status: u8, case: &Case) -> Option<Part> {
 }
 
 /// Carries out a case over inputs, and tells what isn't as it has it, if anything.
-pub fn difference_over(
-    alloc: Global,
-    files: &[(&[u8], &[u8])],
-    case: &Case,
-) -> Result<Option<Part>, Mem> {
+fn difference(alloc: Global, files: &[(&[u8], &[u8])], case: &Case) -> Result<Option<Part>, Mem> {
     let words = words(alloc, case.line)?;
     let mut shelf = SureShelf::new(alloc, inputs(alloc, files)?)?;
     let ending = run(alloc, &words, &mut shelf);
     Ok(differing(&shelf, ending.status(), case))
 }
 
-/// Carries out a case, and tells what isn't as it has it, if anything.
-pub fn difference(alloc: Global, case: &Case) -> Result<Option<Part>, Mem> {
-    difference_over(alloc, case.inputs, case)
+/// That a case comes out over inputs as it says. It is that of a row.
+pub fn comes_out_over(
+    alloc: Global,
+    files: &[(&[u8], &[u8])],
+    case: &Case,
+    row: usize,
+) -> Result<(), Fail> {
+    match difference(alloc, files, case)? {
+        None => Ok(()),
+        Some(part) => Err(Fail::new(format_args!("{part:?} in row {row}"))),
+    }
+}
+
+/// The same over its own inputs.
+pub fn comes_out(alloc: Global, case: &Case, row: usize) -> Result<(), Fail> {
+    comes_out_over(alloc, case.inputs, case, row)
+}
+
+/// That each of these cases comes out as it says.
+pub fn each_comes_out(alloc: Global, cases: &[Case]) -> Result<(), Fail> {
+    for (n, case) in cases.iter().enumerate() {
+        comes_out(alloc, case, n)?;
+    }
+    Ok(())
 }

@@ -38,6 +38,13 @@ fn is_whole(shelf: &MemShelf, whole: &SureShelf, files: &[&[u8]]) -> bool {
             .all(|name| shelf.output(name) == whole.output(name))
 }
 
+/// Whether what a run that ends with this status did is right, where a call failed or none did.
+fn is_right(shelf: &MemShelf, whole: &SureShelf, files: &[&[u8]], status: u8) -> bool {
+    begins(shelf, whole, files)
+        && (status != 5 || shelf.complained().is_empty())
+        && (status == 5 || is_whole(shelf, whole, files) == (status != 6))
+}
+
 /// Whether a run whose call of this number fails ends with its status, and what it did by then is right.
 fn stops_so(
     alloc: Global,
@@ -49,14 +56,34 @@ fn stops_so(
     status: u8,
 ) -> Result<bool, Mem> {
     let fails = vec![in alloc; call]?;
-    let mut shelf = MemShelf::new(alloc, inputs(alloc, files)?, fails)?;
-    let ending = run(alloc, words, &mut shelf);
-    Ok(
-        ending.status() == status
-            && begins(&shelf, whole, row.files)
-            && (status != 5 || shelf.complained().is_empty())
-            && (status == 5 || is_whole(&shelf, whole, row.files) == (status != 6)),
-    )
+    let shelf = MemShelf::new(alloc, inputs(alloc, files)?, fails)?;
+    let mut shelf = Box::new(alloc, shelf)?;
+    let ending = run(alloc, words, &mut *shelf);
+    Ok(ending.status() == status && is_right(&shelf, whole, row.files, status))
+}
+
+/// The number of the first call whose failing doesn't stop a run as its row says, if any. The run has these words, and
+/// this is what comes of it where no call fails.
+fn first_of(
+    alloc: Global,
+    files: &[(&[u8], &[u8])],
+    row: &Failing,
+    words: &[Word],
+    whole: &SureShelf,
+) -> Result<Option<u64>, Mem> {
+    for (n, status) in row.statuses.iter().enumerate() {
+        let call = n as u64 + 1;
+        if !stops_so(alloc, files, row, words, whole, call, *status)? {
+            return Ok(Some(call));
+        }
+    }
+    let calls = whole.calls();
+    let tried = row.statuses.len() as u64;
+    Ok(if calls.wrapping_add(1) == tried {
+        None
+    } else {
+        Some(calls)
+    })
 }
 
 /// The number of the first call whose failing doesn't stop a run as its row says, if any.
@@ -69,19 +96,20 @@ fn first_otherwise(
     let whole = SureShelf::new(alloc, inputs(alloc, files)?)?;
     let mut whole = Box::new(alloc, whole)?;
     let _ = run(alloc, &words, &mut *whole);
-    for (n, status) in row.statuses.iter().enumerate() {
-        let call = n as u64 + 1;
-        if !stops_so(alloc, files, row, &words, &whole, call, *status)? {
-            return Ok(Some(call));
-        }
+    first_of(alloc, files, row, &words, &whole)
+}
+
+/// That each failing call stops the run of a row as it says.
+fn each_stops_it(
+    alloc: Global,
+    files: &[(&[u8], &[u8])],
+    row: &Failing,
+    n: usize,
+) -> Result<(), Fail> {
+    match first_otherwise(alloc, files, row)? {
+        None => Ok(()),
+        Some(call) => Err(Fail::new(format_args!("call {call} in row {n}"))),
     }
-    let calls = whole.calls();
-    let tried = row.statuses.len() as u64;
-    Ok(if calls.wrapping_add(1) == tried {
-        None
-    } else {
-        Some(calls)
-    })
 }
 
 /// Each packet makes this script print 40 bytes.
@@ -154,25 +182,30 @@ fn a_run_over_a_failing_shelf_stops_with_the_fault_of_the_failed_call(
     rt: HostRuntime,
 ) -> Result<(), Fail> {
     for (n, (inputs, row)) in SHORT.iter().enumerate() {
-        assert_eq!(rt;
-            first_otherwise(rt.alloc(), inputs, row)?,
-            None,
-            "in row {n}"
-        );
+        each_stops_it(rt.alloc(), inputs, row, n)?;
+    }
+    Ok(())
+}
+
+/// A capture of so many records of no bytes.
+fn many_records(alloc: Global, many: usize) -> Result<Vec<u8>, Mem> {
+    let mut bytes = Vec::from_slice(alloc, &HEADER)?;
+    for _ in 0..many {
+        bytes.extend_from_slice(&[0; 16])?;
+    }
+    Ok(bytes)
+}
+
+/// That each failing call stops the long runs over a capture.
+fn each_stops_long_runs(alloc: Global, capture: &[u8]) -> Result<(), Fail> {
+    for (n, row) in LONG.iter().enumerate() {
+        each_stops_it(alloc, &[(b"c.pcap", capture), (b"s.zeek", WIDE)], row, n)?;
     }
     Ok(())
 }
 
 #[test]
 fn a_failed_piece_of_a_long_run_stops_it(rt: HostRuntime) -> Result<(), Fail> {
-    let alloc = rt.alloc();
-    let mut many = Vec::from_slice(alloc, &HEADER)?;
-    for _ in 0..5000 {
-        many.extend_from_slice(&[0; 16])?;
-    }
-    for (n, row) in LONG.iter().enumerate() {
-        let first = first_otherwise(alloc, &[(b"c.pcap", &many), (b"s.zeek", WIDE)], row)?;
-        assert_eq!(rt; first, None, "in row {n}");
-    }
-    Ok(())
+    let capture = many_records(rt.alloc(), 5000)?;
+    each_stops_long_runs(rt.alloc(), &capture)
 }

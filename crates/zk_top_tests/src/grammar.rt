@@ -92,26 +92,44 @@ fn nested(alloc: Global, mark: u8, times: usize, last: &[u8]) -> Result<Vec<u8>,
     Ok(text)
 }
 
+/// That a text is so many declarations, or is refused at that byte.
+fn reads(alloc: Global, text: &[u8], wanted: Result<usize, Option<u64>>) -> Result<(), Fail> {
+    let found = declarations(alloc, text);
+    if found == wanted {
+        Ok(())
+    } else {
+        Err(Fail::new(format_args!("{found:?} of {text:?}")))
+    }
+}
+
+/// That a function whose body is a mark, so many times, and what stands behind, reads so.
+fn nests(
+    alloc: Global,
+    mark: u8,
+    times: usize,
+    last: &[u8],
+    wanted: Result<usize, Option<u64>>,
+) -> Result<(), Fail> {
+    let text = nested(alloc, mark, times, last)?;
+    reads(alloc, &text, wanted)
+}
+
 #[test]
 fn a_declaration_nests_200_deep(rt: HostRuntime) -> Result<(), Fail> {
     let alloc = rt.alloc();
-    let deepest = nested(alloc, b'!', 195, b"a; }")?;
-    assert_eq!(rt; declarations(alloc, &deepest), Ok(1));
-    let deeper = nested(alloc, b'!', 196, b"a; }")?;
-    assert_eq!(rt; declarations(alloc, &deeper), Err(Some(0)));
-    let endless = nested(alloc, b'(', 100_000, b"")?;
-    assert_eq!(rt; declarations(alloc, &endless), Err(Some(0)));
-    Ok(())
+    nests(alloc, b'!', 195, b"a; }", Ok(1))?;
+    nests(alloc, b'!', 196, b"a; }", Err(Some(0)))?;
+    nests(alloc, b'(', 100_000, b"", Err(Some(0)))
 }
 
 #[test]
 fn every_form_of_the_language_is_read(rt: HostRuntime) -> Result<(), Fail> {
     let alloc = rt.alloc();
     for (text, count) in &FORMS {
-        assert_eq!(rt; declarations(alloc, text), Ok(*count), "{text:?}");
+        reads(alloc, text, Ok(*count))?;
     }
     for (text, place) in &REFUSED {
-        assert_eq!(rt; declarations(alloc, text), Err(Some(*place)), "{text:?}");
+        reads(alloc, text, Err(Some(*place)))?;
     }
     Ok(())
 }

@@ -1,12 +1,12 @@
-use crate::case::{Case, difference};
+use crate::case::{Case, each_comes_out};
 use crate::defaults::{CLOSE, CONN, DNS};
 use crate::lists::QUERY;
 use crate::logs::PREFIX;
 use crate::runs::{CUT, DATAGRAM, HEADER};
 use std::test::Fail;
 
-/// Runs of several files.
-const CASES: &[Case] = &[
+/// Files that load others stand where they are loaded first.
+const LOADED: &[Case] = &[
     // A loaded file stands in the place of its first `@load`, once. A name is what the text says: `./c` and `c` are two files.
     Case {
         line: b"run -b -r c.pcap a.zeek s.zeek",
@@ -73,6 +73,25 @@ const CASES: &[Case] = &[
         complained: b"",
         files: &[],
     },
+    // Names under `base/` are passed over.
+    Case {
+        line: b"run -b -r c.pcap s.zeek",
+        inputs: &[
+            (b"c.pcap", &HEADER),
+            (
+                b"s.zeek",
+                b"@load base/conn.zeek\n@load base/nothing/there\nevent zeek_init() { print \"s\"; }\n",
+            ),
+        ],
+        status: 0,
+        said: b"s\n",
+        complained: b"",
+        files: &[],
+    },
+];
+
+/// What of a file is seen in others.
+const EXPORTED: &[Case] = &[
     // What is loaded in an `export` is exported, in the modules that its file names.
     Case {
         line: b"run -b -r c.pcap s.zeek",
@@ -94,6 +113,46 @@ const CASES: &[Case] = &[
         complained: b"",
         files: &[],
     },
+    // A name that is not exported is seen in its own module alone.
+    Case {
+        line: b"run -b -r c.pcap s.zeek",
+        inputs: &[
+            (b"c.pcap", &HEADER),
+            (
+                b"lib.zeek",
+                b"module Lib;\nexport { global shown = 1; }\nglobal hidden = 2;\n",
+            ),
+            (
+                b"s.zeek",
+                b"@load lib.zeek\nevent zeek_init() { print Lib::hidden; }\n",
+            ),
+        ],
+        status: 2,
+        said: b"",
+        complained: b"zeekoff: s.zeek, byte 41: Unknown\n",
+        files: &[],
+    },
+    // Twice in one module, in two files.
+    Case {
+        line: b"run -b -r c.pcap s.zeek",
+        inputs: &[
+            (b"c.pcap", &HEADER),
+            (
+                b"a.zeek",
+                b"module A;\nexport { global x = 1; }\nmodule B;\nglobal x = 2;\n",
+            ),
+            (b"b.zeek", b"module B;\nglobal x = 3;\n"),
+            (b"s.zeek", b"@load a.zeek\n@load b.zeek\n"),
+        ],
+        status: 2,
+        said: b"",
+        complained: b"zeekoff: b.zeek, byte 10: Twice\n",
+        files: &[],
+    },
+];
+
+/// What another file has made is used by its whole name.
+const WHOLE_NAMES: &[Case] = &[
     // Another module's events, hooks, functions, types and streams are used by their whole names.
     Case {
         line: b"run -b -r c.pcap s.zeek",
@@ -135,42 +194,10 @@ const CASES: &[Case] = &[
             ],
         )],
     },
-    // A name that is not exported is seen in its own module alone.
-    Case {
-        line: b"run -b -r c.pcap s.zeek",
-        inputs: &[
-            (b"c.pcap", &HEADER),
-            (
-                b"lib.zeek",
-                b"module Lib;\nexport { global shown = 1; }\nglobal hidden = 2;\n",
-            ),
-            (
-                b"s.zeek",
-                b"@load lib.zeek\nevent zeek_init() { print Lib::hidden; }\n",
-            ),
-        ],
-        status: 2,
-        said: b"",
-        complained: b"zeekoff: s.zeek, byte 41: Unknown\n",
-        files: &[],
-    },
-    // Twice in one module, in two files.
-    Case {
-        line: b"run -b -r c.pcap s.zeek",
-        inputs: &[
-            (b"c.pcap", &HEADER),
-            (
-                b"a.zeek",
-                b"module A;\nexport { global x = 1; }\nmodule B;\nglobal x = 2;\n",
-            ),
-            (b"b.zeek", b"module B;\nglobal x = 3;\n"),
-            (b"s.zeek", b"@load a.zeek\n@load b.zeek\n"),
-        ],
-        status: 2,
-        said: b"",
-        complained: b"zeekoff: b.zeek, byte 10: Twice\n",
-        files: &[],
-    },
+];
+
+/// In which file a fault or a broken rule is told.
+const FAULTS: &[Case] = &[
     // A fault is told with the file of its statement, also that of an initial value.
     Case {
         line: b"run -b -r c.pcap s.zeek",
@@ -223,6 +250,10 @@ const CASES: &[Case] = &[
         complained: b"zeekoff: a.zeek, byte 32: WrongType\n",
         files: &[],
     },
+];
+
+/// In which order files are asked for and judged.
+const REFUSED: &[Case] = &[
     // A file that is not there ends the run before anything is checked or runs.
     Case {
         line: b"run -b -r c.pcap s.zeek",
@@ -280,21 +311,10 @@ const CASES: &[Case] = &[
         complained: b"zeekoff: a.zeek, byte 22: OpenString\n",
         files: &[],
     },
-    // Names under `base/` are passed over.
-    Case {
-        line: b"run -b -r c.pcap s.zeek",
-        inputs: &[
-            (b"c.pcap", &HEADER),
-            (
-                b"s.zeek",
-                b"@load base/conn.zeek\n@load base/nothing/there\nevent zeek_init() { print \"s\"; }\n",
-            ),
-        ],
-        status: 0,
-        said: b"s\n",
-        complained: b"",
-        files: &[],
-    },
+];
+
+/// A capture that is cut.
+const CUT_SHORT: &[Case] = &[
     // The logs of a capture that is cut are closed behind its whole records.
     Case {
         line: b"run -b -r c.pcap s.zeek",
@@ -321,6 +341,10 @@ const CASES: &[Case] = &[
             ],
         )],
     },
+];
+
+/// Scripts beside the default ones.
+const BESIDE_DEFAULTS: &[Case] = &[
     // Scripts beside the default ones, which come first; priorities go over all files.
     Case {
         line: b"run -r c.pcap a.zeek b.zeek",
@@ -368,8 +392,12 @@ const CASES: &[Case] = &[
 
 #[test]
 fn scripts_are_read_in_order_each_followed_by_what_it_loads(rt: HostRuntime) -> Result<(), Fail> {
-    for (n, case) in CASES.iter().enumerate() {
-        assert_eq!(rt; difference(rt.alloc(), case)?, None, "in row {n}");
-    }
-    Ok(())
+    let alloc = rt.alloc();
+    each_comes_out(alloc, LOADED)?;
+    each_comes_out(alloc, EXPORTED)?;
+    each_comes_out(alloc, WHOLE_NAMES)?;
+    each_comes_out(alloc, FAULTS)?;
+    each_comes_out(alloc, REFUSED)?;
+    each_comes_out(alloc, CUT_SHORT)?;
+    each_comes_out(alloc, BESIDE_DEFAULTS)
 }

@@ -1,6 +1,7 @@
-use crate::case::{Case, difference};
+use crate::case::{Case, comes_out};
 use crate::runs::{DATAGRAM, HEADER};
 use crate::timers::EACH_SECOND;
+use std::alloc::Global;
 use std::test::Fail;
 
 /// The words of a run of `s.zeek` over `c.pcap`.
@@ -11,7 +12,8 @@ pub const PREFIX: &[u8] =
     b"#separator \\x09\n#set_separator\t,\n#empty_field\t(empty)\n#unset_field\t-\n";
 
 /// A command line, the bytes of `c.pcap`, the text of `s.zeek`, what is said, and files with all that
-/// they hold, in parts; one without parts isn't there.
+/// they hold, in parts; one without parts isn't there. Each table of rows is named in a function of its own, since the
+/// checker takes all that a function names at once.
 type Row = (
     &'static [u8],
     &'static [u8],
@@ -20,8 +22,8 @@ type Row = (
     &'static [(&'static [u8], &'static [&'static [u8]])],
 );
 
-/// Streams, filters, policies, what is told of a body that is at fault or spent, and the text of cells.
-const LOGS: &[Row] = &[
+/// When a stream has a file, its filters, and its columns.
+const STREAMS: &[Row] = &[
     // A log is created at its first row and closed at the last network time (Zeek manual, Log Files).
     (
         RUN,
@@ -43,23 +45,6 @@ const LOGS: &[Row] = &[
             ],
         )],
     ),
-    // A body that is at fault is told, at the time at which it ran.
-    (
-        RUN,
-        &DATAGRAM,
-        b"event zeek_init() { print 1 / 0; } event zeek_done() { local v: vector of count; print \
-          v[2]; }",
-        b"",
-        &[(
-            b"reporter.log",
-            &[
-                PREFIX,
-                b"#path\treporter\n#open\t1970-01-01-00-00-00\n#fields\tts\tlevel\tmessage\tlocation\n\
-              #types\ttime\tenum\tstring\tstring\n0.000000\tReporter::ERROR\tZeroDivisor\ts.zeek, \
-              byte 20\n25.000000\tReporter::ERROR\tNoIndex\ts.zeek, byte 81\n#close\t1970-01-01-00-00-25\n",
-            ],
-        )],
-    ),
     // A stream without a row has no file.
     (
         RUN,
@@ -68,60 +53,6 @@ const LOGS: &[Row] = &[
           { Log::create_stream(L, [$columns=R, $path=\"p\"]); }",
         b"",
         &[(b"p.log", &[])],
-    ),
-    // A policy hook that breaks keeps its row out.
-    (
-        RUN,
-        &DATAGRAM,
-        b"redef enum Log::ID += { L }; type R: record { n: count &log; }; hook few(r: R, id: \
-          Log::ID, f: Log::Filter) { if ( r$n > 1 ) break; } event zeek_init() { Log::create_stream(L, \
-          [$columns=R, $path=\"p\", $policy=few]); Log::write(L, [$n=1]); Log::write(L, [$n=2]); \
-          }",
-        b"",
-        &[(
-            b"p.log",
-            &[
-                PREFIX,
-                b"#path\tp\n#open\t1970-01-01-00-00-00\n#fields\tn\n#types\tcount\n1\n#close\t1970-01-01-00-00-25\n",
-            ],
-        )],
-    ),
-    // Each write tells its policy of the filter in a new record, in which a field that the script adds begins
-    // with its default; what one body gives to it the next body finds.
-    (
-        RUN,
-        &DATAGRAM,
-        b"redef enum Log::ID += { L }; type R: record { n: count &log; m: count &log; }; redef \
-          record Log::Filter += { k: count &default=7; }; hook p(r: R, id: Log::ID, f: Log::Filter) \
-          { r$n = f$k; f$k = 8; } hook p(r: R, id: Log::ID, f: Log::Filter) { r$m = f$k; } event \
-          zeek_init() { Log::create_stream(L, [$columns=R, $path=\"p\", $policy=p]); Log::write(L, \
-          [$n=1, $m=1]); Log::write(L, [$n=1, $m=1]); }",
-        b"",
-        &[(
-            b"p.log",
-            &[
-                PREFIX,
-                b"#path\tp\n#open\t1970-01-01-00-00-00\n#fields\tn\tm\n#types\tcount\tcount\n7\t8\n7\t\
-              8\n#close\t1970-01-01-00-00-25\n",
-            ],
-        )],
-    ),
-    // A fault and a spent budget are told at the byte of what was at fault, also of a body with another behind it.
-    (
-        RUN,
-        &DATAGRAM,
-        b"global t: table[count] of count;\nevent zeek_init() { t[1] = 2; print t[5]; }\nevent \
-          zeek_init() { print t[1]; }\n",
-        b"2\n",
-        &[(
-            b"reporter.log",
-            &[
-                PREFIX,
-                b"#path\treporter\n#open\t1970-01-01-00-00-00\n#fields\tts\tlevel\tmessage\tlocation\n\
-              #types\ttime\tenum\tstring\tstring\n0.000000\tReporter::ERROR\tNoIndex\ts.zeek, byte \
-              63\n#close\t1970-01-01-00-00-25\n",
-            ],
-        )],
     ),
     // Filters and their columns.
     (
@@ -149,6 +80,48 @@ const LOGS: &[Row] = &[
           Log::write(L, [$n=1]); }",
         b"",
         &[(b"x.log", &[])],
+    ),
+];
+
+fn streams() -> &'static [Row] {
+    STREAMS
+}
+
+/// What is told of a body that is at fault or spent.
+const FAULTS: &[Row] = &[
+    // A body that is at fault is told, at the time at which it ran.
+    (
+        RUN,
+        &DATAGRAM,
+        b"event zeek_init() { print 1 / 0; } event zeek_done() { local v: vector of count; print \
+          v[2]; }",
+        b"",
+        &[(
+            b"reporter.log",
+            &[
+                PREFIX,
+                b"#path\treporter\n#open\t1970-01-01-00-00-00\n#fields\tts\tlevel\tmessage\tlocation\n\
+              #types\ttime\tenum\tstring\tstring\n0.000000\tReporter::ERROR\tZeroDivisor\ts.zeek, \
+              byte 20\n25.000000\tReporter::ERROR\tNoIndex\ts.zeek, byte 81\n#close\t1970-01-01-00-00-25\n",
+            ],
+        )],
+    ),
+    // A fault and a spent budget are told at the byte of what was at fault, also of a body with another behind it.
+    (
+        RUN,
+        &DATAGRAM,
+        b"global t: table[count] of count;\nevent zeek_init() { t[1] = 2; print t[5]; }\nevent \
+          zeek_init() { print t[1]; }\n",
+        b"2\n",
+        &[(
+            b"reporter.log",
+            &[
+                PREFIX,
+                b"#path\treporter\n#open\t1970-01-01-00-00-00\n#fields\tts\tlevel\tmessage\tlocation\n\
+              #types\ttime\tenum\tstring\tstring\n0.000000\tReporter::ERROR\tNoIndex\ts.zeek, byte \
+              63\n#close\t1970-01-01-00-00-25\n",
+            ],
+        )],
     ),
     // A budget that is spent is told at the statement for which no unit is left.
     (
@@ -209,6 +182,79 @@ const LOGS: &[Row] = &[
             ],
         )],
     ),
+];
+
+fn faults() -> &'static [Row] {
+    FAULTS
+}
+
+/// What a policy hook keeps out, is told, and writes itself.
+const POLICIES: &[Row] = &[
+    // A policy hook that breaks keeps its row out.
+    (
+        RUN,
+        &DATAGRAM,
+        b"redef enum Log::ID += { L }; type R: record { n: count &log; }; hook few(r: R, id: \
+          Log::ID, f: Log::Filter) { if ( r$n > 1 ) break; } event zeek_init() { Log::create_stream(L, \
+          [$columns=R, $path=\"p\", $policy=few]); Log::write(L, [$n=1]); Log::write(L, [$n=2]); \
+          }",
+        b"",
+        &[(
+            b"p.log",
+            &[
+                PREFIX,
+                b"#path\tp\n#open\t1970-01-01-00-00-00\n#fields\tn\n#types\tcount\n1\n#close\t1970-01-01-00-00-25\n",
+            ],
+        )],
+    ),
+    // Each write tells its policy of the filter in a new record, in which a field that the script adds begins
+    // with its default; what one body gives to it the next body finds.
+    (
+        RUN,
+        &DATAGRAM,
+        b"redef enum Log::ID += { L }; type R: record { n: count &log; m: count &log; }; redef \
+          record Log::Filter += { k: count &default=7; }; hook p(r: R, id: Log::ID, f: Log::Filter) \
+          { r$n = f$k; f$k = 8; } hook p(r: R, id: Log::ID, f: Log::Filter) { r$m = f$k; } event \
+          zeek_init() { Log::create_stream(L, [$columns=R, $path=\"p\", $policy=p]); Log::write(L, \
+          [$n=1, $m=1]); Log::write(L, [$n=1, $m=1]); }",
+        b"",
+        &[(
+            b"p.log",
+            &[
+                PREFIX,
+                b"#path\tp\n#open\t1970-01-01-00-00-00\n#fields\tn\tm\n#types\tcount\tcount\n7\t8\n7\t\
+              8\n#close\t1970-01-01-00-00-25\n",
+            ],
+        )],
+    ),
+    // What a policy hook writes comes before the row that it judges, and the events in the order of the calls.
+    (
+        RUN,
+        &HEADER,
+        b"# A policy hook that writes on its own stream: the inner row comes first, the events \
+          come in the order of the calls.\nredef enum Log::ID += { L };\ntype R: record { n: \
+          count &log; };\nglobal told: event(r: R);\nglobal again = T;\n\nhook policy(r: R, \
+          id: Log::ID, f: Log::Filter)\n\t{\n\tif ( again )\n\t\t{\n\t\tagain = F;\n\t\tLog::write(L, \
+          R($n=2));\n\t\t}\n\t}\n\nevent told(r: R)\n\t{\n\tprint r$n;\n\t}\n\nevent zeek_init()\n\
+          \t{\n\tLog::create_stream(L, [$columns=R, $ev=told, $path=\"w\", $policy=policy]);\n\
+          \tLog::write(L, R($n=1));\n\t}\n",
+        b"1\n2\n",
+        &[(
+            b"w.log",
+            &[
+                PREFIX,
+                b"#path\tw\n#open\t1970-01-01-00-00-00\n#fields\tn\n#types\tcount\n2\n1\n#close\t1970-01-01-00-00-00\n",
+            ],
+        )],
+    ),
+];
+
+fn policies() -> &'static [Row] {
+    POLICIES
+}
+
+/// Policy hooks that are at fault or go too deep.
+const FAULTY_POLICIES: &[Row] = &[
     // A policy hook that always writes goes too deep, and no row comes of it.
     (
         RUN,
@@ -254,26 +300,6 @@ const LOGS: &[Row] = &[
                 ],
             ),
         ],
-    ),
-    // What a policy hook writes comes before the row that it judges, and the events in the order of the calls.
-    (
-        RUN,
-        &HEADER,
-        b"# A policy hook that writes on its own stream: the inner row comes first, the events \
-          come in the order of the calls.\nredef enum Log::ID += { L };\ntype R: record { n: \
-          count &log; };\nglobal told: event(r: R);\nglobal again = T;\n\nhook policy(r: R, \
-          id: Log::ID, f: Log::Filter)\n\t{\n\tif ( again )\n\t\t{\n\t\tagain = F;\n\t\tLog::write(L, \
-          R($n=2));\n\t\t}\n\t}\n\nevent told(r: R)\n\t{\n\tprint r$n;\n\t}\n\nevent zeek_init()\n\
-          \t{\n\tLog::create_stream(L, [$columns=R, $ev=told, $path=\"w\", $policy=policy]);\n\
-          \tLog::write(L, R($n=1));\n\t}\n",
-        b"1\n2\n",
-        &[(
-            b"w.log",
-            &[
-                PREFIX,
-                b"#path\tw\n#open\t1970-01-01-00-00-00\n#fields\tn\n#types\tcount\n2\n1\n#close\t1970-01-01-00-00-00\n",
-            ],
-        )],
     ),
     // A fault in a policy hook ends the body that wrote: the rows and events from before stay.
     (
@@ -324,6 +350,14 @@ const LOGS: &[Row] = &[
             ),
         ],
     ),
+];
+
+fn faulty_policies() -> &'static [Row] {
+    FAULTY_POLICIES
+}
+
+/// The text of cells, for each type, and where there is no value.
+const CELLS: &[Row] = &[
     // A column of each type.
     (
         RUN,
@@ -377,6 +411,14 @@ const LOGS: &[Row] = &[
             ],
         )],
     ),
+];
+
+fn cells() -> &'static [Row] {
+    CELLS
+}
+
+/// The text of strings.
+const ESCAPES: &[Row] = &[
     // Escapes of strings, alone and within a vector and a set.
     (
         RUN,
@@ -431,6 +473,14 @@ const LOGS: &[Row] = &[
             ),
         ],
     ),
+];
+
+fn escapes() -> &'static [Row] {
+    ESCAPES
+}
+
+/// The text of a string of all bytes.
+const EVERY_BYTE: &[Row] = &[
     // Every byte.
     (
         RUN,
@@ -487,9 +537,13 @@ const LOGS: &[Row] = &[
     ),
 ];
 
-#[test]
-fn logs_hold_the_rows_that_scripts_write(rt: HostRuntime) -> Result<(), Fail> {
-    for (n, (line, capture, script, said, files)) in LOGS.iter().enumerate() {
+fn every_byte() -> &'static [Row] {
+    EVERY_BYTE
+}
+
+/// That each of these runs says its lines and writes its files.
+fn each_writes(alloc: Global, rows: &[Row]) -> Result<(), Fail> {
+    for (n, (line, capture, script, said, files)) in rows.iter().enumerate() {
         let case = Case {
             line,
             inputs: &[(b"c.pcap", capture), (b"s.zeek", script)],
@@ -498,7 +552,19 @@ fn logs_hold_the_rows_that_scripts_write(rt: HostRuntime) -> Result<(), Fail> {
             complained: b"",
             files,
         };
-        assert_eq!(rt; difference(rt.alloc(), &case)?, None, "in row {n}");
+        comes_out(alloc, &case, n)?;
     }
     Ok(())
+}
+
+#[test]
+fn logs_hold_the_rows_that_scripts_write(rt: HostRuntime) -> Result<(), Fail> {
+    let alloc = rt.alloc();
+    each_writes(alloc, streams())?;
+    each_writes(alloc, faults())?;
+    each_writes(alloc, policies())?;
+    each_writes(alloc, faulty_policies())?;
+    each_writes(alloc, cells())?;
+    each_writes(alloc, escapes())?;
+    each_writes(alloc, every_byte())
 }

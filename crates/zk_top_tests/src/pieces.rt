@@ -1,7 +1,7 @@
 ghost use Rattle.zk_base.specs.SureShelf.{sure_outside};
 
 use crate::case::{inputs, words};
-use crate::lists::ROWS;
+use crate::lists::{ANSWERS, GAPS, Row, WHOLE};
 use std::alloc::Global;
 use std::test::Fail;
 use zk_base::{Ending, Got, Mem, Shelf, Started, SureShelf, Wrote};
@@ -53,19 +53,43 @@ fn list_by(alloc: Global, bytes: &[u8], most: usize) -> Result<(Ending, Box<Narr
     Ok((ending, narrow))
 }
 
-#[test]
-fn a_capture_has_the_same_lines_in_pieces_of_any_size(rt: HostRuntime) -> Result<(), Fail> {
-    for (n, (bytes, lines)) in ROWS.iter().enumerate() {
-        for most in [1, 7, 65_536] {
-            let (ending, narrow) = list_by(rt.alloc(), bytes, most)?;
-            assert!(rt;
-                matches!(ending, Ending::Done),
-                "row {n} in pieces of {most}"
-            );
-            assert_eq!(rt; narrow.shelf.said(), *lines, "row {n} in pieces of {most}");
+/// Whether a capture that is read in pieces of at most so many bytes has these lines.
+fn is_listed_by(alloc: Global, bytes: &[u8], most: usize, lines: &[u8]) -> Result<bool, Mem> {
+    let (ending, narrow) = list_by(alloc, bytes, most)?;
+    Ok(matches!(ending, Ending::Done) && narrow.shelf.said() == lines)
+}
+
+/// That a capture has these lines in pieces of each of these sizes.
+fn has_lines(alloc: Global, bytes: &[u8], pieces: &[usize], lines: &[u8]) -> Result<(), Fail> {
+    for most in pieces {
+        if !is_listed_by(alloc, bytes, *most, lines)? {
+            let len = bytes.len();
+            return Err(Fail::new(format_args!("{len} bytes in pieces of {most}")));
         }
     }
     Ok(())
+}
+
+/// That each of these captures has its lines in pieces of any size.
+fn each_has_its_lines(alloc: Global, rows: &[Row]) -> Result<(), Fail> {
+    for (bytes, lines) in rows {
+        has_lines(alloc, bytes, &[1, 7, 65_536], lines)?;
+    }
+    Ok(())
+}
+
+#[test]
+fn a_capture_has_the_same_lines_in_pieces_of_any_size(rt: HostRuntime) -> Result<(), Fail> {
+    let alloc = rt.alloc();
+    each_has_its_lines(alloc, WHOLE)?;
+    each_has_its_lines(alloc, ANSWERS)?;
+    each_has_its_lines(alloc, GAPS)
+}
+
+/// That a capture has the lines in small pieces that it has in long ones.
+fn has_the_same_lines(alloc: Global, bytes: &[u8]) -> Result<(), Fail> {
+    let (_, whole) = list_by(alloc, bytes, 65_536)?;
+    has_lines(alloc, bytes, &[1, 7], whole.shelf.said())
 }
 
 /// A record lies in two of its pieces of 65,536 bytes.
@@ -73,29 +97,21 @@ fn a_capture_has_the_same_lines_in_pieces_of_any_size(rt: HostRuntime) -> Result
 fn a_long_capture_has_the_same_lines_in_pieces_of_any_size(rt: HostRuntime) -> Result<(), Fail> {
     let bytes = capture(rt.alloc(), 0, 30)?;
     assert!(rt; bytes.len() > 65_536);
-    let (_, whole) = list_by(rt.alloc(), bytes.as_slice(), 65_536)?;
-    for most in [1, 7] {
-        let (ending, narrow) = list_by(rt.alloc(), bytes.as_slice(), most)?;
-        assert!(rt; matches!(ending, Ending::Done), "in pieces of {most}");
-        assert_eq!(rt;
-            narrow.shelf.said(),
-            whole.shelf.said(),
-            "in pieces of {most}"
-        );
-    }
-    Ok(())
+    has_the_same_lines(rt.alloc(), bytes.as_slice())
+}
+
+/// Whether what does not begin with a magic is refused after so many calls.
+fn is_refused_after(alloc: Global, most: usize, calls: u64) -> Result<bool, Mem> {
+    let (ending, narrow) = list_by(alloc, &[0; 100], most)?;
+    Ok(matches!(ending, Ending::CaptureRefused { place: 0, .. }) && narrow.shelf.calls() == calls)
 }
 
 /// What does not begin with a magic is refused by its first four bytes. The last call complains.
 #[test]
 fn a_header_is_refused_as_soon_as_it_is_sure(rt: HostRuntime) -> Result<(), Fail> {
-    for (most, calls) in [(1, 6), (3, 4), (65_536, 3)] {
-        let (ending, narrow) = list_by(rt.alloc(), &[0; 100], most)?;
-        assert!(rt;
-            matches!(ending, Ending::CaptureRefused { place: 0, .. }),
-            "in pieces of {most}"
-        );
-        assert_eq!(rt; narrow.shelf.calls(), calls, "in pieces of {most}");
-    }
+    let alloc = rt.alloc();
+    assert!(rt; is_refused_after(alloc, 1, 6)?);
+    assert!(rt; is_refused_after(alloc, 3, 4)?);
+    assert!(rt; is_refused_after(alloc, 65_536, 3)?);
     Ok(())
 }

@@ -11,8 +11,6 @@ mod failing;
 #[cfg(test)]
 mod generated;
 #[cfg(test)]
-mod grammar;
-#[cfg(test)]
 mod lists;
 #[cfg(test)]
 mod loads;

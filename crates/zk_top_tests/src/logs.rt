@@ -12,8 +12,7 @@ pub const PREFIX: &[u8] =
     b"#separator \\x09\n#set_separator\t,\n#empty_field\t(empty)\n#unset_field\t-\n";
 
 /// A command line, the bytes of `c.pcap`, the text of `s.zeek`, what is said, and files with all that
-/// they hold, in parts; one without parts isn't there. Each table of rows is named in a function of its own, since the
-/// checker takes all that a function names at once.
+/// they hold, in parts; one without parts isn't there.
 type Row = (
     &'static [u8],
     &'static [u8],
@@ -82,10 +81,6 @@ const STREAMS: &[Row] = &[
         &[(b"x.log", &[])],
     ),
 ];
-
-fn streams() -> &'static [Row] {
-    STREAMS
-}
 
 /// What is told of a body that is at fault or spent.
 const FAULTS: &[Row] = &[
@@ -184,10 +179,6 @@ const FAULTS: &[Row] = &[
     ),
 ];
 
-fn faults() -> &'static [Row] {
-    FAULTS
-}
-
 /// What a policy hook keeps out, is told, and writes itself.
 const POLICIES: &[Row] = &[
     // A policy hook that breaks keeps its row out.
@@ -248,10 +239,6 @@ const POLICIES: &[Row] = &[
         )],
     ),
 ];
-
-fn policies() -> &'static [Row] {
-    POLICIES
-}
 
 /// Policy hooks that are at fault or go too deep.
 const FAULTY_POLICIES: &[Row] = &[
@@ -352,10 +339,6 @@ const FAULTY_POLICIES: &[Row] = &[
     ),
 ];
 
-fn faulty_policies() -> &'static [Row] {
-    FAULTY_POLICIES
-}
-
 /// The text of cells, for each type, and where there is no value.
 const CELLS: &[Row] = &[
     // A column of each type.
@@ -412,10 +395,6 @@ const CELLS: &[Row] = &[
         )],
     ),
 ];
-
-fn cells() -> &'static [Row] {
-    CELLS
-}
 
 /// The text of strings.
 const ESCAPES: &[Row] = &[
@@ -475,10 +454,6 @@ const ESCAPES: &[Row] = &[
     ),
 ];
 
-fn escapes() -> &'static [Row] {
-    ESCAPES
-}
-
 /// The text of a string of all bytes.
 const EVERY_BYTE: &[Row] = &[
     // Every byte.
@@ -537,10 +512,6 @@ const EVERY_BYTE: &[Row] = &[
     ),
 ];
 
-fn every_byte() -> &'static [Row] {
-    EVERY_BYTE
-}
-
 /// That each of these runs says its lines and writes its files.
 fn each_writes(alloc: Global, rows: &[Row]) -> Result<(), Fail> {
     for (n, (line, capture, script, said, files)) in rows.iter().enumerate() {
@@ -560,11 +531,11 @@ fn each_writes(alloc: Global, rows: &[Row]) -> Result<(), Fail> {
 #[test]
 fn logs_hold_the_rows_that_scripts_write(rt: HostRuntime) -> Result<(), Fail> {
     let alloc = rt.alloc();
-    each_writes(alloc, streams())?;
-    each_writes(alloc, faults())?;
-    each_writes(alloc, policies())?;
-    each_writes(alloc, faulty_policies())?;
-    each_writes(alloc, cells())?;
-    each_writes(alloc, escapes())?;
-    each_writes(alloc, every_byte())
+    each_writes(alloc, STREAMS)?;
+    each_writes(alloc, FAULTS)?;
+    each_writes(alloc, POLICIES)?;
+    each_writes(alloc, FAULTY_POLICIES)?;
+    each_writes(alloc, CELLS)?;
+    each_writes(alloc, ESCAPES)?;
+    each_writes(alloc, EVERY_BYTE)
 }

@@ -1,18 +1,14 @@
 //! The program zeekoff: the words of the command line, files as the outside, and the exit status.
 #![tactic(auto)]
 
-mod arguments;
-mod dir_shelf;
-
 ghost use Rattle.std.specs.Prelude.{◌≡◌, IfErr, IfOk};
-ghost use Rattle.zeekoff.specs.Arguments.{exit_status};
+ghost use Rattle.zk_system.specs.Arguments.{exit_status};
 ghost use Rattle.zeekoff.specs.Status.{HasEnded};
 
-use arguments::{ArgumentFault, words};
-use dir_shelf::DirShelf;
 use std::alloc::Global;
 use std::process::ExitCode;
 use zk_base::{Shelf, Word};
+use zk_system::{ArgumentFault, DirShelf, words};
 use zk_top::run;
 
 fn main(rt: HostRuntime) -> ExitCode {

@@ -3,11 +3,15 @@
 #![tactic(auto)]
 
 #[cfg(test)]
+mod arguments;
+#[cfg(test)]
 mod base;
 #[cfg(test)]
 mod conn;
 #[cfg(test)]
 mod dns;
+#[cfg(test)]
+mod files;
 #[cfg(test)]
 mod frag;
 #[cfg(test)]

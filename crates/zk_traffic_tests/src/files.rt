@@ -1,14 +1,14 @@
 //! A call on a shelf is proved for any files, so the tests make their shelves of any files too, and hand over the
 //! runtime once.
 
-use super::*;
-use crate::arguments::ArgumentFault;
-use crate::status;
 use std::alloc::Global;
+use std::fs::Files;
+use std::io::Write;
 use std::path::PathBuf;
 use std::test::Fail;
 use std::{env, fs, process};
-use zk_base::{Bytes, Mem, Word};
+use zk_base::{Counts, Got, Shelf, Started, Wrote};
+use zk_system::DirShelf;
 
 /// Makes a folder of this process's own in the system's folder for what is temporary.
 fn own_folder(rt: &HostRuntime) -> Result<PathBuf, Fail> {
@@ -89,7 +89,7 @@ fn is_not_written<F: Files, O: Write, E: Write>(shelf: &mut DirShelf<F, O, E>) -
 fn counted<F: Files + Drop>(alloc: Global, files: F) -> Option<Counts> {
     let mut shelf = silent(alloc, files);
     if is_not_read(&mut shelf) && is_not_written(&mut shelf) {
-        Some(shelf.counts)
+        Some(shelf.counts())
     } else {
         None
     }
@@ -112,49 +112,12 @@ fn are_told_apart<F: Files + Drop>(alloc: Global, files: F) -> bool {
     shelf.say(b"one, ") == Wrote::Done
         && shelf.complain(b"wrong") == Wrote::Done
         && shelf.say(b"two") == Wrote::Done
-        && shelf.out.as_slice() == b"one, two".as_slice()
-        && shelf.err.as_slice() == b"wrong".as_slice()
+        && shelf.out().as_slice() == b"one, two".as_slice()
+        && shelf.err().as_slice() == b"wrong".as_slice()
 }
 
 #[test]
 fn standard_output_and_error_are_told_apart(rt: HostRuntime) -> Result<(), Fail> {
     assert!(rt; are_told_apart(rt.alloc(), &rt));
-    Ok(())
-}
-
-/// The words that list a capture.
-fn list(alloc: Global, file: &[u8]) -> Result<Vec<Word>, Mem> {
-    let mut words = Vec::new(alloc);
-    words.push(Word::from(Bytes::copy_of(alloc, b"list")?))?;
-    words.push(Word::from(Bytes::copy_of(alloc, file)?))?;
-    Ok(words)
-}
-
-/// The status of a run that lists a capture.
-fn status_over<S: Shelf>(alloc: Global, shelf: &mut S, file: &[u8]) -> Result<u8, Mem> {
-    let words = list(alloc, file)?;
-    Ok(status(alloc, Ok(words), shelf))
-}
-
-/// Whether runs over a folder and an absent file, and without words, end with the status of their fault.
-fn end_so<F: Files>(alloc: Global, shelf: &mut DirShelf<F, Vec<u8>, Vec<u8>>) -> Result<bool, Mem> {
-    Ok(
-        status_over(alloc, shelf, b"/")? == 5
-            && shelf.err.is_empty()
-            && status_over(alloc, shelf, b"/dev/nothing.pcap")? == 9
-            && shelf.err.as_slice() == b"zeekoff: no file /dev/nothing.pcap\n".as_slice()
-            && status(alloc, Err(ArgumentFault::NotText), shelf) == 10,
-    )
-}
-
-/// Whether they do over files.
-fn runs_end_so<F: Files + Drop>(alloc: Global, files: F) -> Result<bool, Mem> {
-    let mut shelf = silent(alloc, files);
-    end_so(alloc, &mut shelf)
-}
-
-#[test]
-fn a_run_over_real_files_ends_with_the_status_of_its_fault(rt: HostRuntime) -> Result<(), Fail> {
-    assert!(rt; runs_end_so(rt.alloc(), &rt)?);
     Ok(())
 }

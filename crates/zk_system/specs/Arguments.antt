@@ -5,8 +5,8 @@ use Rattle.std.specs.declared.io.ErrorKind.TheVariants.{OutOfMemory}
 use Rattle.std.specs.declared.string.String.{String}
 use Rattle.zk_base.specs.Ending as ending
 use Rattle.zk_base.specs.declared.endings.Ending.TheVariants as Ending
-use Rattle.zeekoff.specs.declared.arguments.ArgumentFault.{ArgumentFault}
-use Rattle.zeekoff.specs.declared.arguments.ArgumentFault.TheVariants.{NoMemory, NotText}
+use Rattle.zk_system.specs.declared.arguments.ArgumentFault.{ArgumentFault}
+use Rattle.zk_system.specs.declared.arguments.ArgumentFault.TheVariants.{NoMemory, NotText}
 
 abbrev pub fault_of : ErrorKind → ArgumentFault
 fault_of OutOfMemory = NoMemory

@@ -4,7 +4,7 @@ use Rattle.zk_base.specs.declared.shelf.Wrote.{Wrote}
 use Rattle.zk_base.specs.declared.shelf.Wrote.TheVariants as wrote
 use Rattle.zk_base.specs.declared.counts.Counts.{Counts}
 use Rattle.zk_base.specs.Shelf.{Outside, Puts}
-use Rattle.zeekoff.specs.DirShelf.{untold, CountsWrite}
+use Rattle.zk_system.specs.DirShelf.{untold, CountsWrite}
 
 -- a write of which nothing is told leaves its count, and a prefix of no bytes is a prefix
 pub puts : (after : List ℕ → Outside) (is_open : Bool) (old : Counts) (piece : List ℕ) (result : Wrote) (new : Counts)

@@ -3,7 +3,7 @@ ghost use Rattle.std.specs.IoError.{error_kind};
 ghost use Rattle.std.specs.Str.{IsUtf8};
 ghost use Rattle.std.specs.Io.{ReadsAtMost};
 ghost use Rattle.std.specs.Io.KnownBytes.{Appends, Consumes, Keeps, IsAtEnd};
-ghost use Rattle.zeekoff.specs.DirShelf.{started_of, CountsStart, CountsWrite};
+ghost use Rattle.zk_system.specs.DirShelf.{started_of, CountsStart, CountsWrite};
 
 use std::fs::{File, Files};
 use std::io::{ErrorKind, Read, Write};
@@ -41,11 +41,32 @@ impl<F: Files, O: Write, E: Write> DirShelf<F, O, E> {
             counts: Counts::default(),
         }
     }
+
+    /// The faults and absences that it has counted.
+    pub fn counts(&self) -> Counts
+        ensures { result ≡ self.now.counts }
+    {
+        self.counts
+    }
+
+    /// The writer of what is said.
+    pub fn out(&self) -> &O
+        ensures { result.now ≡ self.now.out }
+    {
+        &self.out
+    }
+
+    /// The writer of what is complained.
+    pub fn err(&self) -> &E
+        ensures { result.now ≡ self.now.err }
+    {
+        &self.err
+    }
 }
 
 impl<F: Files, O: Write, E: Write> Shelf for DirShelf<F, O, E> {
     ghost use Rattle.zk_base.specs.Shelf.{Starts, is_open, Reads, Creates, Puts, after_append, after_say, after_complaint};
-    ghost use Rattle.zeekoff.specs.DirShelf.{untold, Takes};
+    ghost use Rattle.zk_system.specs.DirShelf.{untold, Takes};
 
     ghost outside = { λ shelf. untold (is_some shelf.input) shelf.counts };
 
@@ -211,6 +232,3 @@ fn read_some<R: Read>(reader: &mut R, buf: &mut [u8]) -> io::Result<usize>
     }
     Err(io::Error::from(ErrorKind::TimedOut))
 }
-
-#[cfg(test)]
-mod tests;

@@ -1,8 +1,8 @@
 use Rattle.std.proofs.Common.{is_some, refl}
 use Rattle.zk_base.specs.Shelf.{after_complaint}
-use Rattle.zeekoff.specs.DirShelf.{untold}
-use Rattle.zeekoff.proofs.WriteLemmas.{puts}
-use Rattle.zeekoff.proofs.dir_shelf.DirShelfShelf.complain.Goals as goal
+use Rattle.zk_system.specs.DirShelf.{untold}
+use Rattle.zk_system.proofs.WriteLemmas.{puts}
+use Rattle.zk_system.proofs.dir_shelf.DirShelfShelf.complain.Goals as goal
 
 pub returns-clause-leaves : goal.returns-clause-leaves
 returns-clause-leaves g c =

@@ -1,2 +1,0 @@
-mod ArgumentLemmas
-pub mod WriteLemmas

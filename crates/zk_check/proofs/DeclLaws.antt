@@ -18,14 +18,14 @@ use Rattle.zk_typed.specs.Errors.{PathUse, decl_rules, declared_before, declares
 use Rattle.zk_typed.specs.LoadOrder.{Home, Stated}
 use Rattle.zk_typed.specs.Names.{Declared}
 use Rattle.zk_typed.specs.Resolving.{FieldInfo, Scripts, fields_of, is_that, own_fields, type_named, written_field}
-use Rattle.zk_names.specs.Fields.{decl_fields, stated_fields}
+use Rattle.zk_scope.specs.Fields.{decl_fields, stated_fields}
 use Rattle.zk_check.specs.declared.rules.decls.Earlier.{Earlier}
-use Rattle.zk_declaration.specs.declared.seen.Seen.{Seen}
-use Rattle.zk_declaration.specs.Adding.{field_texts, has_field}
-use Rattle.zk_declaration.specs.Paths.{HasPaths, stated_uses}
-use Rattle.zk_declaration.specs.Seeing.{Sees}
-use Rattle.zk_declaration.proofs.AddedLaws.{or_false}
-use Rattle.zk_declaration.proofs.StatedLaws.{fields_among, with_stated}
+use Rattle.zk_check_declarations.specs.declared.seen.Seen.{Seen}
+use Rattle.zk_check_declarations.specs.Adding.{field_texts, has_field}
+use Rattle.zk_check_declarations.specs.Paths.{HasPaths, stated_uses}
+use Rattle.zk_check_declarations.specs.Seeing.{Sees}
+use Rattle.zk_check_declarations.proofs.AddedLaws.{or_false}
+use Rattle.zk_check_declarations.proofs.StatedLaws.{fields_among, with_stated}
 use Rattle.zk_check.specs.Earlier.{IsEarlier, type_decl}
 
 pub type_is : (scripts : Scripts) (before : List Stated) (home : Home) (place : ℕ) (name : Name) (meant : «Type») →

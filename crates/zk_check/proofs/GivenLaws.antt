@@ -12,9 +12,9 @@ use Rattle.zk_typed.specs.Statements.{empty_of}
 use Rattle.zk_typed.specs.Types.{ValueType}
 use Rattle.zk_typed.specs.View.{expr_of}
 use Rattle.zk_typed.specs.declared.script.expr.Expr.{Expr}
-use Rattle.zk_declaration.specs.declared.values.Given.{Given}
+use Rattle.zk_check_declarations.specs.declared.values.Given.{Given}
 use Rattle.zk_check.specs.Globals.{start_after}
-use Rattle.zk_declaration.specs.Valuing.{given_lent, given_of}
+use Rattle.zk_check_declarations.specs.Valuing.{given_lent, given_of}
 use Rattle.zk_check.proofs.PushLaws.{map_behind}
 
 -- an item stands in front of what is behind it

@@ -10,11 +10,11 @@ use Rattle.zk_typed.specs.Declarations.{nothing}
 use Rattle.zk_typed.specs.Errors.{by_place, decl_rules, declared_before, declares, errors_from, errors_of, twice_rules}
 use Rattle.zk_typed.specs.LoadOrder.{Stated}
 use Rattle.zk_typed.specs.Resolving.{Scripts}
-use Rattle.zk_names.specs.declared.home.Stated.{Stated as LentStated}
-use Rattle.zk_names.specs.Lent.{stated_lent, stated_of}
+use Rattle.zk_scope.specs.declared.home.Stated.{Stated as LentStated}
+use Rattle.zk_scope.specs.Lent.{stated_lent, stated_of}
 use Rattle.zk_check.specs.Faults.{head_of}
 use Rattle.zk_check.specs.Listing.{all_rules, path_rules}
-use Rattle.zk_declaration.proofs.ListLaws.{front_of}
+use Rattle.zk_check_declarations.proofs.ListLaws.{front_of}
 
 head_more : {A : Type 0} (xs ys : List A) (first : Option A) → first ≡ head_of xs → first ≡ None → head_of (xs ++ ys) ≡ head_of ys
 head_more [] ys first e none = refl

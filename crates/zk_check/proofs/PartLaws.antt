@@ -4,10 +4,10 @@ use Rattle.std.specs.Prelude.{IfOk, codes, slice_get}
 use Rattle.std.specs.Option.{option_and_then, option_map}
 use Rattle.zk_base.specs.declared.Mem.{Mem}
 use Rattle.zk_base.specs.declared.time.Span.{Span}
-use Rattle.zk_expression.specs.declared.env.GlobalType.{GlobalType}
-use Rattle.zk_expression.specs.declared.env.Globals.{Globals}
-use Rattle.zk_expression.specs.Envs.{global_of, globals_at}
-use Rattle.zk_operator.specs.Gather.{Told}
+use Rattle.zk_check_expressions.specs.declared.env.GlobalType.{GlobalType}
+use Rattle.zk_check_expressions.specs.declared.env.Globals.{Globals}
+use Rattle.zk_check_expressions.specs.Envs.{global_of, globals_at}
+use Rattle.zk_check_operators.specs.Gather.{Told}
 use Rattle.zk_tree.specs.declared.expiry.Expiry.{Expiry}
 use Rattle.zk_tree.specs.declared.expiry.Expiry.TheVariants.{Create, Read, Write}
 use Rattle.zk_tree.specs.declared.types.Attr.{Attr}

@@ -31,7 +31,7 @@ use Rattle.zk_check.specs.declared.program.Code.{Code}
 use Rattle.zk_check.specs.declared.program.Data.{Data}
 use Rattle.zk_check.specs.Programming.{IsCode, IsData, program_in}
 use Rattle.zk_check.proofs.PushLaws.{map_behind}
-use Rattle.zk_declaration.specs.Choosing.{chosen}
+use Rattle.zk_check_declarations.specs.Choosing.{chosen}
 use Rattle.zk_check.specs.Globals.{global_by, globals_by, no_place, place_by, primitive_shaped, stated_place}
 
 pub map_same : {A B : Type 0} (f g : A → B) (same : (one : A) → f one ≡ g one) (all : List A) → map f all ≡ map g all

@@ -17,11 +17,11 @@ use Rattle.zk_typed.specs.Names.{Declared, whole_name}
 use Rattle.zk_typed.specs.Resolving.{Scripts}
 use Rattle.zk_typed.specs.Within.{mentions}
 use Rattle.zk_check.specs.declared.rules.decls.Earlier.{Earlier}
-use Rattle.zk_declaration.specs.declared.seen.Seen.{Seen}
-use Rattle.zk_declaration.specs.Adding.{KnowsAll}
-use Rattle.zk_declaration.specs.Paths.{HasPaths}
-use Rattle.zk_declaration.specs.Seeing.{Sees}
-use Rattle.zk_declaration.specs.Valued.{variable_rules}
+use Rattle.zk_check_declarations.specs.declared.seen.Seen.{Seen}
+use Rattle.zk_check_declarations.specs.Adding.{KnowsAll}
+use Rattle.zk_check_declarations.specs.Paths.{HasPaths}
+use Rattle.zk_check_declarations.specs.Seeing.{Sees}
+use Rattle.zk_check_declarations.specs.Valued.{variable_rules}
 
 -- the functions that have a body
 pub record HasBodies (bodies : Seen) (before : List Stated) : Type 0 where

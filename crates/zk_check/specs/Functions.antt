@@ -1,7 +1,7 @@
 -- Functions by their bodies.
 use Rattle.std.specs.Prelude.{List, ◌∷◌, [], length, map, None}
 use Rattle.std.specs.Option.{option_copied}
-use Rattle.zk_names.specs.Lent.{home_of}
+use Rattle.zk_scope.specs.Lent.{home_of}
 use Rattle.zk_tree.specs.declared.decl.Decl.{out-Decl}
 use Rattle.zk_typed.specs.Errors.{body_made, result_wanted}
 use Rattle.zk_typed.specs.LoadOrder.{Stated}
@@ -10,9 +10,9 @@ use Rattle.zk_typed.specs.Program as program
 use Rattle.zk_typed.specs.Programs.{checked_or, first_or, function_in, no_function, stmt_in}
 use Rattle.zk_typed.specs.Resolving.{Scripts, params_of, result_of}
 use Rattle.zk_typed.specs.Statements.{InFunction}
-use Rattle.zk_declaration.specs.declared.groups.Groups.{Groups}
+use Rattle.zk_check_declarations.specs.declared.groups.Groups.{Groups}
 use Rattle.zk_check.specs.declared.program.functions.FunctionDecl.{FunctionDecl}
-use Rattle.zk_declaration.specs.Grouping.{group_at}
+use Rattle.zk_check_declarations.specs.Grouping.{group_at}
 
 -- the parameters and the result of a body
 abbrev pub signature_in : FunctionDecl → Signature

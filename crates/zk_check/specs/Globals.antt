@@ -24,8 +24,8 @@ use Rattle.zk_typed.specs.Predefined as type
 use Rattle.zk_typed.specs.Program as program
 use Rattle.zk_typed.specs.Programs.{all_given, checked_or, default_of, expiry_of, first_given, first_or, function_number, global_made, later_given, shaped, with_shape}
 use Rattle.zk_typed.specs.Resolving.{Scripts, attr_value, place_in}
-use Rattle.zk_declaration.specs.declared.groups.Groups.{Groups}
-use Rattle.zk_declaration.specs.Grouping.{group_at}
+use Rattle.zk_check_declarations.specs.declared.groups.Groups.{Groups}
+use Rattle.zk_check_declarations.specs.Grouping.{group_at}
 use Rattle.zk_check.specs.Programming.{value_of}
 
 -- the length of time that a literal is

@@ -1,7 +1,7 @@
 -- Hooks by their bodies.
 use Rattle.std.specs.Prelude.{List, ◌∷◌, [], length, map, Option, Some, None, if◌then◌else◌}
 use Rattle.std.specs.Str.{bytes_eq}
-use Rattle.zk_names.specs.Lent.{home_of}
+use Rattle.zk_scope.specs.Lent.{home_of}
 use Rattle.zk_tree.specs.declared.decl.Decl.{out-Decl}
 use Rattle.zk_typed.specs.Errors.{body_made}
 use Rattle.zk_typed.specs.LoadOrder.{Stated}
@@ -10,9 +10,9 @@ use Rattle.zk_typed.specs.Program as program
 use Rattle.zk_typed.specs.Programs.{checked_or, hook_body_in, priority_of, signature_of, stmt_in}
 use Rattle.zk_typed.specs.Resolving.{Scripts, params_of}
 use Rattle.zk_typed.specs.Statements.{InHook}
-use Rattle.zk_declaration.specs.declared.groups.Groups.{Groups}
+use Rattle.zk_check_declarations.specs.declared.groups.Groups.{Groups}
 use Rattle.zk_check.specs.declared.program.hooks.HookDecl.{HookDecl}
-use Rattle.zk_declaration.specs.Grouping.{group_at}
+use Rattle.zk_check_declarations.specs.Grouping.{group_at}
 
 -- a body of a hook
 abbrev pub hook_body_typed : Scripts → HookDecl → program.HookBody

@@ -1,6 +1,6 @@
 -- What judging a whole body gives.
 use Rattle.std.specs.Prelude.{◌≡◌, length}
-use Rattle.zk_operator.specs.Gather.{Told}
+use Rattle.zk_check_operators.specs.Gather.{Told}
 use Rattle.zk_typed.specs.Statements.{Stated}
 use Rattle.zk_typed.specs.Tells.{Tells}
 use Rattle.zk_typed.specs.View.{stmt_of}

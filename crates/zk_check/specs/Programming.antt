@@ -2,8 +2,8 @@
 use Rattle.std.specs.Prelude.{◌≡◌, ℕ, ℤ, pos, neg_ℤ, List, [], ◌∷◌, filter, flat_map, length, map, Option, Some, None, Result, Ok, Err}
 use Rattle.std.specs.Option.{option_and_then}
 use Rattle.std.specs.Borrow.{Bor}
-use Rattle.zk_names.specs.declared.declared.Signature.{Signature as LentSignature}
-use Rattle.zk_names.specs.Lent.{signature_of}
+use Rattle.zk_scope.specs.declared.declared.Signature.{Signature as LentSignature}
+use Rattle.zk_scope.specs.Lent.{signature_of}
 use Rattle.zk_tree.specs.declared.decl.Decl.{out-Decl}
 use Rattle.zk_tree.specs.declared.stmt.Block.{Block}
 use Rattle.zk_tree.specs.declared.types.Attr.{Attr}
@@ -31,7 +31,7 @@ use Rattle.zk_typed.specs.View.{global_of, record_of, stmt_of}
 use Rattle.zk_check.specs.declared.program.Code.{Code}
 use Rattle.zk_check.specs.declared.program.Data.{Data}
 use Rattle.zk_check.specs.declared.program.bodies.Body.{Body}
-use Rattle.zk_declaration.specs.Logging.{logs_of}
+use Rattle.zk_check_declarations.specs.Logging.{logs_of}
 
 -- what was checked, where no rule is broken in it
 abbrev pub IsChecked : {A : Type 0} → Result A Refusal → Result (Option A) Mem → Type 0

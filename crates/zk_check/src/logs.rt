@@ -1,12 +1,12 @@
 ghost use Rattle.std.specs.Prelude.{◌≡◌, ◌++◌, IfOk, OnOk};
-ghost use Rattle.zk_names.specs.Lent.{declared_of};
-ghost use Rattle.zk_names.specs.Scripted.{scripts_in};
+ghost use Rattle.zk_scope.specs.Lent.{declared_of};
+ghost use Rattle.zk_scope.specs.Scripted.{scripts_in};
 ghost use Rattle.zk_typed.specs.LogCalls.{stream_type};
-ghost use Rattle.zk_declaration.specs.Logging.{logs_by, logs_of};
+ghost use Rattle.zk_check_declarations.specs.Logging.{logs_by, logs_of};
 
 use std::alloc::Global;
 use zk_base::{Bytes, Mem, RecordNo};
-use zk_names::{Declared, Kind, Scripts};
+use zk_scope::{Declared, Kind, Scripts};
 use zk_typed::script::Log;
 
 /// The record type of the columns of a log, where a stream of it is created.

@@ -1,12 +1,12 @@
 //! The typed program of scripts.
 ghost use Rattle.std.specs.Prelude.{◌≡◌, List, map, IfOk};
-ghost use Rattle.zk_names.specs.Lent.{files_of};
+ghost use Rattle.zk_scope.specs.Lent.{files_of};
 ghost use Rattle.zk_typed.specs.LoadOrder.{File};
 ghost use Rattle.zk_typed.specs.Resolving.{Scripts};
 ghost use Rattle.zk_typed.specs.View.{program_of};
-ghost use Rattle.zk_declaration.specs.Sources.{IsSource, scripts_from};
+ghost use Rattle.zk_check_declarations.specs.Sources.{IsSource, scripts_from};
 ghost use Rattle.zk_check.specs.Programming.{IsCode, IsData, file_names, program_in};
-ghost use Rattle.zk_declaration.specs.Valuing.{IsValues};
+ghost use Rattle.zk_check_declarations.specs.Valuing.{IsValues};
 
 mod attrs;
 mod bodies;
@@ -26,7 +26,7 @@ use crate::program::hooks::all_hooks;
 use crate::program::records::all_records;
 use std::alloc::Global;
 use zk_base::{Bytes, Mem, Sequence};
-use zk_declaration::{Source, Values};
+use zk_check_declarations::{Source, Values};
 use zk_tree::Tree;
 use zk_typed::script::{
     Event, Function, Global as ProgramGlobal, Handler, Hook, Log, Program, RecordType,

@@ -1,7 +1,7 @@
 ghost use Rattle.std.specs.Prelude.{◌≡◌, ◌&&◌};
 ghost use Rattle.std.specs.List.{list_all};
 ghost use Rattle.std.specs.Option.{option_map};
-ghost use Rattle.zk_statement.specs.Blocks.{all_stated};
+ghost use Rattle.zk_check_statements.specs.Blocks.{all_stated};
 ghost use Rattle.zk_check.specs.Givens.{given_of, all_given};
 ghost use Rattle.zk_typed.specs.Blind as spec;
 ghost use Rattle.zk_typed.specs.Forms.{Givens};

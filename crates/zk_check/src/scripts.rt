@@ -6,14 +6,14 @@ ghost use Rattle.zk_typed.specs.LoadOrder.{File};
 ghost use Rattle.zk_typed.specs.Program as spec;
 ghost use Rattle.zk_typed.specs.Programs.{Typed};
 ghost use Rattle.zk_typed.specs.View.{program_of};
-ghost use Rattle.zk_names.specs.Lent.{files_of};
-ghost use Rattle.zk_names.specs.Scripted.{scripts_in};
-ghost use Rattle.zk_expression.specs.Envs.{globals_at};
-ghost use Rattle.zk_declaration.specs.Sources.{IsSource, scripts_from};
-ghost use Rattle.zk_declaration.specs.Valuing.{IsValues};
+ghost use Rattle.zk_scope.specs.Lent.{files_of};
+ghost use Rattle.zk_scope.specs.Scripted.{scripts_in};
+ghost use Rattle.zk_check_expressions.specs.Envs.{globals_at};
+ghost use Rattle.zk_check_declarations.specs.Sources.{IsSource, scripts_from};
+ghost use Rattle.zk_check_declarations.specs.Valuing.{IsValues};
 ghost use Rattle.zk_check.specs.Checking.{IsAccepted};
 ghost use Rattle.zk_check.specs.Faults.{IsFirst, head_of};
-ghost use Rattle.zk_declaration.specs.Rounds.{IsGlobals};
+ghost use Rattle.zk_check_declarations.specs.Rounds.{IsGlobals};
 
 use crate::fault::{CheckFault, fault_of};
 use crate::logs::all_logs;
@@ -22,11 +22,11 @@ use crate::rules::bodies::Bodied;
 use crate::rules::decls::Earlier;
 use std::alloc::Global;
 use zk_base::{Bytes, Mem};
-use zk_declaration::{
+use zk_check_declarations::{
     Ground, Source, Valued, Values, all_streams, depths, given_values, known_types, told_types,
 };
-use zk_expression::{GlobalType, Globals};
-use zk_names::{Names, Scripts};
+use zk_check_expressions::{GlobalType, Globals};
+use zk_scope::{Names, Scripts};
 use zk_tree::Tree;
 use zk_typed::Broken;
 use zk_typed::script::Program;

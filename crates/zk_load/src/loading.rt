@@ -13,7 +13,7 @@ use crate::stop::Stop;
 use indexmap::IndexSet;
 use std::alloc::Global;
 use zk_base::{Bytes, Ending, Mem, ScriptKind, Sequence, Shelf, Word};
-use zk_names::Whole;
+use zk_scope::Whole;
 use zk_tree::Tree;
 
 /// The most files that a run may read.

@@ -6,7 +6,7 @@ ghost use Rattle.zk_load.specs.Loading.{loads_in, loads_of};
 
 use std::alloc::Global;
 use zk_base::Mem;
-use zk_names::Whole;
+use zk_scope::Whole;
 use zk_tree::{Decl, Tree};
 
 /// The files that a script loads, in order.

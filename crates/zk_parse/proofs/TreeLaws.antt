@@ -6,11 +6,11 @@ use Rattle.zk_tree.specs.declared.decl.Decl.{Decl}
 use Rattle.zk_tree.specs.declared.decl.Tree.{Tree}
 use Rattle.zk_tree.specs.Rules.{ADecl, Repeated}
 use Rattle.zk_tree.specs.Reading.{IsDecl, max_nesting, Reads, IsRefusedAt}
-use Rattle.zk_reader.specs.Reading.{within}
+use Rattle.zk_parse_core.specs.Reading.{within}
 use Rattle.zk_parse.specs.declared.parsing.Front.{Front}
 use Rattle.zk_parse.specs.Trees.{decl_at, with_first, stopped, front_from, front_of, whole, tree_of, IsStopped}
-use Rattle.zk_reader.proofs.Theorem.{repeated_ends}
-use Rattle.zk_reader.proofs.Scripts.{exact}
+use Rattle.zk_parse_core.proofs.Theorem.{repeated_ends}
+use Rattle.zk_parse_core.proofs.Scripts.{exact}
 
 -- something, or nothing
 option_cases : {A : Type 0} (o : Option A) → (o ≡ None) ⊎ ((x : A) × (o ≡ Some x))

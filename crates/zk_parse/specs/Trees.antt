@@ -5,7 +5,7 @@ use Rattle.zk_tree.specs.declared.decl.Decl.{Decl}
 use Rattle.zk_tree.specs.declared.decl.Tree.{Tree}
 use Rattle.zk_tree.specs.Rules.{ADecl, Repeated}
 use Rattle.zk_tree.specs.Reading.{max_nesting, IsDecl}
-use Rattle.zk_reader.specs.Reading.{Reader, within}
+use Rattle.zk_parse_core.specs.Reading.{Reader, within}
 use Rattle.zk_parse.specs.declared.fault.ParseFault.{ParseFault}
 use Rattle.zk_parse.specs.declared.fault.ParseFault.TheVariants.{NoTree, NoMemory}
 use Rattle.zk_parse.specs.declared.parsing.Front.{Front}

@@ -2,13 +2,13 @@ ghost use Rattle.std.specs.Prelude.{◌≡◌};
 ghost use Rattle.zk_tree.specs.declared.decl.Decl.{Decl as SyntaxDecl};
 ghost use Rattle.zk_tree.specs.Grammar as grammar;
 ghost use Rattle.zk_tree.specs.Rules.{ADecl};
-ghost use Rattle.zk_reader.specs.Reading.{Gives, NestsOf, read, unread, within};
+ghost use Rattle.zk_parse_core.specs.Reading.{Gives, NestsOf, read, unread, within};
 
 use crate::stmts::{Stmts, nested_stmt};
 use sqlite_items::Items;
 use std::alloc::Global;
-use zk_expr::{attrs, fields, initial, params, signature, typed, variable, words};
-use zk_reader::{Element, FormFault, Tokens, up_to_brace};
+use zk_parse_core::{Element, FormFault, Tokens, up_to_brace};
+use zk_parse_expressions::{attrs, fields, initial, params, signature, typed, variable, words};
 use zk_tree::{Attr, Block, Decl, Field, Init, Keyword, Name, Param, Redefinition, Sign, Type};
 
 /// Statements between braces.

@@ -9,7 +9,7 @@ use crate::fault::ParseFault;
 use sqlite_items::Items;
 use std::alloc::Global;
 use zk_base::Mem;
-use zk_reader::{FormFault, Tokens};
+use zk_parse_core::{FormFault, Tokens};
 use zk_tree::{Decl, Token, Tree};
 
 /// How deep a declaration may be nested: itself, and the statements, types, expressions, arms behind a

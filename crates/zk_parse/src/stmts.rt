@@ -5,12 +5,12 @@ ghost use Rattle.zk_tree.specs.declared.keyword.Mark.TheVariants as mark;
 ghost use Rattle.zk_tree.specs.declared.token.Sign.TheVariants as sign;
 ghost use Rattle.zk_tree.specs.Grammar as grammar;
 ghost use Rattle.zk_tree.specs.Rules.{AnExpr, AStmt, After, Before, Nested};
-ghost use Rattle.zk_reader.specs.Reading.{Gives, NestsOf, read, unread, within};
+ghost use Rattle.zk_parse_core.specs.Reading.{Gives, NestsOf, read, unread, within};
 
 use sqlite_items::{Boxed, Items};
 use std::alloc::Global;
-use zk_expr::{Counted, exprs, named_args, nested_expr, variable};
-use zk_reader::{Element, FormFault, Tokens, listed, up_to_brace};
+use zk_parse_core::{Element, FormFault, Tokens, listed, up_to_brace};
+use zk_parse_expressions::{Counted, exprs, named_args, nested_expr, variable};
 use zk_tree::{Block, Expr, Item, Keys, Keyword, Name, Sign, Stmt};
 
 /// An expression, and the sign behind it.

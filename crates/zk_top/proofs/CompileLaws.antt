@@ -10,7 +10,7 @@ use Rattle.zk_typed.specs.declared.script.program.Handler.{Handler as RustHandle
 use Rattle.zk_typed.specs.Program.{Program}
 use Rattle.zk_typed.specs.View.{handler_of}
 use Rattle.zk_typed.specs.Programs.{Typed}
-use Rattle.zk_names.specs.Lent.{files_of}
+use Rattle.zk_scope.specs.Lent.{files_of}
 use Rattle.zk_check.specs.declared.fault.CheckFault.{CheckFault}
 use Rattle.zk_check.specs.declared.fault.CheckFault.TheVariants as fault
 use Rattle.zk_check.specs.Faults.{IsFirst, fault_of}

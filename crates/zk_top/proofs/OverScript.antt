@@ -5,7 +5,7 @@ use Rattle.zk_base.specs.declared.endings.Ending.{Ending}
 use Rattle.zk_base.specs.declared.endings.Ending.TheVariants.{NoInput, ScriptRefused}
 use Rattle.zk_base.specs.Shelf.{Files, Outside, HasRisen}
 use Rattle.zk_pcap.specs.declared.captures.Capture.{Capture}
-use Rattle.zk_names.specs.Lent.{files_of}
+use Rattle.zk_scope.specs.Lent.{files_of}
 use Rattle.zk_typed.specs.declared.refusal.Broken.{Broken}
 use Rattle.zk_typed.specs.Errors.{errors}
 use Rattle.zk_typed.specs.Program.{Program}

@@ -9,7 +9,7 @@ use Rattle.zk_load.specs.declared.found.Found.{Found}
 use Rattle.zk_load.specs.declared.found.Found.TheVariants.{Accepted, Refused}
 use Rattle.zk_load.specs.Loading.{Scripts, scripts_in}
 use Rattle.zk_scripts.specs.Texts.{default_texts}
-use Rattle.zk_names.specs.Lent.{files_of}
+use Rattle.zk_scope.specs.Lent.{files_of}
 use Rattle.zk_typed.specs.declared.refusal.Broken.{Broken}
 use Rattle.zk_typed.specs.declared.rule.Rule.{Rule}
 use Rattle.zk_typed.specs.declared.rule.Rule.TheVariants as rule

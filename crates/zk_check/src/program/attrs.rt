@@ -1,6 +1,6 @@
 ghost use Rattle.std.specs.Prelude.{◌≡◌, codes, Some, IfOk};
 ghost use Rattle.std.specs.Option.{option_map};
-ghost use Rattle.zk_names.specs.Lent.{home_of};
+ghost use Rattle.zk_scope.specs.Lent.{home_of};
 ghost use Rattle.zk_typed.specs.declared.script.literal.DefaultValue.TheVariants as default;
 ghost use Rattle.zk_typed.specs.declared.script.literal.Literal.TheVariants as literal;
 ghost use Rattle.zk_typed.specs.Programs as spec;
@@ -9,13 +9,13 @@ ghost use Rattle.zk_typed.specs.Resolving.{Scripts, attr_value};
 ghost use Rattle.zk_typed.specs.Typing.{is_function, number_among};
 ghost use Rattle.zk_typed.specs.View.{expr_of, type_of};
 ghost use Rattle.zk_check.specs.Globals.{first_expiry, primitive_shaped, span_in, span_of};
-ghost use Rattle.zk_declaration.specs.Sources.{scripts_from};
+ghost use Rattle.zk_check_declarations.specs.Sources.{scripts_from};
 
 use crate::program::bodies::value_of;
 use std::alloc::Global;
 use zk_base::{Mem, Span};
-use zk_declaration::Source;
-use zk_names::{Home, Kind, attr_value};
+use zk_check_declarations::Source;
+use zk_scope::{Home, Kind, attr_value};
 use zk_tree::{Attr, Expiry, Expr as Syntax, Name};
 use zk_typed::script::{
     DefaultValue, Expr, Literal, Primitive, Shape, Sign, SimpleType, ValueType,
@@ -201,7 +201,7 @@ fn primitive_shaped(
 }
 
 /// A table or set that is made, with the expiry and the default of its global.
-#[tactic(auto, using(crate::proofs::ProgramLaws::shaped_apply, zk_operator::proofs::Forms::apply_is))]
+#[tactic(auto, using(crate::proofs::ProgramLaws::shaped_apply, zk_check_operators::proofs::Forms::apply_is))]
 pub fn shaped(expiry: Option<Expiry>, default: Option<DefaultValue>, one: Expr) -> Expr
     ensures { expr_of result ≡ spec.shaped expiry default (expr_of one) }
 {

@@ -1,20 +1,20 @@
 ghost use Rattle.std.specs.Prelude.{◌≡◌, ◌++◌, filter, flat_map, map, IfOk, OnOk};
-ghost use Rattle.zk_names.specs.Lent.{declared_of, home_of, stated_lent};
+ghost use Rattle.zk_scope.specs.Lent.{declared_of, home_of, stated_lent};
 ghost use Rattle.zk_typed.specs.Names.{look_up};
 ghost use Rattle.zk_typed.specs.Programs as spec;
 ghost use Rattle.zk_typed.specs.Typing.{is_event};
 ghost use Rattle.zk_typed.specs.View as view;
 ghost use Rattle.zk_tree.specs.declared.decl.Decl.{out-Decl};
-ghost use Rattle.zk_declaration.specs.Choosing.{chosen};
-ghost use Rattle.zk_declaration.specs.Sources.{IsSource, scripts_from};
+ghost use Rattle.zk_check_declarations.specs.Choosing.{chosen};
+ghost use Rattle.zk_check_declarations.specs.Sources.{IsSource, scripts_from};
 ghost use Rattle.zk_check.specs.Programming.{handler_made, handlers_at, stated_handlers};
 
 use crate::program::bodies::{body_in, priority_of};
 use crate::program::signatures::declared_params;
 use zk_base::{Bytes, EventNo, Mem};
-use zk_declaration::Source;
-use zk_names::{Declared, Home, Kind, Stated};
-use zk_statement::Within;
+use zk_check_declarations::Source;
+use zk_check_statements::Within;
+use zk_scope::{Declared, Home, Kind, Stated};
 use zk_tree::{Attr, Block, BodyKind, Decl, Name, Param};
 use zk_typed::script::{Event, Handler};
 

@@ -1,6 +1,6 @@
 ghost use Rattle.std.specs.Prelude.{◌≡◌, ◌++◌, [], filter, flat_map, map, None, IfOk, OnOk};
 ghost use Rattle.std.specs.Option.{option_map};
-ghost use Rattle.zk_names.specs.Lent.{declared_of, signature_of, stated_of};
+ghost use Rattle.zk_scope.specs.Lent.{declared_of, signature_of, stated_of};
 ghost use Rattle.zk_typed.specs.Names.{Declared as DeclaredName};
 ghost use Rattle.zk_typed.specs.Programs as spec;
 ghost use Rattle.zk_typed.specs.Resolving as resolving;
@@ -8,17 +8,17 @@ ghost use Rattle.zk_typed.specs.Resolving.{Scripts};
 ghost use Rattle.zk_typed.specs.Typing.{is_function};
 ghost use Rattle.zk_typed.specs.View as view;
 ghost use Rattle.zk_typed.specs.View.{type_of};
-ghost use Rattle.zk_declaration.specs.Choosing.{chosen};
+ghost use Rattle.zk_check_declarations.specs.Choosing.{chosen};
 ghost use Rattle.zk_check.specs.Functions.{function_among, function_typed, functions_at, signature_in, stated_function};
-ghost use Rattle.zk_declaration.specs.Sources.{IsSource, scripts_from};
+ghost use Rattle.zk_check_declarations.specs.Sources.{IsSource, scripts_from};
 
 use crate::program::bodies::function_body_in;
 use crate::program::signatures::{params_of, result_of};
 use std::alloc::Global;
 use zk_base::{Mem, Sequence};
-use zk_declaration::{Groups, Source};
-use zk_names::{Declared, Home, Kind, Signature, Stated, whole_name};
-use zk_statement::no_stmt;
+use zk_check_declarations::{Groups, Source};
+use zk_check_statements::no_stmt;
+use zk_scope::{Declared, Home, Kind, Signature, Stated, whole_name};
 use zk_tree::{Block, Decl, Param, Type};
 use zk_typed::script::{Function, ValueType};
 

@@ -1,19 +1,19 @@
 ghost use Rattle.std.specs.Prelude.{◌≡◌, ◌++◌, filter, flat_map, map, IfOk, OnOk};
-ghost use Rattle.zk_names.specs.Lent.{declared_of, stated_of};
+ghost use Rattle.zk_scope.specs.Lent.{declared_of, stated_of};
 ghost use Rattle.zk_typed.specs.Names.{Declared as DeclaredName, look_up};
 ghost use Rattle.zk_typed.specs.Programs as spec;
 ghost use Rattle.zk_typed.specs.Typing.{is_hook};
 ghost use Rattle.zk_typed.specs.View as view;
-ghost use Rattle.zk_declaration.specs.Choosing.{chosen};
+ghost use Rattle.zk_check_declarations.specs.Choosing.{chosen};
 ghost use Rattle.zk_check.specs.Hooks.{hook_among, hook_body_typed, hook_bodies_at, hooks_in, stated_hook};
-ghost use Rattle.zk_declaration.specs.Sources.{IsSource, scripts_from};
+ghost use Rattle.zk_check_declarations.specs.Sources.{IsSource, scripts_from};
 
 use crate::program::bodies::{body_in, priority_of};
 use crate::program::signatures::declared_params;
 use zk_base::{Mem, Sequence};
-use zk_declaration::{Groups, Source};
-use zk_names::{Declared, Home, Kind, Stated};
-use zk_statement::Within;
+use zk_check_declarations::{Groups, Source};
+use zk_check_statements::Within;
+use zk_scope::{Declared, Home, Kind, Stated};
 use zk_tree::{Attr, Block, BodyKind, Decl, Name, Param};
 use zk_typed::script::{Hook, HookBody};
 

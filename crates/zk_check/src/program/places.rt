@@ -1,14 +1,14 @@
 ghost use Rattle.std.specs.Prelude.{◌≡◌, ◌++◌, ℕ, List, IfOk, OnOk};
-ghost use Rattle.zk_names.specs.Lent.{stated_of};
+ghost use Rattle.zk_scope.specs.Lent.{stated_of};
 ghost use Rattle.zk_typed.specs.Programs as spec;
 ghost use Rattle.zk_check.specs.Globals.{ArePlaces, no_place, stated_place};
-ghost use Rattle.zk_declaration.specs.Grouping.{group_at};
-ghost use Rattle.zk_declaration.specs.Sources.{scripts_from};
+ghost use Rattle.zk_check_declarations.specs.Grouping.{group_at};
+ghost use Rattle.zk_check_declarations.specs.Sources.{scripts_from};
 
 use std::alloc::Global;
 use zk_base::Mem;
-use zk_declaration::{Groups, Source};
-use zk_names::{Stated, whole_name};
+use zk_check_declarations::{Groups, Source};
+use zk_scope::{Stated, whole_name};
 use zk_tree::{Decl, Place};
 
 /// The place of the first declaration of a name, among places by whole names.

@@ -1,18 +1,18 @@
 ghost use Rattle.std.specs.Prelude.{◌≡◌, map, IfOk};
-ghost use Rattle.zk_names.specs.Fields.{field_of, fields_lent};
+ghost use Rattle.zk_scope.specs.Fields.{field_of, fields_lent};
 ghost use Rattle.zk_typed.specs.Predefined as type;
 ghost use Rattle.zk_typed.specs.Programs as spec;
 ghost use Rattle.zk_typed.specs.Resolving.{Scripts};
 ghost use Rattle.zk_typed.specs.View as view;
 ghost use Rattle.zk_typed.specs.View.{type_of};
-ghost use Rattle.zk_declaration.specs.Sources.{scripts_from};
+ghost use Rattle.zk_check_declarations.specs.Sources.{scripts_from};
 
 use crate::program::bodies::if_checked;
 use std::alloc::Global;
 use zk_base::{Bytes, Mem, RecordNo, Sequence};
-use zk_declaration::Source;
-use zk_names::{FieldInfo, record_count};
-use zk_operator::constant_typed;
+use zk_check_declarations::Source;
+use zk_check_operators::constant_typed;
+use zk_scope::{FieldInfo, record_count};
 use zk_typed::copied_type;
 use zk_typed::script::{DefaultValue, Field, RecordType, SimpleType, ValueType};
 

@@ -1,16 +1,16 @@
 ghost use Rattle.std.specs.Prelude.{◌≡◌, [], map, None, IfOk};
 ghost use Rattle.std.specs.Option.{option_map};
-ghost use Rattle.zk_names.specs.Lent.{declared_of, signature_of};
+ghost use Rattle.zk_scope.specs.Lent.{declared_of, signature_of};
 ghost use Rattle.zk_typed.specs.Programs as spec;
 ghost use Rattle.zk_typed.specs.Programs.{checked_or};
 ghost use Rattle.zk_typed.specs.Resolving as resolving;
 ghost use Rattle.zk_typed.specs.View.{type_of};
-ghost use Rattle.zk_declaration.specs.Sources.{scripts_from};
+ghost use Rattle.zk_check_declarations.specs.Sources.{scripts_from};
 ghost use Rattle.zk_check.specs.Programming.{signature_or};
 
 use zk_base::{Mem, Sequence};
-use zk_declaration::Source;
-use zk_names::{Declared, Meant, Signature};
+use zk_check_declarations::Source;
+use zk_scope::{Declared, Meant, Signature};
 use zk_typed::Refusal;
 use zk_typed::script::ValueType;
 

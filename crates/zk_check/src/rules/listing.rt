@@ -2,9 +2,9 @@ ghost use Rattle.std.specs.Prelude.{◌≡◌, ◌++◌, ◌∷◌, [], List, If
 ghost use Rattle.zk_typed.specs.Errors as spec;
 ghost use Rattle.zk_typed.specs.LoadOrder.{Stated as AtStated};
 ghost use Rattle.zk_typed.specs.Tells.{Tells};
-ghost use Rattle.zk_names.specs.Lent.{stated_lent, stated_of};
-ghost use Rattle.zk_names.specs.Scripted.{scripts_in};
-ghost use Rattle.zk_operator.specs.Gather.{Told};
+ghost use Rattle.zk_scope.specs.Lent.{stated_lent, stated_of};
+ghost use Rattle.zk_scope.specs.Scripted.{scripts_in};
+ghost use Rattle.zk_check_operators.specs.Gather.{Told};
 ghost use Rattle.zk_check.specs.Bodied.{IsBodied};
 ghost use Rattle.zk_check.specs.Earlier.{IsEarlier};
 ghost use Rattle.zk_check.specs.Faults.{head_of};
@@ -14,9 +14,9 @@ use crate::rules::bodies::Bodied;
 use crate::rules::decls::Earlier;
 use crate::rules::least::first_told;
 use zk_base::Mem;
-use zk_declaration::{declares, twice_rules};
-use zk_names::Stated;
-use zk_operator::also;
+use zk_check_declarations::{declares, twice_rules};
+use zk_check_operators::also;
+use zk_scope::Stated;
 use zk_typed::{Broken, Refusal};
 
 impl<'a> Bodied<'a> {

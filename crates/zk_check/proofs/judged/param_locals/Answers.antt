@@ -1,8 +1,8 @@
 use Rattle.std.proofs.Common.{List, ℕ, ap, ◌∙◌, arith}
 use Rattle.std.specs.Option.{option_map}
-use Rattle.zk_expression.specs.Envs.{known_or, local_of}
-use Rattle.zk_names.specs.Lent.{home_of}
-use Rattle.zk_names.specs.Scripted.{scripts_in}
+use Rattle.zk_check_expressions.specs.Envs.{known_or, local_of}
+use Rattle.zk_scope.specs.Lent.{home_of}
+use Rattle.zk_scope.specs.Scripted.{scripts_in}
 use Rattle.zk_tree.specs.declared.types.Param.{Param, out-Param}
 use Rattle.zk_typed.specs.Checked.{Checked}
 use Rattle.zk_typed.specs.Resolving.{hushed, type_of}

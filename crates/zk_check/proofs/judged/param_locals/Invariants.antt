@@ -1,7 +1,7 @@
 use Rattle.std.proofs.Common.{◌≡◌, take}
-use Rattle.zk_expression.specs.Envs.{locals_of}
-use Rattle.zk_names.specs.Lent.{home_of}
-use Rattle.zk_names.specs.Scripted.{scripts_in}
+use Rattle.zk_check_expressions.specs.Envs.{locals_of}
+use Rattle.zk_scope.specs.Lent.{home_of}
+use Rattle.zk_scope.specs.Scripted.{scripts_in}
 use Rattle.zk_typed.specs.Errors as spec
 use Rattle.zk_check.proofs.judged.param_locals.Given as goal
 

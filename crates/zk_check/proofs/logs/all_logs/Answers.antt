@@ -1,8 +1,8 @@
 use Rattle.std.proofs.Common.{◌∙◌, arith}
-use Rattle.zk_names.specs.Lent.{declared_of}
-use Rattle.zk_names.specs.Scripted.{scripts_in}
+use Rattle.zk_scope.specs.Lent.{declared_of}
+use Rattle.zk_scope.specs.Scripted.{scripts_in}
 use Rattle.zk_typed.specs.LogCalls.{is_log_word}
-use Rattle.zk_declaration.specs.Logging.{log_of, logs_by}
+use Rattle.zk_check_declarations.specs.Logging.{log_of, logs_by}
 use Rattle.zk_check.proofs.ProgramLaws.{gathered, kept}
 use Rattle.zk_check.proofs.logs.all_logs.Goals as goal
 

@@ -1,7 +1,7 @@
 use Rattle.std.proofs.Common.{◌≡◌, flat_map, take}
-use Rattle.zk_names.specs.Lent.{declared_lent}
-use Rattle.zk_names.specs.Scripted.{scripts_in}
-use Rattle.zk_declaration.specs.Logging.{logs_by}
+use Rattle.zk_scope.specs.Lent.{declared_lent}
+use Rattle.zk_scope.specs.Scripted.{scripts_in}
+use Rattle.zk_check_declarations.specs.Logging.{logs_by}
 use Rattle.zk_check.proofs.logs.all_logs.Given as goal
 
 abbrev pub invariant-loop-one : goal.invariant-loop-one

@@ -1,5 +1,5 @@
 use Rattle.std.proofs.Common.{◌≡◌, take}
-use Rattle.zk_names.specs.Lent.{files_of}
+use Rattle.zk_scope.specs.Lent.{files_of}
 use Rattle.zk_check.specs.Programming.{file_names}
 use Rattle.zk_check.proofs.program.names_of.Given as goal
 

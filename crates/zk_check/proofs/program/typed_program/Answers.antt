@@ -1,5 +1,5 @@
-use Rattle.zk_names.specs.Lent.{files_of}
-use Rattle.zk_declaration.specs.Sources.{scripts_from}
+use Rattle.zk_scope.specs.Lent.{files_of}
+use Rattle.zk_check_declarations.specs.Sources.{scripts_from}
 use Rattle.zk_check.proofs.program.typed_program.Goals as goal
 
 pub returns : goal.returns

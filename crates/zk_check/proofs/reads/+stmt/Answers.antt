@@ -1,7 +1,7 @@
 use Rattle.std.proofs.Common.{rules, ap, ◌∙◌}
 use Rattle.zk_typed.specs.Blind as spec
 use Rattle.zk_typed.specs.View as view
-use Rattle.zk_statement.proofs.Stated.{block_is}
+use Rattle.zk_check_statements.proofs.Stated.{block_is}
 use Rattle.zk_check.proofs.reads.+stmt.Goals as goal
 
 pub stmt_blind-returns-in-Block : goal.stmt_blind-returns-in-Block

@@ -5,14 +5,14 @@ use Rattle.zk_typed.specs.Errors.{errors_from}
 use Rattle.zk_typed.specs.Resolving.{Scripts}
 use Rattle.zk_typed.specs.Programs.{Typed}
 use Rattle.zk_typed.specs.View.{program_of}
-use Rattle.zk_names.specs.Lent.{files_of}
-use Rattle.zk_names.specs.Scripted.{scripts_in}
+use Rattle.zk_scope.specs.Lent.{files_of}
+use Rattle.zk_scope.specs.Scripted.{scripts_in}
 use Rattle.zk_check.specs.declared.fault.CheckFault.{CheckFault}
 use Rattle.zk_check.specs.Checking.{IsAccepted}
 use Rattle.zk_check.specs.Faults.{IsFirst}
 use Rattle.std.specs.Prelude.{IfErr}
 use Rattle.zk_check.proofs.CheckLaws.{accepted_typed}
-use Rattle.zk_declaration.proofs.RoundLaws.{ok_map}
+use Rattle.zk_check_declarations.proofs.RoundLaws.{ok_map}
 use Rattle.zk_check.proofs.scripts.check.Goals as goal
 
 pub returns-clause-accepted : goal.returns-clause-accepted

@@ -1,11 +1,11 @@
 use Rattle.std.proofs.Common.{map, sym, subst, ap, ◌∙◌}
 use Rattle.std.specs.Prelude.{List}
 use Rattle.zk_typed.specs.Declarations.{told_type, global_type}
-use Rattle.zk_names.specs.Scripted.{scripts_in}
-use Rattle.zk_expression.specs.declared.env.GlobalType.{GlobalType}
-use Rattle.zk_expression.specs.Envs.{global_of}
-use Rattle.zk_declaration.specs.Rounds.{IsGlobals}
-use Rattle.zk_declaration.proofs.RoundLaws.{known_told}
+use Rattle.zk_scope.specs.Scripted.{scripts_in}
+use Rattle.zk_check_expressions.specs.declared.env.GlobalType.{GlobalType}
+use Rattle.zk_check_expressions.specs.Envs.{global_of}
+use Rattle.zk_check_declarations.specs.Rounds.{IsGlobals}
+use Rattle.zk_check_declarations.proofs.RoundLaws.{known_told}
 use Rattle.zk_check.proofs.scripts.check_scripts.Goals as goal
 
 pub check_typed-requires-clause-told : goal.check_typed-requires-clause-told

@@ -1,6 +1,6 @@
 use Rattle.std.proofs.Common.{◌≡◌, false, [], refl, sym, subst, ◌∙◌}
 use Rattle.zk_typed.specs.Errors.{errors_from}
-use Rattle.zk_names.specs.Scripted.{scripts_in}
+use Rattle.zk_scope.specs.Scripted.{scripts_in}
 use Rattle.zk_check.specs.declared.fault.CheckFault.{CheckFault}
 use Rattle.zk_check.specs.Faults.{IsFirst}
 use Rattle.zk_check.proofs.CheckLaws.{first_fault}

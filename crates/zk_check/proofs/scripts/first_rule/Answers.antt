@@ -4,9 +4,9 @@ use Rattle.zk_typed.specs.declared.refusal.Broken.{Broken}
 use Rattle.zk_typed.specs.Errors.{errors_from}
 use Rattle.zk_check.specs.Earlier.{IsEarlier}
 use Rattle.zk_check.specs.Faults.{head_of}
-use Rattle.zk_declaration.specs.Sources.{scripts_from}
-use Rattle.zk_declaration.specs.Uses.{streams_lent}
-use Rattle.zk_declaration.proofs.RoundLaws.{ok_map}
+use Rattle.zk_check_declarations.specs.Sources.{scripts_from}
+use Rattle.zk_check_declarations.specs.Uses.{streams_lent}
+use Rattle.zk_check_declarations.proofs.RoundLaws.{ok_map}
 use Rattle.zk_check.proofs.scripts.first_rule.Goals as goal
 
 pub first_broken-requires : goal.first_broken-requires

@@ -1,6 +1,6 @@
 use Rattle.std.proofs.Common.{arith}
 use Rattle.zk_tree.specs.Rules.{ADecl}
-use Rattle.zk_reader.proofs.Depth.{not_within, within_less}
+use Rattle.zk_parse_core.proofs.Depth.{not_within, within_less}
 use Rattle.zk_parse.proofs.decls.+nested_decl.Goals as goal
 
 pub returns-then-depth-eq0 : goal.returns-then-depth-eq0

@@ -1,5 +1,5 @@
 use Rattle.std.proofs.Common.{◌≡◌, IfOk, codes, subst}
-use Rattle.zk_names.specs.Lent.{home_of}
+use Rattle.zk_scope.specs.Lent.{home_of}
 use Rattle.zk_typed.specs.Types.{ValueType}
 use Rattle.zk_check.specs.Programming.{value_of}
 use Rattle.zk_check.proofs.program.attrs.default_of.Goals as goal

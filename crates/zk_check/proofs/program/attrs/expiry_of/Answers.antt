@@ -1,6 +1,6 @@
 use Rattle.std.proofs.Common.{Option, List, ℕ, codes, ap, ◌∙◌}
 use Rattle.zk_base.specs.declared.time.Span.{Span}
-use Rattle.zk_names.specs.Lent.{home_of}
+use Rattle.zk_scope.specs.Lent.{home_of}
 use Rattle.zk_check.specs.Globals.{first_expiry, span_of}
 use Rattle.zk_check.proofs.PartLaws.{expiry_is}
 use Rattle.zk_check.proofs.program.attrs.expiry_of.Goals as goal

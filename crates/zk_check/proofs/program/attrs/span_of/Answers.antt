@@ -1,7 +1,7 @@
 use Rattle.std.proofs.Common.{Some, sym, ap, ◌∙◌}
 use Rattle.std.specs.Option.{option_map}
-use Rattle.zk_expression.proofs.KeyLaws.{simple_is}
-use Rattle.zk_names.specs.Lent.{home_of}
+use Rattle.zk_check_expressions.proofs.KeyLaws.{simple_is}
+use Rattle.zk_scope.specs.Lent.{home_of}
 use Rattle.zk_typed.specs.declared.script.types.SimpleType.TheVariants.{Interval}
 use Rattle.zk_check.specs.Globals.{span_in}
 use Rattle.zk_check.specs.Programming.{value_of}

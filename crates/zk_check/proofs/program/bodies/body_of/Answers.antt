@@ -3,7 +3,7 @@ use Rattle.zk_typed.specs.View.{stmt_of}
 use Rattle.zk_check.specs.declared.program.bodies.Body.{Body}
 use Rattle.zk_check.specs.Programming.{IsBody}
 use Rattle.zk_check.proofs.PartLaws.{body_found}
-use Rattle.zk_declaration.proofs.RoundLaws.{ok_map}
+use Rattle.zk_check_declarations.proofs.RoundLaws.{ok_map}
 use Rattle.zk_check.proofs.program.bodies.body_of.Goals as goal
 
 pub returns : goal.returns

@@ -1,6 +1,6 @@
 use Rattle.std.proofs.Common.{◌≡◌, ℤ, IfOk, codes, sym, ap, subst, ◌∙◌}
-use Rattle.zk_expression.proofs.KeyLaws.{simple_is}
-use Rattle.zk_names.specs.Lent.{home_of}
+use Rattle.zk_check_expressions.proofs.KeyLaws.{simple_is}
+use Rattle.zk_scope.specs.Lent.{home_of}
 use Rattle.zk_typed.specs.declared.script.types.SimpleType.TheVariants.{Int}
 use Rattle.zk_check.specs.Programming.{priority_in, value_of}
 use Rattle.zk_check.proofs.program.bodies.priority_of.Goals as goal

@@ -1,6 +1,6 @@
 use Rattle.std.proofs.Common.{Option, refl, sym, ap, ◌∙◌}
 use Rattle.std.specs.Option.{option_and_then, option_copied}
-use Rattle.zk_names.specs.Lent.{home_of}
+use Rattle.zk_scope.specs.Lent.{home_of}
 use Rattle.zk_tree.specs.declared.expr.Expr.{Expr}
 use Rattle.zk_typed.specs.declared.script.literal.DefaultValue.{DefaultValue}
 use Rattle.zk_typed.specs.Checked.{Checked}

@@ -1,7 +1,7 @@
 use Rattle.std.proofs.Common.{◌≡◌, flat_map, map, take}
-use Rattle.zk_names.specs.Lent.{stated_lent}
+use Rattle.zk_scope.specs.Lent.{stated_lent}
 use Rattle.zk_typed.specs.View as view
-use Rattle.zk_declaration.specs.Sources.{scripts_from}
+use Rattle.zk_check_declarations.specs.Sources.{scripts_from}
 use Rattle.zk_check.specs.Programming.{stated_handlers}
 use Rattle.zk_check.proofs.program.events.all_handlers.Given as goal
 

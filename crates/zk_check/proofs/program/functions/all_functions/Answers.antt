@@ -2,7 +2,7 @@ use Rattle.std.proofs.Common.{filter, ap, ◌∙◌}
 use Rattle.zk_typed.specs.Programs.{first_or, function_of, no_function}
 use Rattle.zk_typed.specs.Typing.{is_function}
 use Rattle.zk_check.specs.Functions.{function_among}
-use Rattle.zk_declaration.specs.Sources.{scripts_from}
+use Rattle.zk_check_declarations.specs.Sources.{scripts_from}
 use Rattle.zk_check.proofs.ProgramLaws.{map_same}
 use Rattle.zk_check.proofs.program.functions.all_functions.Goals as goal
 

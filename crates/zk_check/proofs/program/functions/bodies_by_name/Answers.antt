@@ -1,8 +1,8 @@
 use Rattle.std.proofs.Common.{List, ◌++◌, ap, sym, ◌∙◌, arith}
-use Rattle.zk_names.specs.Lent.{stated_of}
+use Rattle.zk_scope.specs.Lent.{stated_of}
 use Rattle.zk_typed.specs.Program as program
 use Rattle.zk_check.specs.Functions.{functions_at, stated_function}
-use Rattle.zk_declaration.specs.Sources.{scripts_from}
+use Rattle.zk_check_declarations.specs.Sources.{scripts_from}
 use Rattle.zk_check.proofs.ProgramLaws.{gathered}
 use Rattle.zk_check.proofs.PushLaws.{gathered_more}
 use Rattle.zk_check.proofs.program.functions.bodies_by_name.Goals as goal

@@ -1,5 +1,5 @@
 use Rattle.std.proofs.Common.{◌≡◌, flat_map, take}
-use Rattle.zk_names.specs.Lent.{stated_lent}
+use Rattle.zk_scope.specs.Lent.{stated_lent}
 use Rattle.zk_typed.specs.Names.{Declared}
 use Rattle.zk_typed.specs.Resolving.{Scripts}
 use Rattle.zk_check.specs.Functions.{functions_at, stated_function}

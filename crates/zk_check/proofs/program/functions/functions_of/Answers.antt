@@ -1,11 +1,11 @@
 use Rattle.std.proofs.Common.{List, ◌++◌, map, ap, sym, ◌∙◌, arith}
-use Rattle.zk_names.specs.Lent.{declared_of}
+use Rattle.zk_scope.specs.Lent.{declared_of}
 use Rattle.zk_typed.specs.Program as program
 use Rattle.zk_typed.specs.Typing.{is_function}
 use Rattle.zk_check.specs.Functions.{function_among}
 use Rattle.zk_typed.specs.View as view
-use Rattle.zk_declaration.specs.Choosing.{chosen}
-use Rattle.zk_declaration.specs.Sources.{scripts_from}
+use Rattle.zk_check_declarations.specs.Choosing.{chosen}
+use Rattle.zk_check_declarations.specs.Sources.{scripts_from}
 use Rattle.zk_check.proofs.ProgramLaws.{gathered, kept}
 use Rattle.zk_check.proofs.PushLaws.{gathered_more}
 use Rattle.zk_check.proofs.program.functions.functions_of.Goals as goal

@@ -1,10 +1,10 @@
 use Rattle.std.proofs.Common.{◌≡◌, flat_map, map, take}
-use Rattle.zk_names.specs.Lent.{declared_lent}
+use Rattle.zk_scope.specs.Lent.{declared_lent}
 use Rattle.zk_typed.specs.Typing.{is_function}
 use Rattle.zk_typed.specs.View as view
-use Rattle.zk_declaration.specs.Choosing.{chosen}
+use Rattle.zk_check_declarations.specs.Choosing.{chosen}
 use Rattle.zk_check.specs.Functions.{function_among}
-use Rattle.zk_declaration.specs.Sources.{scripts_from}
+use Rattle.zk_check_declarations.specs.Sources.{scripts_from}
 use Rattle.zk_check.proofs.program.functions.functions_of.Given as goal
 
 abbrev pub invariant-loop-one : goal.invariant-loop-one

@@ -2,8 +2,8 @@ use Rattle.std.proofs.Common.{◌≡◌, List, IfOk, map, ap, subst, ◌∙◌}
 use Rattle.zk_typed.specs.Declarations.{ValueGiven}
 use Rattle.zk_typed.specs.Programs.{all_given}
 use Rattle.zk_typed.specs.View.{expr_of, type_of}
-use Rattle.zk_declaration.specs.Sources.{scripts_from}
-use Rattle.zk_declaration.specs.Valuing.{given_lent}
+use Rattle.zk_check_declarations.specs.Sources.{scripts_from}
+use Rattle.zk_check_declarations.specs.Valuing.{given_lent}
 use Rattle.zk_check.proofs.GivenLaws.{to_end}
 use Rattle.zk_check.proofs.program.globals.added_of.Goals as goal
 

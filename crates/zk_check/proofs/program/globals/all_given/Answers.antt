@@ -2,8 +2,8 @@ use Rattle.std.proofs.Common.{◌+◌, ◌++◌, List, drop, map, sym, ap, ◌�
 use Rattle.zk_typed.specs.Declarations.{ValueGiven}
 use Rattle.zk_typed.specs.Programs as spec
 use Rattle.zk_typed.specs.View.{expr_of, type_of}
-use Rattle.zk_declaration.specs.Sources.{scripts_from}
-use Rattle.zk_declaration.specs.Valuing.{given_lent, given_of}
+use Rattle.zk_check_declarations.specs.Sources.{scripts_from}
+use Rattle.zk_check_declarations.specs.Valuing.{given_lent, given_of}
 use Rattle.zk_check.proofs.GivenLaws.{lent_first}
 use Rattle.zk_check.proofs.program.globals.all_given.Goals as goal
 

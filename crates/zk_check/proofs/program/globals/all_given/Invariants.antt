@@ -1,8 +1,8 @@
 use Rattle.std.proofs.Common.{◌≡◌, ◌++◌, drop, map}
 use Rattle.zk_typed.specs.Programs as spec
 use Rattle.zk_typed.specs.View.{expr_of, type_of}
-use Rattle.zk_declaration.specs.Sources.{scripts_from}
-use Rattle.zk_declaration.specs.Valuing.{given_lent}
+use Rattle.zk_check_declarations.specs.Sources.{scripts_from}
+use Rattle.zk_check_declarations.specs.Valuing.{given_lent}
 use Rattle.zk_check.proofs.program.globals.all_given.Given as goal
 
 abbrev pub invariant-loop-value : goal.invariant-loop-value

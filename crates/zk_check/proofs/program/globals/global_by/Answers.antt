@@ -1,9 +1,9 @@
 use Rattle.std.proofs.Common.{map, ap, ◌∙◌}
 use Rattle.std.specs.Option.{option_map}
-use Rattle.zk_names.specs.Lent.{home_of}
+use Rattle.zk_scope.specs.Lent.{home_of}
 use Rattle.zk_typed.specs.View.{expr_of, type_of}
-use Rattle.zk_declaration.specs.Sources.{scripts_from}
-use Rattle.zk_declaration.specs.Valuing.{given_lent}
+use Rattle.zk_check_declarations.specs.Sources.{scripts_from}
+use Rattle.zk_check_declarations.specs.Valuing.{given_lent}
 use Rattle.zk_check.proofs.ProgramLaws.{global_parts}
 use Rattle.zk_check.proofs.program.globals.global_by.Goals as goal
 

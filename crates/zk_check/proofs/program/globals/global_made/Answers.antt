@@ -1,13 +1,13 @@
 use Rattle.std.proofs.Common.{◌≡◌, List, [], ℕ, IfOk, sym, ap, subst, ◌∙◌}
-use Rattle.zk_names.specs.Lent.{home_of}
+use Rattle.zk_scope.specs.Lent.{home_of}
 use Rattle.zk_tree.specs.declared.place.Place.{Place}
 use Rattle.zk_typed.specs.Declarations.{ValueGiven, values_of}
 use Rattle.zk_typed.specs.Program as program
 use Rattle.zk_typed.specs.Programs.{first_or, place_of_variable, since_set}
 use Rattle.zk_typed.specs.View as view
 use Rattle.zk_check.specs.Globals.{global_by, no_place}
-use Rattle.zk_declaration.specs.Sources.{scripts_from}
-use Rattle.zk_declaration.specs.Valuing.{given_lent}
+use Rattle.zk_check_declarations.specs.Sources.{scripts_from}
+use Rattle.zk_check_declarations.specs.Valuing.{given_lent}
 use Rattle.zk_check.proofs.GivenLaws.{to_end}
 use Rattle.zk_check.proofs.ProgramLaws.{place_first}
 use Rattle.zk_check.proofs.program.globals.global_made.Goals as goal

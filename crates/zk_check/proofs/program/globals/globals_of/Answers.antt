@@ -1,10 +1,10 @@
 use Rattle.std.proofs.Common.{ℕ, ◌+◌, List, drop, filter, map}
-use Rattle.zk_names.specs.Lent.{declared_lent, declared_of}
+use Rattle.zk_scope.specs.Lent.{declared_lent, declared_of}
 use Rattle.zk_typed.specs.Names.{Declared}
 use Rattle.zk_typed.specs.Programs as spec
 use Rattle.zk_typed.specs.Typing.{is_variable}
 use Rattle.zk_typed.specs.View as view
-use Rattle.zk_declaration.specs.Sources.{scripts_from}
+use Rattle.zk_check_declarations.specs.Sources.{scripts_from}
 use Rattle.zk_check.proofs.GivenLaws.{left_more}
 use Rattle.zk_check.proofs.program.globals.globals_of.Goals as goal
 

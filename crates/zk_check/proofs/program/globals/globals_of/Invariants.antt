@@ -1,9 +1,9 @@
 use Rattle.std.proofs.Common.{◌≡◌, ◌++◌, drop, filter, map}
-use Rattle.zk_names.specs.Lent.{declared_lent}
+use Rattle.zk_scope.specs.Lent.{declared_lent}
 use Rattle.zk_typed.specs.Programs as spec
 use Rattle.zk_typed.specs.Typing.{is_variable}
 use Rattle.zk_typed.specs.View as view
-use Rattle.zk_declaration.specs.Sources.{scripts_from}
+use Rattle.zk_check_declarations.specs.Sources.{scripts_from}
 use Rattle.zk_check.proofs.program.globals.globals_of.Given as goal
 
 abbrev pub invariant-loop-one : goal.invariant-loop-one

@@ -1,6 +1,6 @@
 use Rattle.std.proofs.Common.{◌≤◌, ◌+◌, ℕ, [], sym, subst, arith}
 use Rattle.zk_typed.specs.Programs.{since_set}
-use Rattle.zk_declaration.specs.Valuing.{given_lent, given_of}
+use Rattle.zk_check_declarations.specs.Valuing.{given_lent, given_of}
 use Rattle.zk_check.proofs.GivenLaws.{since_all, since_next, start_below}
 use Rattle.zk_check.proofs.program.globals.last_set.Goals as goal
 

@@ -1,6 +1,6 @@
 use Rattle.std.proofs.Common.{◌≡◌, ◌≤◌, [], drop, take}
 use Rattle.zk_typed.specs.Programs.{since_set}
-use Rattle.zk_declaration.specs.Valuing.{given_lent}
+use Rattle.zk_check_declarations.specs.Valuing.{given_lent}
 use Rattle.zk_check.proofs.program.globals.last_set.Given as goal
 
 abbrev pub invariant-loop-index : goal.invariant-loop-index

@@ -1,14 +1,14 @@
 use Rattle.std.proofs.Common.{◌≡◌, Option, Some, None, slice_get, sym, ap, ◌∙◌}
 use Rattle.std.specs.Option.{option_copied}
-use Rattle.zk_expression.specs.declared.env.GlobalType.{GlobalType}
-use Rattle.zk_expression.specs.declared.env.GlobalType.TheVariants.{Known, Unknown, Circular}
-use Rattle.zk_expression.proofs.KeyLaws.{simple_is}
+use Rattle.zk_check_expressions.specs.declared.env.GlobalType.{GlobalType}
+use Rattle.zk_check_expressions.specs.declared.env.GlobalType.TheVariants.{Known, Unknown, Circular}
+use Rattle.zk_check_expressions.proofs.KeyLaws.{simple_is}
 use Rattle.zk_typed.specs.declared.script.types.SimpleType.TheVariants.{Bool}
 use Rattle.zk_typed.specs.Declarations.{global_type}
 use Rattle.zk_typed.specs.Predefined as type
 use Rattle.zk_typed.specs.Programs.{checked_or}
 use Rattle.zk_typed.specs.View.{type_of}
-use Rattle.zk_declaration.specs.Sources.{scripts_from}
+use Rattle.zk_check_declarations.specs.Sources.{scripts_from}
 use Rattle.zk_check.proofs.PartLaws.{global_at, unknown_bool}
 use Rattle.zk_check.proofs.program.globals.type_or_bool.Goals as goal
 

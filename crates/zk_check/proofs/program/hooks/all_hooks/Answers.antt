@@ -4,7 +4,7 @@ use Rattle.zk_typed.specs.Programs.{checked_or, hook_of, signature_of}
 use Rattle.zk_typed.specs.Resolving.{params_of}
 use Rattle.zk_typed.specs.Typing.{is_hook}
 use Rattle.zk_check.specs.Hooks.{hook_among}
-use Rattle.zk_declaration.specs.Sources.{scripts_from}
+use Rattle.zk_check_declarations.specs.Sources.{scripts_from}
 use Rattle.zk_check.proofs.ProgramLaws.{map_same}
 use Rattle.zk_check.proofs.program.hooks.all_hooks.Goals as goal
 

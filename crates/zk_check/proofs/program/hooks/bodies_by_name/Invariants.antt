@@ -1,8 +1,8 @@
 use Rattle.std.proofs.Common.{◌≡◌, flat_map, take}
-use Rattle.zk_names.specs.Lent.{stated_lent}
+use Rattle.zk_scope.specs.Lent.{stated_lent}
 use Rattle.zk_typed.specs.Names.{Declared}
 use Rattle.zk_check.specs.Hooks.{hook_bodies_at, stated_hook}
-use Rattle.zk_declaration.specs.Sources.{scripts_from}
+use Rattle.zk_check_declarations.specs.Sources.{scripts_from}
 use Rattle.zk_check.proofs.program.hooks.bodies_by_name.Given as goal
 
 abbrev pub invariant-loop-one : goal.invariant-loop-one

@@ -1,7 +1,7 @@
 use Rattle.std.proofs.Common.{◌≡◌, map, take}
 use Rattle.zk_typed.specs.View as view
 use Rattle.zk_check.specs.Hooks.{hook_body_typed}
-use Rattle.zk_declaration.specs.Sources.{scripts_from}
+use Rattle.zk_check_declarations.specs.Sources.{scripts_from}
 use Rattle.zk_check.proofs.program.hooks.hook_bodies_made.Given as goal
 
 abbrev pub invariant-loop-one : goal.invariant-loop-one

@@ -1,6 +1,6 @@
 use Rattle.zk_typed.specs.Programs as spec
 use Rattle.zk_typed.specs.View as view
-use Rattle.zk_declaration.specs.Sources.{scripts_from}
+use Rattle.zk_check_declarations.specs.Sources.{scripts_from}
 use Rattle.zk_check.proofs.ProgramLaws.{one_record_more}
 use Rattle.zk_check.proofs.program.records.all_records.Goals as goal
 

@@ -1,7 +1,7 @@
 use Rattle.std.proofs.Common.{◌≡◌, map}
 use Rattle.zk_typed.specs.Programs as spec
 use Rattle.zk_typed.specs.View as view
-use Rattle.zk_declaration.specs.Sources.{scripts_from}
+use Rattle.zk_check_declarations.specs.Sources.{scripts_from}
 use Rattle.zk_check.proofs.program.records.all_records.Given as goal
 
 abbrev pub invariant-loop-number : goal.invariant-loop-number

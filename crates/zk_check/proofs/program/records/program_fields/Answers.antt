@@ -1,5 +1,5 @@
 use Rattle.std.proofs.Common.{arith}
-use Rattle.zk_names.specs.Fields.{field_of}
+use Rattle.zk_scope.specs.Fields.{field_of}
 use Rattle.zk_typed.specs.Programs as spec
 use Rattle.zk_typed.specs.View as view
 use Rattle.zk_check.proofs.PushLaws.{pushed_lent}

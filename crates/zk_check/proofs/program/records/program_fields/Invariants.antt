@@ -1,5 +1,5 @@
 use Rattle.std.proofs.Common.{◌≡◌, map, take}
-use Rattle.zk_names.specs.Fields.{fields_lent}
+use Rattle.zk_scope.specs.Fields.{fields_lent}
 use Rattle.zk_typed.specs.Programs as spec
 use Rattle.zk_typed.specs.Resolving.{Scripts}
 use Rattle.zk_typed.specs.View as view

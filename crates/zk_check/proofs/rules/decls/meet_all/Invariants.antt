@@ -2,7 +2,7 @@ use Rattle.std.proofs.Common.{◌≡◌, ℕ, List, ◌||◌, map, take}
 use Rattle.std.specs.HashSet.{contains}
 use Rattle.std.specs.Str.{bytes_eq}
 use Rattle.zk_typed.specs.Declarations.{is_one_of}
-use Rattle.zk_names.specs.Lent.{declared_lent}
+use Rattle.zk_scope.specs.Lent.{declared_lent}
 use Rattle.zk_check.proofs.rules.decls.meet_all.Given as goal
 
 abbrev pub invariant-loop-one : goal.invariant-loop-one

@@ -3,7 +3,7 @@ use Rattle.zk_typed.specs.Declarations.{is_one_of}
 use Rattle.zk_typed.specs.Declaring.{predefined_names}
 use Rattle.zk_typed.specs.Names.{Declared}
 use Rattle.zk_typed.specs.Resolving.{Scripts}
-use Rattle.zk_names.specs.Lent.{declared_lent}
+use Rattle.zk_scope.specs.Lent.{declared_lent}
 use Rattle.zk_check.proofs.rules.decls.predefined.Goals as goal
 
 pub returns : goal.returns

@@ -3,17 +3,17 @@ use Rattle.zk_tree.specs.declared.decl.Decl.{out-Decl}
 use Rattle.zk_typed.specs.Checked.{both}
 use Rattle.zk_typed.specs.Declarations.{nothing}
 use Rattle.zk_typed.specs.Errors.{decl_rules, declared_before, declares, twice_rules, uses_of}
-use Rattle.zk_names.specs.Lent.{home_of, stated_of}
-use Rattle.zk_names.specs.Scripted.{scripts_in}
-use Rattle.zk_operator.proofs.BothLaws.{Rules}
-use Rattle.zk_declaration.specs.declared.paths.Paths.{Paths}
-use Rattle.zk_declaration.specs.declared.seen.Seen.{Seen}
+use Rattle.zk_scope.specs.Lent.{home_of, stated_of}
+use Rattle.zk_scope.specs.Scripted.{scripts_in}
+use Rattle.zk_check_operators.proofs.BothLaws.{Rules}
+use Rattle.zk_check_declarations.specs.declared.paths.Paths.{Paths}
+use Rattle.zk_check_declarations.specs.declared.seen.Seen.{Seen}
 use Rattle.zk_check.specs.Listing.{path_rules}
-use Rattle.zk_declaration.specs.Naming.{all_named}
-use Rattle.zk_declaration.specs.Paths.{HasPaths}
-use Rattle.zk_declaration.specs.Seeing.{Sees}
+use Rattle.zk_check_declarations.specs.Naming.{all_named}
+use Rattle.zk_check_declarations.specs.Paths.{HasPaths}
+use Rattle.zk_check_declarations.specs.Seeing.{Sees}
 use Rattle.zk_check.proofs.DeclLaws.{earlier_more}
-use Rattle.zk_declaration.proofs.RuleLaws.{adds_told, also_tells}
+use Rattle.zk_check_declarations.proofs.RuleLaws.{adds_told, also_tells}
 use Rattle.zk_check.proofs.rules.bodies.Bodied.all_rules.Goals as goal
 
 pub returns-clause-rules : goal.returns-clause-rules

@@ -6,11 +6,11 @@ use Rattle.zk_typed.specs.Errors as spec
 use Rattle.zk_typed.specs.Resolving.{Scripts}
 use Rattle.zk_typed.specs.Statements.{Within}
 use Rattle.zk_typed.specs.View.{stmt_of}
-use Rattle.zk_names.specs.Lent.{home_of}
-use Rattle.zk_operator.proofs.BothLaws.{Rules}
-use Rattle.zk_statement.specs.Bodies.{within_of}
-use Rattle.zk_declaration.specs.Sources.{scripts_from}
-use Rattle.zk_declaration.proofs.RuleLaws.{dropped_tells, same_rules}
+use Rattle.zk_scope.specs.Lent.{home_of}
+use Rattle.zk_check_operators.proofs.BothLaws.{Rules}
+use Rattle.zk_check_statements.specs.Bodies.{within_of}
+use Rattle.zk_check_declarations.specs.Sources.{scripts_from}
+use Rattle.zk_check_declarations.proofs.RuleLaws.{dropped_tells, same_rules}
 use Rattle.zk_check.proofs.rules.bodies.Bodied.body_rules.Goals as goal
 
 pub returns : goal.returns

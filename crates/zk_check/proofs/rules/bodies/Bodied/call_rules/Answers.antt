@@ -5,9 +5,9 @@ use Rattle.zk_typed.specs.declared.rule.Rule.TheVariants as rule
 use Rattle.zk_typed.specs.Checked.{require}
 use Rattle.zk_typed.specs.Errors.{PathUse, agrees}
 use Rattle.zk_typed.specs.Resolving.{place_in}
-use Rattle.zk_names.specs.Lent.{home_of}
-use Rattle.zk_declaration.specs.Paths.{HasPaths, uses_lent}
-use Rattle.zk_declaration.proofs.RuleLaws.{same_rules}
+use Rattle.zk_scope.specs.Lent.{home_of}
+use Rattle.zk_check_declarations.specs.Paths.{HasPaths, uses_lent}
+use Rattle.zk_check_declarations.proofs.RuleLaws.{same_rules}
 use Rattle.zk_check.proofs.rules.bodies.Bodied.call_rules.Goals as goal
 
 pub returns-clause-rules : goal.returns-clause-rules

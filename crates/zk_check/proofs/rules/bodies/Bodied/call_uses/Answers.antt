@@ -2,13 +2,13 @@ use Rattle.std.proofs.Common.{◌≡◌, ◌∙◌}
 use Rattle.std.specs.declared.alloc.Global.{Global}
 use Rattle.std.specs.declared.vec.Vec.{Vec}
 use Rattle.zk_typed.specs.Errors.{call_uses, path_use}
-use Rattle.zk_names.specs.Calls.{call_of}
-use Rattle.zk_names.specs.Scripted.{scripts_in}
-use Rattle.zk_declaration.specs.declared.paths.PathUse.{PathUse}
-use Rattle.zk_declaration.specs.Sources.{scripts_from}
-use Rattle.zk_declaration.specs.Paths.{uses_lent}
-use Rattle.zk_declaration.proofs.RoundLaws.{ok_map}
-use Rattle.zk_declaration.proofs.UseLaws.{no_call_uses, one_call_uses}
+use Rattle.zk_scope.specs.Calls.{call_of}
+use Rattle.zk_scope.specs.Scripted.{scripts_in}
+use Rattle.zk_check_declarations.specs.declared.paths.PathUse.{PathUse}
+use Rattle.zk_check_declarations.specs.Sources.{scripts_from}
+use Rattle.zk_check_declarations.specs.Paths.{uses_lent}
+use Rattle.zk_check_declarations.proofs.RoundLaws.{ok_map}
+use Rattle.zk_check_declarations.proofs.UseLaws.{no_call_uses, one_call_uses}
 use Rattle.zk_check.proofs.rules.bodies.Bodied.call_uses.Goals as goal
 
 pub returns-in-Some : goal.returns-in-Some

@@ -2,14 +2,14 @@ use Rattle.std.proofs.Common.{List, ◌&&◌, ◌||◌, ap, sym, ◌∙◌}
 use Rattle.zk_tree.specs.declared.types.Field.{Field}
 use Rattle.zk_typed.specs.Declarations.{is_one_of}
 use Rattle.zk_typed.specs.Resolving.{is_that, type_named}
-use Rattle.zk_names.specs.Fields.{decl_fields}
-use Rattle.zk_declaration.specs.Adding.{field_texts, has_field}
+use Rattle.zk_scope.specs.Fields.{decl_fields}
+use Rattle.zk_check_declarations.specs.Adding.{field_texts, has_field}
 use Rattle.zk_tree.specs.declared.decl.Decl.{Decl, out-Decl}
 use Rattle.zk_typed.specs.Errors.{decl_rules, field_names}
-use Rattle.zk_names.specs.Lent.{home_of}
-use Rattle.zk_names.specs.Scripted.{scripts_in}
+use Rattle.zk_scope.specs.Lent.{home_of}
+use Rattle.zk_scope.specs.Scripted.{scripts_in}
 use Rattle.zk_check.proofs.DeclLaws.{redef_texts, type_is}
-use Rattle.zk_declaration.proofs.RuleLaws.{same_rules}
+use Rattle.zk_check_declarations.proofs.RuleLaws.{same_rules}
 use Rattle.zk_check.proofs.rules.bodies.Bodied.decl_rules.Goals as goal
 
 pub returns-in-Type-clause-rules : goal.returns-in-Type-clause-rules

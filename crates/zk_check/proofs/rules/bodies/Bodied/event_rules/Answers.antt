@@ -3,9 +3,9 @@ use Rattle.zk_typed.specs.Checked.{both}
 use Rattle.zk_typed.specs.Declarations.{attr_rules, is_one_of, local_rules, nothing, param_rules, with_value}
 use Rattle.zk_typed.specs.Errors.{body_made, head_rules, kind_of, priority_rules, within_of}
 use Rattle.zk_typed.specs.Names.{look_up}
-use Rattle.zk_names.specs.Lent.{home_of}
-use Rattle.zk_names.specs.Scripted.{scripts_in}
-use Rattle.zk_declaration.proofs.RuleLaws.{also_tells, five_parts, same_rules}
+use Rattle.zk_scope.specs.Lent.{home_of}
+use Rattle.zk_scope.specs.Scripted.{scripts_in}
+use Rattle.zk_check_declarations.proofs.RuleLaws.{also_tells, five_parts, same_rules}
 use Rattle.zk_check.proofs.rules.bodies.Bodied.event_rules.Goals as goal
 
 pub returns : goal.returns

@@ -1,7 +1,7 @@
 use Rattle.std.proofs.Common.{List, take, subst}
 use Rattle.zk_typed.specs.LoadOrder.{Stated}
-use Rattle.zk_names.specs.Lent.{stated_lent}
-use Rattle.zk_names.specs.Scripted.{scripts_in}
+use Rattle.zk_scope.specs.Lent.{stated_lent}
+use Rattle.zk_scope.specs.Scripted.{scripts_in}
 use Rattle.zk_check.specs.Earlier.{IsEarlier}
 use Rattle.zk_check.proofs.ListingLaws.{errors_found, errors_on, stated_more}
 use Rattle.zk_check.proofs.rules.bodies.Bodied.first_broken.Goals as goal

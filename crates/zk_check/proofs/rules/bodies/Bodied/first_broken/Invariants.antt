@@ -1,7 +1,7 @@
 use Rattle.std.proofs.Common.{◌≡◌, [], take, drop}
 use Rattle.zk_typed.specs.Errors.{errors_from}
-use Rattle.zk_names.specs.Lent.{stated_lent}
-use Rattle.zk_names.specs.Scripted.{scripts_in}
+use Rattle.zk_scope.specs.Lent.{stated_lent}
+use Rattle.zk_scope.specs.Scripted.{scripts_in}
 use Rattle.zk_check.specs.Earlier.{IsEarlier}
 use Rattle.zk_check.specs.Faults.{head_of}
 use Rattle.zk_check.proofs.rules.bodies.Bodied.first_broken.Given as goal

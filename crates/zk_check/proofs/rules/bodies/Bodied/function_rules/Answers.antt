@@ -3,9 +3,9 @@ use Rattle.zk_typed.specs.Checked.{both}
 use Rattle.zk_typed.specs.Declarations.{local_rules, maybe_rules, nothing, param_rules}
 use Rattle.zk_typed.specs.Errors.{body_made, function_head, result_wanted}
 use Rattle.zk_typed.specs.Statements.{InFunction}
-use Rattle.zk_names.specs.Lent.{home_of}
-use Rattle.zk_names.specs.Scripted.{scripts_in}
-use Rattle.zk_declaration.proofs.RuleLaws.{also_tells, five_parts, same_rules}
+use Rattle.zk_scope.specs.Lent.{home_of}
+use Rattle.zk_scope.specs.Scripted.{scripts_in}
+use Rattle.zk_check_declarations.proofs.RuleLaws.{also_tells, five_parts, same_rules}
 use Rattle.zk_check.proofs.rules.bodies.Bodied.function_rules.Goals as goal
 
 pub returns : goal.returns

@@ -4,8 +4,8 @@ use Rattle.std.specs.declared.vec.Vec.{Vec}
 use Rattle.std.specs.Prelude.{IfOk}
 use Rattle.zk_typed.specs.LogCalls.{leaves}
 use Rattle.zk_typed.specs.Resolving.{Scripts}
-use Rattle.zk_names.specs.declared.leaves.Leaf.{Leaf}
-use Rattle.zk_names.specs.Leaves.{leaves_lent}
+use Rattle.zk_scope.specs.declared.leaves.Leaf.{Leaf}
+use Rattle.zk_scope.specs.Leaves.{leaves_lent}
 use Rattle.zk_check.proofs.rules.bodies.Bodied.leaves_of_type.Goals as goal
 
 pub returns : goal.returns

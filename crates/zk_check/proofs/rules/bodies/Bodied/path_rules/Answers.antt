@@ -1,11 +1,11 @@
 use Rattle.std.proofs.Common.{List, ◌++◌, flat_map, ap, sym, subst, ◌∙◌}
 use Rattle.zk_typed.specs.Errors.{PathUse, call_uses, path_rules}
 use Rattle.zk_typed.specs.LogCalls.{Call}
-use Rattle.zk_names.specs.Calls.{calls_lent}
-use Rattle.zk_names.specs.Scripted.{scripts_in}
-use Rattle.zk_declaration.specs.Paths.{HasPaths}
-use Rattle.zk_declaration.proofs.PathLaws.{call_turn, calls_begun, calls_end, calls_met}
-use Rattle.zk_declaration.proofs.RuleLaws.{same_rules}
+use Rattle.zk_scope.specs.Calls.{calls_lent}
+use Rattle.zk_scope.specs.Scripted.{scripts_in}
+use Rattle.zk_check_declarations.specs.Paths.{HasPaths}
+use Rattle.zk_check_declarations.proofs.PathLaws.{call_turn, calls_begun, calls_end, calls_met}
+use Rattle.zk_check_declarations.proofs.RuleLaws.{same_rules}
 use Rattle.zk_check.proofs.rules.bodies.Bodied.path_rules.Goals as goal
 
 pub loop-call-init : goal.loop-call-init

@@ -1,8 +1,8 @@
 use Rattle.std.proofs.Common.{List}
 use Rattle.zk_typed.specs.Errors.{PathUse}
-use Rattle.zk_names.specs.Scripted.{scripts_in}
-use Rattle.zk_declaration.specs.Paths.{HasPaths}
-use Rattle.zk_declaration.proofs.PathLaws.{CallsOn}
+use Rattle.zk_scope.specs.Scripted.{scripts_in}
+use Rattle.zk_check_declarations.specs.Paths.{HasPaths}
+use Rattle.zk_check_declarations.proofs.PathLaws.{CallsOn}
 use Rattle.zk_check.proofs.rules.bodies.Bodied.path_rules.Given as goal
 
 abbrev pub invariant-loop-call : goal.invariant-loop-call

@@ -2,12 +2,12 @@ use Rattle.std.proofs.Common.{◌≡◌, ap, ◌∙◌}
 use Rattle.std.specs.declared.alloc.Global.{Global}
 use Rattle.std.specs.declared.vec.Vec.{Vec}
 use Rattle.zk_typed.specs.Errors.{path_use}
-use Rattle.zk_names.specs.Scripted.{scripts_in}
-use Rattle.zk_declaration.specs.declared.paths.PathUse.{PathUse}
-use Rattle.zk_declaration.specs.Paths.{uses_lent}
-use Rattle.zk_declaration.specs.Uses.{filter_use}
-use Rattle.zk_declaration.proofs.RoundLaws.{ok_map}
-use Rattle.zk_declaration.proofs.UseLaws.{filter_is}
+use Rattle.zk_scope.specs.Scripted.{scripts_in}
+use Rattle.zk_check_declarations.specs.declared.paths.PathUse.{PathUse}
+use Rattle.zk_check_declarations.specs.Paths.{uses_lent}
+use Rattle.zk_check_declarations.specs.Uses.{filter_use}
+use Rattle.zk_check_declarations.proofs.RoundLaws.{ok_map}
+use Rattle.zk_check_declarations.proofs.UseLaws.{filter_is}
 use Rattle.zk_check.proofs.rules.bodies.Bodied.path_use.Goals as goal
 
 pub returns-in-AddFilter : goal.returns-in-AddFilter

@@ -1,13 +1,13 @@
 use Rattle.std.specs.Option.{option_map}
 use Rattle.std.proofs.Common.{Option, Some, ap, sym, ◌∙◌}
 use Rattle.zk_typed.specs.Within.{maybe_one}
-use Rattle.zk_names.specs.declared.declared.Declared.{Declared}
-use Rattle.zk_names.specs.declared.home.Home.{Home}
-use Rattle.zk_names.specs.Lent.{declared_of, home_of}
-use Rattle.zk_names.specs.Scripted.{scripts_in}
+use Rattle.zk_scope.specs.declared.declared.Declared.{Declared}
+use Rattle.zk_scope.specs.declared.home.Home.{Home}
+use Rattle.zk_scope.specs.Lent.{declared_of, home_of}
+use Rattle.zk_scope.specs.Scripted.{scripts_in}
 use Rattle.zk_check.specs.Earlier.{first_rules}
-use Rattle.zk_declaration.specs.Valued.{variable_rules}
-use Rattle.zk_declaration.proofs.RuleLaws.{same_rules}
+use Rattle.zk_check_declarations.specs.Valued.{variable_rules}
+use Rattle.zk_check_declarations.proofs.RuleLaws.{same_rules}
 use Rattle.zk_check.proofs.rules.bodies.Bodied.variable_decl.Goals as goal
 
 pub returns-in-Some : goal.returns-in-Some

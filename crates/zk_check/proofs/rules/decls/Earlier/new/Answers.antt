@@ -1,4 +1,4 @@
-use Rattle.zk_names.specs.Scripted.{scripts_in}
+use Rattle.zk_scope.specs.Scripted.{scripts_in}
 use Rattle.zk_check.proofs.DeclLaws.{earlier_begun}
 use Rattle.zk_check.proofs.rules.decls.Earlier.new.Goals as goal
 

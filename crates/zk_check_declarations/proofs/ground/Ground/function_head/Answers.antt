@@ -1,0 +1,25 @@
+use Rattle.std.proofs.Common.{Option, Bor, ap, sym, ◌∙◌}
+use Rattle.std.specs.Option.{option_copied, option_map}
+use Rattle.zk_typed.specs.Errors.{function_kind, head_rules}
+use Rattle.zk_typed.specs.Names.{Signature}
+use Rattle.zk_scope.specs.declared.declared.Declared.{Declared}
+use Rattle.zk_scope.specs.Lent.{declared_of, home_of, meant_of, signature_of}
+use Rattle.zk_scope.specs.Scripted.{scripts_in}
+use Rattle.zk_check_declarations.specs.Signing.{of_kind}
+use Rattle.zk_check_declarations.proofs.HeadLaws.{head_is}
+use Rattle.zk_check_declarations.proofs.RuleLaws.{same_rules}
+use Rattle.zk_check_declarations.proofs.ground.Ground.function_head.Goals as goal
+
+pub returns-in-Some : goal.returns-in-Some
+returns-in-Some c =
+    let scripts = scripts_in c.args.self.now.names.now in
+    let home = home_of c.args.home in
+    let name = c.args.name.now in
+    let params = c.args.params.now in
+    let given = option_copied c.args.result_type in
+    same_rules c.of_kind.result
+    (ap (λ (found : Option (Bor Declared)). head_rules scripts home c.args.place name function_kind params given (option_map (λ one. declared_of one.now) found)) c.in-Some.is ∙
+    head_is scripts home c.args.place name function_kind params given (declared_of c.in-Some.one.now) ∙
+    ap (λ (signature : Signature). of_kind scripts home c.args.place name signature (function_kind (meant_of c.in-Some.one.now.meant))) (sym c.written-given.ensures) ∙
+    ap (of_kind scripts home c.args.place name (signature_of c.written-given.result)) (sym c.function_signature-declared.ensures))
+    c.of_kind.ensures

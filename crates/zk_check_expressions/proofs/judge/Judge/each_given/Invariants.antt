@@ -1,0 +1,13 @@
+use Rattle.std.proofs.Common.{take}
+use Rattle.zk_typed.specs.Making as making
+use Rattle.zk_scope.specs.Fields.{fields_lent}
+use Rattle.zk_check_expressions.specs.Records.{all_given_of}
+use Rattle.zk_typed.specs.Checked.{each}
+use Rattle.zk_typed.specs.Expressions as rules
+use Rattle.zk_typed.specs.Tells.{Tells}
+use Rattle.zk_check_expressions.specs.Envs.{env_of}
+use Rattle.zk_check_expressions.proofs.judge.Judge.each_given.Given as goal
+
+abbrev pub invariant-loop-item : goal.invariant-loop-item
+invariant-loop-item g l =
+    Tells all_given_of l.all (each (making.given_field (rules.expr_to l.self.depth (env_of l.self.env.now)) (env_of l.self.env.now) (fields_lent l.fields)) (take l.item-index l.items))

@@ -1,7 +1,0 @@
-use Rattle.std.proofs.Common.{◌≡◌, take}
-use Rattle.zk_typed.specs.LogCalls.{logged}
-use Rattle.zk_names.specs.Leaves.{leaves_lent}
-use Rattle.zk_declaration.proofs.logging.logged.Given as goal
-
-abbrev pub invariant-loop-leaf : goal.invariant-loop-leaf
-invariant-loop-leaf l = leaves_lent l.made.items ≡ logged (leaves_lent (take l.leaf-index l.leaves))

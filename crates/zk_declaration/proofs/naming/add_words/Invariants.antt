@@ -1,7 +1,0 @@
-use Rattle.std.proofs.Common.{◌≡◌, ◌++◌, take}
-use Rattle.zk_names.specs.Lent.{home_of}
-use Rattle.zk_declaration.specs.Naming.{all_named, words_named}
-use Rattle.zk_declaration.proofs.naming.add_words.Given as goal
-
-abbrev pub invariant-loop-word : goal.invariant-loop-word
-invariant-loop-word l = all_named l.names.items ≡ all_named l.fn.names.items ++ words_named (home_of l.home) (take l.word-index l.words)

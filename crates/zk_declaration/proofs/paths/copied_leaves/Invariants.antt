@@ -1,6 +1,0 @@
-use Rattle.std.proofs.Common.{◌≡◌, take}
-use Rattle.zk_names.specs.Leaves.{leaves_lent}
-use Rattle.zk_declaration.proofs.paths.copied_leaves.Given as goal
-
-abbrev pub invariant-loop-one : goal.invariant-loop-one
-invariant-loop-one l = leaves_lent l.copies.items ≡ leaves_lent (take l.one-index l.ones)

@@ -1,6 +1,0 @@
-use Rattle.zk_names.specs.Scripted.{scripts_in}
-use Rattle.zk_declaration.specs.Rounds.{IsAfter}
-use Rattle.zk_declaration.proofs.rounds.told_types.Given as goal
-
-abbrev pub invariant-loop-at : goal.invariant-loop-at
-invariant-loop-at l = IsAfter (scripts_in l.scripts.names) l.at l.types.items

@@ -1,4 +1,0 @@
-use Rattle.zk_expr.proofs.types.+nested_type.Given as goal
-
-abbrev pub decreases-nested_type : goal.decreases-nested_type
-decreases-nested_type l = l.depth

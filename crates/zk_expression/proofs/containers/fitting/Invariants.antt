@@ -1,7 +1,0 @@
-use Rattle.std.proofs.Common.{◌≡◌, drop}
-use Rattle.zk_operator.specs.Views.{typed_all}
-use Rattle.zk_expression.specs.Members.{keys_same}
-use Rattle.zk_expression.proofs.containers.fitting.Given as goal
-
-abbrev pub invariant-loop-one : goal.invariant-loop-one
-invariant-loop-one l = keys_same l.others (typed_all (drop l.one-index l.ones)) ≡ keys_same l.keys (typed_all l.ones)

@@ -1,4 +1,0 @@
-use Rattle.zk_expression.proofs.judge.Judge.declared_call.Goals as goal
-
-pub returns-in-WrittenType : goal.returns-in-WrittenType
-returns-in-WrittenType g c = rw c.in-WrittenType.is (rw c.at-place.ensures at c.made_of_written.ensures)

@@ -1,6 +1,0 @@
-use Rattle.zk_operator.proofs.BothLaws.{both_tell}
-use Rattle.zk_operator.specs.Views.{typed_of, all_typed}
-use Rattle.zk_expression.proofs.judge.Judge.keys_and_container.Goals as goal
-
-pub returns : goal.returns
-returns g c = both_tell all_typed typed_of c.left_of_in-keys.result c.check-one.result c.both.result _ _ c.left_of_in-keys.ensures c.check-one.ensures c.both.ensures

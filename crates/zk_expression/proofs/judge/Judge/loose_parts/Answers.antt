@@ -1,5 +1,0 @@
-use Rattle.zk_expression.proofs.Eaches.{next_tells}
-use Rattle.zk_expression.proofs.judge.Judge.loose_parts.Goals as goal
-
-pub returns : goal.returns
-returns g c = next_tells c.each_argument-before.result c.check-last.result c.with_part.result _ _ c.each_argument-before.ensures c.check-last.ensures c.with_part.ensures

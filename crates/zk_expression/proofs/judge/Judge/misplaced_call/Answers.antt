@@ -1,7 +1,0 @@
-use Rattle.zk_operator.specs.Views.{typed_of}
-use Rattle.zk_expression.specs.Parts.{element_view}
-use Rattle.zk_expression.proofs.Refusals.{refused}
-use Rattle.zk_expression.proofs.judge.Judge.misplaced_call.Goals as goal
-
-pub returns : goal.returns
-returns g c given h = refused element_view typed_of _ _ c.with_items-pair.result c.wrong.result _ c.wrong.ensures (c.with_items-pair.ensures given h)

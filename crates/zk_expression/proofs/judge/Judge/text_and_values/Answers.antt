@@ -1,7 +1,0 @@
-use Rattle.zk_operator.proofs.BothLaws.{both_tell}
-use Rattle.zk_operator.specs.Views.{all_typed}
-use Rattle.zk_expression.specs.Calls.{text_view}
-use Rattle.zk_expression.proofs.judge.Judge.text_and_values.Goals as goal
-
-pub returns : goal.returns
-returns g c = both_tell text_view all_typed c.format_item-text.result c.printed_items-values.result c.both.result _ _ c.format_item-text.ensures c.printed_items-values.ensures c.both.ensures

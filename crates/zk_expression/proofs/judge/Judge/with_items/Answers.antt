@@ -1,6 +1,0 @@
-use Rattle.zk_operator.proofs.BothLaws.{both_tell}
-use Rattle.zk_operator.specs.Views.{typed_of, all_typed}
-use Rattle.zk_expression.proofs.judge.Judge.with_items.Goals as goal
-
-pub returns : goal.returns
-returns g c given h = both_tell typed_of all_typed c.args.before c.each_argument-judged.result c.both.result _ _ h c.each_argument-judged.ensures c.both.ensures

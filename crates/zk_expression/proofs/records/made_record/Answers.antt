@@ -1,5 +1,0 @@
-use Rattle.zk_expression.proofs.GivenLaws.{made_is}
-use Rattle.zk_expression.proofs.records.made_record.Goals as goal
-
-pub returns : goal.returns
-returns c = made_is c.args.number c.in_ok-given.given _ c.in_ok-given.ensures

@@ -1,6 +1,0 @@
-use Rattle.zk_typed.specs.Within.{depth_max}
-use Rattle.zk_expression.proofs.whole.signed_arguments.Goals as goal
-
-pub returns : goal.returns
-unfolding depth_max
-returns c = c.signed_arguments.ensures

@@ -1,9 +1,0 @@
-use Rattle.std.proofs.Common.{take}
-use Rattle.zk_names.specs.FieldPlaces.{Hold}
-use Rattle.zk_names.specs.Lent.{stated_lent}
-use Rattle.zk_names.specs.Scripted.{scripts_in}
-use Rattle.zk_names.proofs.FieldPlaceLaws.{named_so_far, so_far}
-use Rattle.zk_names.proofs.fields.Fields.of.Given as goal
-
-abbrev pub invariant-loop-place : goal.invariant-loop-place
-invariant-loop-place l = Hold l.records.items (so_far (scripts_in l.names) (stated_lent (take l.place l.stated))) (named_so_far (scripts_in l.names) (stated_lent (take l.place l.stated)))

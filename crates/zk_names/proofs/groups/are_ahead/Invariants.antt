@@ -1,7 +1,0 @@
-use Rattle.std.proofs.Common.{◌≡◌, ◌<◌, ℕ, true, Some, slice_get}
-use Rattle.zk_names.specs.declared.groups.Link.{Link}
-use Rattle.zk_names.specs.Grouping.{is_ahead}
-use Rattle.zk_names.proofs.groups.are_ahead.Given as goal
-
-abbrev pub invariant-loop-place : goal.invariant-loop-place
-invariant-loop-place l = (place : ℕ) (link : Link) → place < l.place → slice_get l.links place ≡ Some link → is_ahead l.steps l.links place link ≡ true

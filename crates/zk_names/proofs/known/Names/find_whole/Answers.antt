@@ -1,7 +1,0 @@
-use Rattle.std.proofs.Common.{rules}
-use Rattle.zk_names.specs.Scripted.{scripts_in}
-use Rattle.zk_names.proofs.known.Names.find_whole.Goals as goal
-
-pub returns : goal.returns
-unfolding scripts_in
-returns c = search rules

@@ -1,6 +1,0 @@
-use Rattle.zk_names.specs.Scripted.{scripts_in}
-use Rattle.zk_names.proofs.known.Names.look_up.Goals as goal
-
-pub returns : goal.returns
-unfolding scripts_in
-returns c = c.look_up.ensures

@@ -1,8 +1,0 @@
-use Rattle.std.proofs.Common.{ap}
-use Rattle.zk_names.specs.Lent.{stated_lent}
-use Rattle.zk_names.specs.Scripted.{scripts_in}
-use Rattle.zk_names.proofs.known.Names.stated.Goals as goal
-
-pub returns : goal.returns
-unfolding scripts_in
-returns c = ap stated_lent c.deref.ensures.value

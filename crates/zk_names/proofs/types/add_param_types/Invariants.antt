@@ -1,7 +1,0 @@
-use Rattle.std.proofs.Common.{◌≡◌, ◌++◌, take}
-use Rattle.zk_typed.specs.Names.{param_types}
-use Rattle.zk_names.specs.Lent.{types_lent}
-use Rattle.zk_names.proofs.types.add_param_types.Given as goal
-
-abbrev pub invariant-loop-param : goal.invariant-loop-param
-invariant-loop-param l = types_lent l.types.items ≡ types_lent l.fn.types.items ++ param_types (take l.param-index l.params)

@@ -1,6 +1,0 @@
-use Rattle.std.proofs.Common.{◌≡◌, drop}
-use Rattle.zk_operator.specs.Rows.{given_by}
-use Rattle.zk_operator.proofs.table.given_in.Given as goal
-
-abbrev pub invariant-loop-row : goal.invariant-loop-row
-invariant-loop-row l = given_by l.operator l.left l.right (drop l.row-index l.rows) ≡ given_by l.operator l.left l.right l.rows

@@ -1,7 +1,0 @@
-use Rattle.std.proofs.Common.{arith}
-use Rattle.std.proofs.lemmas.Grind.{common_steps}
-use Rattle.zk_operator.proofs.Keys.{verbs_left}
-use Rattle.zk_operator.proofs.texts.verbs_take.Goals as goal
-
-pub returns-in-None : goal.returns-in-None
-returns-in-None c = grind (arith, common_steps, verbs_left)

@@ -1,7 +1,0 @@
-use Rattle.std.proofs.Common.{◌≡◌, drop}
-use Rattle.zk_typed.specs.Making as spec
-use Rattle.zk_operator.specs.Views.{typed_all}
-use Rattle.zk_operator.proofs.texts.verbs_take.Given as goal
-
-abbrev pub invariant-loop-verb : goal.invariant-loop-verb
-invariant-loop-verb l = spec.verbs_take (drop l.verb-index l.verbs) (typed_all l.others) ≡ spec.verbs_take l.verbs (typed_all l.values)

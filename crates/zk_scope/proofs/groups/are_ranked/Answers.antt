@@ -1,0 +1,17 @@
+use Rattle.std.proofs.Common.{◌≡◌, ◌∙◌, ◌<◌, ℕ, List, true, slice_get, sym, ap, arith}
+use Rattle.zk_scope.specs.declared.groups.Link.{Link}
+use Rattle.zk_scope.specs.Grouping.{are_no_higher}
+use Rattle.zk_scope.specs.Indexing.{items_at}
+use Rattle.zk_scope.proofs.GroupLaws.{up_to_end, up_to_next}
+use Rattle.zk_scope.proofs.groups.are_ranked.Goals as goal
+
+pub loop-place-init : goal.loop-place-init
+loop-place-init c = λ place link h found. absurd (omega (arith, h))
+
+pub loop-place-preserved : goal.loop-place-preserved
+loop-place-preserved c =
+    up_to_next (λ (place : ℕ) (link : Link). are_no_higher c.args.links.now link.rank (items_at c.args.steps.now place) ≡ true) c.args.links.now c.loop-place.place _ c.loop-place-test.true
+    (sym (ap (are_no_higher c.args.links.now _) c.steps_in.ensures) ∙ sym c.are_no_higher.ensures ∙ c.if-not-are_no_higher.false) c.loop-place.invariant
+
+pub returns : goal.returns
+returns c = λ told. up_to_end (λ (place : ℕ) (link : Link). are_no_higher c.args.links.now link.rank (items_at c.args.steps.now place) ≡ true) c.args.links.now c.loop-place.place c.loop-place-test.false c.loop-place.invariant

@@ -5,8 +5,9 @@ ghost use Rattle.std.specs.Io.{ReadsAtMost};
 ghost use Rattle.std.specs.Io.KnownBytes.{Appends, Consumes, Keeps, IsAtEnd};
 ghost use Rattle.zk_system.specs.DirShelf.{started_of, CountsStart, CountsWrite};
 
-use std::fs::{File, Files};
+use std::fs::{File, Files, Metadata, OpenFile, OpenOptions};
 use std::io::{ErrorKind, Read, Write};
+use std::os::unix::fs::MetadataExt;
 use std::{io, str};
 use zk_base::{Counts, Got, Shelf, Started, Wrote};
 
@@ -16,6 +17,9 @@ use zk_base::{Counts, Got, Shelf, Started, Wrote};
 ///
 /// A file that doesn't exist is absent. Every other error is a fault, and so is a name that isn't
 /// UTF-8. It tells nothing of what files hold.
+///
+/// An output is never the input that is open: an output whose name leads to that file fails, and the
+/// file stays as it was.
 #[derive(Debug, Drop)]
 pub struct DirShelf<F: Files, O, E> {
     files: F,
@@ -108,7 +112,7 @@ impl<F: Files, O: Write, E: Write> Shelf for DirShelf<F, O, E> {
         ensures no_text { ¬ (IsUtf8 name.now) → result ≡ Wrote.Failed }
         ensures rest { self.new ≡ record self.old { counts = self.new.counts } }
     {
-        let created = create(&self.files, name);
+        let created = create(&self.files, self.input.as_ref(), name);
         wrote(created, &mut self.counts)
     }
 
@@ -117,7 +121,7 @@ impl<F: Files, O: Write, E: Write> Shelf for DirShelf<F, O, E> {
         ensures no_text { ¬ (IsUtf8 name.now) → result ≡ Wrote.Failed }
         ensures rest { self.new ≡ record self.old { counts = self.new.counts } }
     {
-        let appended = append(&self.files, name, bytes);
+        let appended = append(&self.files, self.input.as_ref(), name, bytes);
         wrote(appended, &mut self.counts)
     }
 
@@ -191,20 +195,55 @@ fn open<F: Files>(files: &F, name: &[u8]) -> io::Result<F::File>
     File::open(files, path(name)?)
 }
 
-fn create<F: Files>(files: &F, name: &[u8]) -> io::Result<()>
+/// Makes an empty file, or empties the one that is there.
+fn create<F: Files>(files: &F, input: Option<&F::File>, name: &[u8]) -> io::Result<()>
     ensures { ¬ (IsUtf8 name.now) → IsErr result }
 {
-    File::create(files, path(name)?)?;
-    Ok(())
+    let output = open_output(files, input, name, File::options().write(true).create(true))?;
+    empty(&output)
 }
 
 /// Adds to the end of a file that is there. It is opened for this alone, so that no output is open
 /// while something is said, and all is with the system when this returns.
-fn append<F: Files>(files: &F, name: &[u8], bytes: &[u8]) -> io::Result<()>
+fn append<F: Files>(files: &F, input: Option<&F::File>, name: &[u8], bytes: &[u8]) -> io::Result<()>
     ensures { ¬ (IsUtf8 name.now) → IsErr result }
 {
-    let mut file = File::options().append(true).open(files, path(name)?)?;
-    put_all(&mut file, bytes)
+    let mut output = open_output(files, input, name, File::options().append(true))?;
+    put_all(&mut output, bytes)
+}
+
+/// Opens an output, and fails where it is the open input, whatever name or link has led there. That
+/// is asked of the two open files and not of their names, so no other process can put one in the
+/// place of another in between. It must not be opened with truncation, which would have emptied it
+/// before it could be looked at.
+fn open_output<F: Files>(
+    files: &F,
+    input: Option<&F::File>,
+    name: &[u8],
+    how: &OpenOptions,
+) -> io::Result<F::File>
+    ensures { ¬ (IsUtf8 name.now) → IsErr result }
+{
+    let output = how.open(files, path(name)?)?;
+    if let Some(input) = input {
+        if are_one_file(&input.metadata()?, &output.metadata()?) {
+            return Err(io::Error::from(ErrorKind::ResourceBusy));
+        }
+    }
+    Ok(output)
+}
+
+/// Whether two open files are one that holds bytes. A pipe or a device may be an input and an output.
+fn are_one_file(input: &Metadata, output: &Metadata) -> bool {
+    input.is_file() && input.dev() == output.dev() && input.ino() == output.ino()
+}
+
+/// Empties a file. A pipe or a device has no bytes of its own, and stays as it is.
+fn empty<F: OpenFile>(file: &F) -> io::Result<()> {
+    if file.metadata()?.is_file() {
+        file.set_len(0)?;
+    }
+    Ok(())
 }
 
 /// Writes all bytes behind what a writer has. What it has of them after a fault isn't said.

@@ -5,6 +5,8 @@ a fault; a script without one is refused at its byte 0, where its declaration be
 """
 import dataclasses
 
+from zeek_captures import (ACK, ANSWER, CLIENT, REQUEST, SERVER, SYN, capture, conversation, dns_answer, ipv4, tcp, udp)
+
 MARK = "§"
 
 
@@ -27,6 +29,7 @@ class Says:
     capture: str = "none.pcap"
     files: dict = dataclasses.field(default_factory=dict)
     logs: dict = dataclasses.field(default_factory=dict)
+    packets: bytes = b""
 
 
 @dataclasses.dataclass
@@ -117,6 +120,9 @@ LOADS = {
         Refused("BadByte", f"{MARK}@load-sigs x.sig\n"), Refused("BadByte", f"{MARK}@if ( T )\n"),
         Refused("BadByte", f"{MARK}@ifdef ( Mine )\n"), Refused("BadByte", f"{MARK}@unload x\n"),
         Refused("BadByte", body(f"print {MARK}@DIR;"))],
+    "`@load base/protocols/http` under `-b`": [
+        Refused("Unknown", "@load base/protocols/http\nevent zeek_init() { print " + MARK + "HTTP::LOG; }"),
+        Says("@load base/protocols/http\nevent zeek_init() { print HTTP::LOG; }", "HTTP::LOG\n", DEFAULTS)],
     "`GLOBAL::f()`": [
         Refused("Unknown", "function f() { } " + body(f"{MARK}GLOBAL::f();")),
         Says("function f() { print 1; } module M; " + body("f();"), "1\n")],
@@ -275,6 +281,16 @@ TYPES = {
         Refused("Unknown", f"global s: {MARK}addr_set;"), Refused("Unknown", f"global s: {MARK}string_set;"),
         Refused("Unknown", f"global s: {MARK}count_set;"), Refused("Unknown", f"global s: {MARK}addr_vec;"),
         Says("global s: set[addr] = { 10.0.0.1 }; global v: string_vec; " + body("print |s|, |v|;"), "1, 0\n")],
+    "`table[conn_id] of ..`, `set[conn_id]`": [
+        Refused("WrongType", f"global t: table[{MARK}conn_id] of count;"), Refused("WrongType", f"global s: set[{MARK}conn_id];"),
+        Says("global t: table[addr, port, addr, port] of count; event new_connection(c: connection) "
+             "{ t[c$id$orig_h, c$id$orig_p, c$id$resp_h, c$id$resp_p] = 1; } event zeek_done() { print |t|; }", "7\n", capture="web.pcap")],
+    "a record of another type with the same fields": [
+        Refused("WrongType", "type R: record { a: count; }; type Q: record { a: count; }; " + body(f"local q = Q($a=1); local r: R = {MARK}q;")),
+        Says("type R: record { a: count; }; type Q: record { a: count; }; " + body("local q = Q($a=1); local r = R($a=q$a); print r$a;"), "1\n")],
+    "`www.zeek.org` as its addresses": [
+        Refused("BadByte", f"global s: set[addr] = {{ www{MARK}.zeek.org }};"),
+        Says("global s: set[addr] = { 192.0.2.7 }; " + body("print 192.0.2.7 in s;"), "T\n")],
     "`\"\\0\"`, `\"\\a\"`, `\"\\101\"`": [
         *(Refused("BadByte", body(f'print "{MARK}\\{escape}";')) for escape in ("0", "a", "101")),
         Says(body(r'print "\x41\x42\t.\n\r\"\\";'), 'AB\t.\n\r"\\\n')],
@@ -311,6 +327,11 @@ ATTRIBUTES = {
     "`&create_expire=wait`": [
         Refused("NotConst", f"const wait = 5 min; global s: set[addr] &create_expire={MARK}wait;"),
         Says("global s: set[addr] &create_expire=5 min; " + body("print |s|;"), "0\n")],
+    "`&create_expire=-1 sec` (never)": [
+        Says("global s: set[addr] &create_expire=-1 sec; event new_connection(c: connection) "
+             "{ print |s|; add s[c$id$resp_h]; }", "0\n" * 7, capture="web.pcap"),
+        Says("global s: set[addr]; event new_connection(c: connection) { print |s|; add s[c$id$resp_h]; }", "0\n" + "1\n" * 6,
+             capture="web.pcap")],
     "`&expire_func=function(..) { .. }`": [
         Refused("NoTree", "global t: table[addr] of count &create_expire=1 min "
                 "&expire_func=function(t: table[addr] of count, a: addr): interval { return 0 sec; };"),
@@ -495,6 +516,12 @@ FUNCTIONS = {
         not_there("Site::is_local_addr"), Refused("Unknown", f"redef {MARK}Site::local_nets += {{ 10.0.0.0/8 }};"),
         Says("const local_nets: set[subnet] = { 10.0.0.0/8 } &redef; function is_local(a: addr): bool "
              "{ for (net in local_nets) if (a in net) return T; return F; } " + body("print is_local(10.1.1.1);"), "T\n")],
+    "`redef tcp_inactivity_timeout = ..`, `redef ignore_checksums = T;`, `redef capture_filters = ..`": [
+        *(Refused("Unknown", f"redef {MARK}{name} = 1;") for name in ("tcp_inactivity_timeout", "ignore_checksums", "capture_filters")),
+        Says("event zeek_init() { print 1; }", "1\n", ("-C", "-b"))],
+    "`redef HTTP::ports += { 8008/tcp };`, `redef HTTP::default_capture_password = T;`, `Analyzer::register_for_port`": [
+        Refused("Unknown", f"redef {MARK}HTTP::ports += {{ 8008/tcp }};", DEFAULTS),
+        Refused("Unknown", f"redef {MARK}HTTP::default_capture_password = T;", DEFAULTS), not_there("Analyzer::register_for_port")],
     "`SumStats::`, `Intel::`, `Input::`, `Config::`, `Files::`, `Weird::`, `Cluster::`, `Broker::`": [
         *map(not_there, ("SumStats::create", "Intel::insert", "Input::add_table", "Config::set_value", "Files::add_analyzer",
                          "Weird::weird", "Cluster::log", "Broker::publish"))],
@@ -567,6 +594,13 @@ RECORDS = {
         Refused("Field", f"event connection_state_remove(c: connection) {{ print {MARK}c$conn$conn_state; }}", DEFAULTS),
         Says("event connection_state_remove(c: connection) { if (c$proto == tcp) print c$conn_state, c$missed_bytes; }",
              "SF, 0\nREJ, 0\nSF, 0\n", DEFAULTS, "web.pcap")],
+    "`c$conn$mine = ..;` for a column of one's own": [
+        Refused("Field", "redef record Conn::Info += { mine: string &log &default=\"\"; }; event connection_state_remove(c: connection) "
+                f"&priority=5 {{ {MARK}c$conn$mine = \"x\"; }}", DEFAULTS),
+        Says("redef record Conn::Info += { mine: string &log &default=\"\"; }; "
+             "hook fill(rec: Conn::Info, id: Log::ID, filter: Log::Filter) { rec$mine = \"x\"; } "
+             'event zeek_init() { Log::add_filter(Conn::LOG, [$name="default", $policy=fill]); } '
+             "event Conn::log_conn(rec: Conn::Info) { print rec$mine; }", "x\n" * 7, DEFAULTS, "web.pcap")],
     "`c$service`": [
         Refused("Field", f"event connection_state_remove(c: connection) {{ print |{MARK}c$service|; }}", DEFAULTS),
         Says("event connection_state_remove(c: connection) { if (c?$http) print c$uid; }", "C5\nC7\n", DEFAULTS, "web.pcap")],
@@ -579,6 +613,13 @@ RECORDS = {
              "{ print c$http$pending[c$http$told]$uri; } "
              "event http_request(c: connection, method: string, original_URI: string, unescaped_URI: string, version: string) "
              "{ if (c$http$pending[c$http$asked]$uri != original_URI) print original_URI; }", "/moved\n" + 6 * "/index.html\n", DEFAULTS, "web.pcap")],
+    "`c$http$mine = ..;` for a column of one's own": [
+        Refused("Field", "redef record HTTP::Info += { mine: string &log &default=\"\"; }; "
+                f"event http_reply(c: connection, version: string, code: count, reason: string) {{ {MARK}c$http$mine = reason; }}", DEFAULTS),
+        Says("redef record HTTP::Info += { mine: string &log &default=\"\"; }; "
+             "event http_reply(c: connection, version: string, code: count, reason: string) "
+             "{ c$http$pending[c$http$told]$mine = reason; } event HTTP::log_http(rec: HTTP::Info) { print rec$mine; }",
+             "Moved Temporarily\n" + 6 * "OK\n", DEFAULTS, "web.pcap")],
     "`c$dns$query`": [
         Refused("WrongType", f"event dns_end(c: connection, msg: dns_msg) {{ print {MARK}c$dns$query; }}", DEFAULTS),
         Says("event dns_end(c: connection, msg: dns_msg) { if (msg$QR) print c$dns[msg$id]$query; }",
@@ -592,6 +633,13 @@ RECORDS = {
         Refused("NoField", f"event connection_state_remove(c: connection) {{ if (c$uid == \"C6\") {MARK}print c$resp$size; }}", ("-b",), "web.pcap"),
         Says("event connection_state_remove(c: connection) { if (c$proto == tcp) print c$orig?$size, c$resp?$size ? cat(c$resp$size) : \"-\"; }",
              "T, 587\nT, -\nT, 1200\n", capture="web.pcap")],
+    "`rec$service`, `rec$qtype_name`, `rec$rtt`, `rec$referrer`, `DNS::query_types`": [
+        Refused("Field", f"event Conn::log_conn(rec: Conn::Info) {{ print {MARK}rec$service; }}", DEFAULTS),
+        Refused("Field", f"event DNS::log_dns(rec: DNS::Info) {{ print {MARK}rec$qtype_name; }}", DEFAULTS),
+        Refused("Field", f"event DNS::log_dns(rec: DNS::Info) {{ print {MARK}rec$rtt; }}", DEFAULTS),
+        Refused("Field", f"event HTTP::log_http(rec: HTTP::Info) {{ print {MARK}rec$referrer; }}", DEFAULTS),
+        Refused("Unknown", body(f"print {MARK}DNS::query_types[1];"), DEFAULTS),
+        Says("event DNS::log_dns(rec: DNS::Info) { if (rec?$qtype && rec$qtype == 28) print rec$query; }", "h.example\n", DEFAULTS, "web.pcap")],
     "`msg$Z`, `ans$answer_type`, `stat$interrupted`": [
         Refused("Field", f"event dns_end(c: connection, msg: dns_msg) {{ print {MARK}msg$Z; }}"),
         Refused("Field", f"event dns_unknown_reply(c: connection, msg: dns_msg, ans: dns_answer) {{ print {MARK}ans$answer_type; }}"),
@@ -608,3 +656,96 @@ RECORDS = {
 }
 
 ROWS = {**COMMANDS, **LOADS, **EVENTS, **TYPES, **ATTRIBUTES, **OPERATORS, **STATEMENTS, **FUNCTIONS, **FRAMEWORK, **RECORDS}
+
+
+def over(packets, lines, script="", options=("-C",), **logs):
+    """What the default scripts and another one say of a capture, and the cells of their logs, by `LOG_COLUMNS`."""
+    return Says(script, lines, options, "packets.pcap", logs=logs, packets=packets)
+
+
+# The rows of the default logs, short.
+TOLD = """event Conn::log_conn(rec: Conn::Info) {
+    print "conn", rec$uid, rec$conn_state, rec?$orig_bytes ? cat(rec$orig_bytes) : "-", rec?$resp_bytes ? cat(rec$resp_bytes) : "-",
+        rec$missed_bytes;
+}
+event HTTP::log_http(rec: HTTP::Info) {
+    print "http", rec$uid, rec$method, rec$uri, rec?$status_code ? cat(rec$status_code) : "-", rec$response_body_len;
+}
+event DNS::log_dns(rec: DNS::Info) { print "dns", rec$uid, rec?$query ? rec$query : "-", rec?$answers ? |rec$answers| : 0; }
+event http_violation(c: connection, is_orig: bool, reason: count) { print "http_violation", is_orig, reason; }
+event dns_violation(c: connection, is_orig: bool, fault: count) { print "dns_violation", is_orig, fault; }
+"""
+DNS_SERVER = (SERVER[0], 53)
+OTHER_SERVER = (SERVER[0], 8081)
+ICMP = ipv4(1, CLIENT[0], SERVER[0], bytes([8, 0, 0, 0, 0, 1, 0, 1]))
+IPV6 = bytes([0x60, 0, 0, 0, 0, 0, 59, 64]) + bytes(32)
+
+
+def asked(request, answer=b"", **words):
+    return capture(*conversation(10, request, answer, **words))
+
+
+# What the points of docs/ZEEK.md that stand outside of its tables speak of, by how they begin.
+POINTS = {
+    "**A log of an earlier run stays": [
+        Says("", "", DEFAULTS, "none.pcap", files={"conn.log": "an earlier row\n"}, logs={"conn.log": ["an earlier row"]})],
+    "Names under `base/` are passed over": [
+        Refused("Unknown", body(f"print {MARK}Conn::LOG;")), Says("@load base/nosuch\n" + body("print Conn::LOG;"), "Conn::LOG\n", DEFAULTS)],
+    "A file is loaded once, by its spelling": [
+        Says("@load a.zeek\n@load ./a.zeek\n@load a.zeek\n", "1\n1\n", files={"a.zeek": body("print 1;")})],
+    "A container walks in the order of insertion": [
+        Says(body("local s = set(3, 1, 2); for (x in s) { print x; delete s[1]; add s[5]; } print |s|;"), "3\n2\n3\n")],
+    "A string has at most 1,048,576 bytes": [
+        Refused("TooLong", body(f'local s = "x"; while (|s| < 2000000) {MARK}s += s;'))],
+    "`uid` is `C` and the number": [over(asked(REQUEST, ANSWER), "conn, C1, SF, 18, 40, 0\n", "".join(TOLD.split("event HTTP")[:1]))],
+    "Each byte from 0x7f on is escaped": [
+        Says(INFO.replace("a: count", "a: string") + 'module Mine; event zeek_init() { Log::write(LOG, [$a="\u00e9"]); Log::write(LOG, [$a="#"]); }',
+             "", logs={"mine.log": ["\\xc3\\xa9\t0", "\\x23\t0"]})],
+    "`duration` is always there": [
+        over(capture((10, udp(CLIENT, (SERVER[0], 9), b"x"))), "0.000000\n", "event Conn::log_conn(rec: Conn::Info) { print rec$duration; }")],
+    "`history` has the letters": [
+        over(capture(*conversation(10), *conversation(11)), "ShADdFf\n", "event Conn::log_conn(rec: Conn::Info) { print rec$history; }")],
+    "Lengths of bodies in http.log": [
+        over(asked(REQUEST, ANSWER.replace(b": 2", b": 9")), "http, C1, GET, /, 200, 0\nconn, C1, SF, 18, 40, 0\n", TOLD)],
+    "A query's columns in dns.log": [
+        over(capture((10, udp(CLIENT, DNS_SERVER, b"")), (11, udp(DNS_SERVER, CLIENT, dns_answer()))),
+             "dns_violation, T, 1\ndns, C1, -, 1\nconn, C1, SF, 0, 37, 0\n", TOLD)],
+    "**IPv4 with TCP or UDP alone is read.**": [over(capture((10, ICMP), (11, IPV6)), "", TOLD)],
+    "**A packet with a wrong checksum is passed over": [
+        over(asked(REQUEST, ANSWER), "", TOLD, ()),
+        over(asked(REQUEST, ANSWER), "http, C1, GET, /, 200, 2\nconn, C1, SF, 18, 40, 0\n", TOLD)],
+    "**What a connection speaks its port says**": [
+        over(asked(REQUEST, ANSWER, server=OTHER_SERVER), "conn, C1, SF, 18, 40, 0\n", TOLD)],
+    "**A connection is removed**": [
+        over(capture(*conversation(10), *conversation(15.08)),
+             "http, C1, GET, /, 200, 2\nconn, C1, SF, 18, 40, 0\nhttp, C2, GET, /, 200, 2\nconn, C2, SF, 18, 40, 0\n", TOLD)],
+    "**A second connection of the same ends within these 5 seconds": [
+        over(capture(*conversation(10), *conversation(12, number=70_000)), "http, C1, GET, /, 200, 2\nconn, C1, SF, 18, 40, 0\n", TOLD)],
+    "**The base of a stream is the first SYN of its side**": [
+        over(capture((10, tcp(CLIENT, SERVER, 1000, 0, SYN)), *conversation(13, number=501_000)),
+             "http_violation, T, 8\nconn, C1, SF, 500018, 40, 500000\n", TOLD)],
+    "**A TCP connection without its SYNs**": [
+        over(capture(*conversation(10)[2:]), "conn, C1, OTH, -, -, 0\n", TOLD)],
+    "**Of overlapping fragments, and of bytes that are sent twice": [
+        over(capture(*conversation(10, ends=False, answer=b"")[:-1], (11, tcp(CLIENT, SERVER, 1003, 5001, ACK, b"T / HTTP/1.1\r\n\r\n")),
+                     (12, tcp(CLIENT, SERVER, 1001, 5001, ACK, b"GEX"))), "http, C1, GET, /, -, 0\nconn, C1, S1, 18, 0, 0\n", TOLD)],
+    "**A response is read only behind its request**": [
+        over(asked(b"", ANSWER), "conn, C1, SF, 0, 40, 0\n", TOLD),
+        over(asked(b"\r\nget / HTTP/1.1\r\n\r\n", ANSWER), "http, C1, get, /, 200, 2\nconn, C1, SF, 20, 40, 0\n", TOLD),
+        over(asked(b"GET / HTTP/1.1\r\nA: b\r\n c\r\n\r\n"), "http_violation, T, 2\nconn, C1, SF, 28, 0, 0\n", TOLD)],
+    "**The target of a request is UTF-8.**": [
+        over(asked(b"GET /\xe9 HTTP/1.1\r\n\r\n"), "http_violation, T, 2\nconn, C1, SF, 19, 0, 0\n", TOLD),
+        over(asked(b"GET /\xc3\xa9 HTTP/1.1\r\n\r\n"), "http, C1, GET, /\u00e9, -, 0\nconn, C1, SF, 20, 0, 0\n", TOLD)],
+    "**A message of DNS is all of the bytes that carry it**": [
+        over(capture((10, udp(CLIENT, DNS_SERVER, dns_answer(b"x")))), "dns_violation, T, 6\nconn, C1, S0, 38, -, 0\n", TOLD)],
+    "**Each scheduled event runs at its own due moment": [
+        over(capture((10, udp(CLIENT, SERVER, b"x")), (30, udp(CLIENT, SERVER, b"x"))), "11.000000\n12.500000, 10.0.0.1\n",
+             "event later() { print network_time(); } function gone(s: set[addr], a: addr): interval { print network_time(), a; return 0 sec; } "
+             "global s: set[addr] &create_expire=2500 msec &expire_func=gone; "
+             "event new_connection(c: connection) { schedule 1 sec { later() }; add s[c$id$orig_h]; }")],
+    "Behind the last packet no entry expires.": [
+        over(capture((10, udp(CLIENT, SERVER, b"x"))), "later, 10.000000\ndone, 10.000000, 1\n",
+             'event later() { print "later", network_time(); schedule 1 sec { later() }; } global s: set[addr] &create_expire=1 sec; '
+             "event new_connection(c: connection) { schedule 60 sec { later() }; add s[c$id$orig_h]; } "
+             'event zeek_done() { print "done", network_time(), |s|; }')],
+}

@@ -174,6 +174,10 @@ EVENTS = {
         never("tcp_contents(c: connection, is_orig: bool, seq: count, contents: string)"),
         never("udp_contents(u: connection, is_orig: bool, contents: string)"),
         never("packet_contents(c: connection, contents: string)")],
+    "`rexmit_inconsistency`, `conn_weird`, `flow_weird`, `connection_reused`": [
+        never("rexmit_inconsistency(c: connection, t1: string, t2: string, tcp_flags: string)"),
+        never("conn_weird(name: string, c: connection, addl: string, source: string)"),
+        never("flow_weird(name: string, src: addr, dst: addr, addl: string, source: string)"), never("connection_reused(c: connection)")],
     "a handler with fewer parameters": [
         Refused("Arguments", "event new_connection() { }"),
         Says("event new_connection(c: connection) { print 1; }", "1\n" * 7, capture="web.pcap")],
@@ -354,8 +358,9 @@ ATTRIBUTES = {
         Refused("Attribute", "global t: table[addr] of count &create_expire=1 min; " + body(f"{MARK}t = table();")),
         Says("global t: table[addr] of count &create_expire=1 min; "
              + body("t[10.0.0.1] = 1; for (k in t) delete t[k]; print |t|;"), "0\n")],
-    "`&is_used`, `&deprecated`, `&raw_output`, `&backend`, `&on_change`, `&ordered`, `&group`": [
-        *(Refused("Attribute", f"global x: set[count] {MARK}&{name};") for name in ("is_used", "deprecated", "ordered")),
+    "`&is_used`, `&deprecated`, `&raw_output`, `&backend`, `&on_change`, `&ordered`, `&group`, `&default_insert` and others": [
+        *(Refused("Attribute", f"global x: set[count] {MARK}&{name};") for name in ("is_used", "is_assigned", "deprecated", "ordered")),
+        Refused("Attribute", f"global t: table[count] of count {MARK}&default_insert=1;"),
         Refused("Attribute", f"global x: set[count] {MARK}&backend=1;"), Refused("Attribute", f"global x: set[count] {MARK}&on_change=1;"),
         Refused("Attribute", f"event zeek_init() {MARK}&group=\"g\" {{ }}"), Refused("Attribute", f"global x: count {MARK}&raw_output;")],
     "`type R: record { .. } &log;`": [
@@ -392,6 +397,10 @@ OPERATORS = {
     "`r == q` of records, sets, tables or vectors": [
         Refused("WrongType", body(f"local s = set(1); local t = set(1); print {MARK}s == t;")),
         Says("type R: record { a: count; }; " + body("local r = R($a=1); local q = R($a=1); print r$a == q$a;"), "T\n")],
+    "`s <= t` of sets (is it a part)": [
+        Refused("WrongType", body(f"local s = set(1); local t = set(1, 2); print {MARK}s <= t;")),
+        Says("function within(s: set[count], t: set[count]): bool { for (x in s) if (x !in t) return F; return T; } "
+             + body("print within(set(1), set(1, 2)), within(set(3), set(1, 2));"), "T, F\n")],
     "`a in nets` of a `set[subnet]`": [
         Refused("WrongType", "global nets: set[subnet] = { 10.0.0.0/8 }; " + body(f"local a = 10.1.1.1; print a in {MARK}nets;")),
         Says("global nets: set[subnet] = { 10.0.0.0/8 }; function among(a: addr): bool "
@@ -465,6 +474,11 @@ STATEMENTS = {
     "calls in calls, more than 200": [
         Refused("Depth", "function f(n: count): count { " + MARK + "return n == 0 ? 0 : f(n - 1); } " + body("print f(500);")),
         Says("function f(n: count): count { return n == 0 ? 0 : f(n - 1); } " + body("print f(150);"), "0\n")],
+    "`redef record Conn::Info$history -= { &log };`": [
+        Refused("NoTree", "redef record Conn::Info$history -= { &log };", DEFAULTS),
+        Says(body('Log::add_filter(Conn::LOG, [$name="default", $path="short", $include=set("uid", "conn_state", "history"), $exclude=set("history")]);'),
+             "", DEFAULTS, "web.pcap",
+             logs={"short.log": [f"C{n}\t{state}" for n, state in enumerate("SF SF SF SF SF REJ SF".split(), 1)]})],
     "`assert x > 0;`": [
         Refused("NoTree", body("local x = 1; assert x > 0;")), Says(body("local x = 0; if (! (x > 0)) print x;"), "0\n")],
     "`schedule 1 min { tick() };` in `zeek_init`, again and again": [
@@ -495,6 +509,13 @@ FUNCTIONS = {
         Says("event new_connection(c: connection) { local p = c$id$resp_p; "
              "if (c$proto == tcp) print p, to_count(sub_bytes(cat(p), 1, |cat(p)| - 4)); }",
              "80/tcp, 80\n81/tcp, 81\n80/tcp, 80\n", capture="web.pcap")],
+    "`HTTP::build_url(rec)`, `Conn::conn_state(c, tcp)`, `id_string(c$id)`": [
+        *(Refused("Unknown", body(f"print {MARK}{call};"), DEFAULTS) for call in ("HTTP::build_url(1)", "Conn::conn_state(1, 2)", "id_string(1)")),
+        Says("event HTTP::log_http(rec: HTTP::Info) { if (rec?$host) print rec$host + rec$uri; } "
+             'event connection_state_remove(c: connection) { if (c$uid == "C6") print c$conn_state, '
+             'fmt("%s:%s > %s:%s", c$id$orig_h, c$id$orig_p, c$id$resp_h, c$id$resp_p); }',
+             "10.77.0.2/moved\n10.77.0.2/index.html\n" + 5 * "x/index.html\n" + "REJ, 10.77.0.1:60658/tcp > 10.77.0.2:81/tcp\n",
+             DEFAULTS, "web.pcap")],
     "`clear_table(t)`": [
         *unknown("clear_table"), Says(body("local t = set(1, 2); for (k in t) delete t[k]; print |t|;"), "0\n")],
     "`current_time()`": [*unknown("current_time"), Says(body("print network_time();"), "0.000000\n")],
@@ -573,9 +594,10 @@ FRAMEWORK = {
         Says("hook small(rec: Conn::Info, id: Log::ID, filter: Log::Filter) { if (rec$proto != udp) break; } "
              + body('Log::add_filter(Conn::LOG, [$name="udp", $path="udp", $include=set("uid"), $policy=small]);'), "", DEFAULTS,
              "web.pcap", logs={"udp.log": ["C1", "C2", "C3", "C4"]})],
-    "`$path=\"logs/web\"`, `$path=\"Web\"`, `$path=p`": [
+    "`$path=\"logs/web\"`, `$path=\"Web\"`, `$path=p`, `$name=n`": [
         *(Refused("Format", body(f'Log::add_filter(HTTP::LOG, [$name="x", $path={MARK}"{path}"]);'), DEFAULTS) for path in ("logs/web", "Web")),
         Refused("Format", body(f'local p = "web"; Log::add_filter(HTTP::LOG, [$name="x", $path={MARK}p]);'), DEFAULTS),
+        Refused("Format", body(f'local n = "x"; Log::add_filter(HTTP::LOG, [$name={MARK}n]);'), DEFAULTS),
         Says(body('print Log::add_filter(HTTP::LOG, [$name="x", $path="web-2"]);'), "T\n", DEFAULTS)],
     "`$include=columns`": [
         Refused("Format", body(f'local columns = set("uri"); Log::add_filter(HTTP::LOG, [$name="x", $path="y", $include={MARK}columns]);'), DEFAULTS),
@@ -719,6 +741,11 @@ POINTS = {
     "**A connection is removed**": [
         over(capture(*conversation(10), *conversation(15.08)),
              "http, C1, GET, /, 200, 2\nconn, C1, SF, 18, 40, 0\nhttp, C2, GET, /, 200, 2\nconn, C2, SF, 18, 40, 0\n", TOLD)],
+    "**The originator is who sent the first packet**": [
+        over(capture((10, udp(DNS_SERVER, CLIENT, dns_answer()))), "53/udp, 40000/udp\nconn, C1, S0, 37, -, 0\n",
+             TOLD + "event new_connection(c: connection) { print c$id$orig_p, c$id$resp_p; }"),
+        over(capture(*conversation(10)[1:]), "40000/tcp, 80/tcp\nconn, C1, SHR, -, 40, 0\n",
+             TOLD + "event new_connection(c: connection) { print c$id$orig_p, c$id$resp_p; }")],
     "**A second connection of the same ends within these 5 seconds": [
         over(capture(*conversation(10), *conversation(12, number=70_000)), "http, C1, GET, /, 200, 2\nconn, C1, SF, 18, 40, 0\n", TOLD)],
     "**The base of a stream is the first SYN of its side**": [

@@ -64,3 +64,21 @@ def capture(records, link=1):
     for moment, frame in records:
         whole += struct.pack("<4I", moment // 1_000_000, moment % 1_000_000, len(frame), len(frame)) + frame
     return whole
+
+
+def dns_name(name):
+    """The labels of a name (RFC 1035, 3.1)."""
+    return b"".join(bytes([len(label)]) + label.encode() for label in name.split(".")) + b"\0"
+
+
+def dns_query(number, name, kind=1):
+    return struct.pack(">6H", number, 0x0100, 1, 0, 0, 0) + dns_name(name) + struct.pack(">HH", kind, 1)
+
+
+def dns_response(number, name, kind=1, rcode=0, answers=()):
+    """A response; an answer is its owner, its type (1 A, 5 CNAME) and the address or name that it holds."""
+    message = struct.pack(">6H", number, 0x8180 | rcode, 1, len(answers), 0, 0) + dns_name(name) + struct.pack(">HH", kind, 1)
+    for owner, answer_kind, data in answers:
+        content = ipaddress.ip_address(data).packed if answer_kind == 1 else dns_name(data)
+        message += dns_name(owner) + struct.pack(">HHIH", answer_kind, 1, 60, len(content)) + content
+    return message

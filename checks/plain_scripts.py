@@ -121,6 +121,29 @@ def server(capture):
     return log("http", f"{ALL}{COLUMNS['http']} server:string", rows[0][1], last_moment(capture), lines)
 
 
+def zeek_columns(capture):
+    """conn.log, dns.log and http.log with the columns more that Zeek's have."""
+    last, conns = last_moment(capture), conns_of(capture)
+    rows = [conn.row(conn.first, [*conn.cells(), "dns" if any(conn.dns_messages()) else "http" if conn.exchanges() else "-"])
+            for conn in conns]
+    yield "conn", log("conn", f"{ALL}{COLUMNS['conn']} service:string", last, last, rows)
+    rows = []
+    for conn in conns:
+        responses = {number: message for _, number, _, message in conn.dns_messages() if message[2] >> 7}
+        for number, now, row in plain_logs.dns_rows(conn):
+            asked, rcode = int(row.split("\t")[0].replace(".", "")), responses[number][3] & 15
+            cells = [seconds(now - asked), "C_INTERNET", "A", {0: "NOERROR", 3: "NXDOMAIN"}[rcode], "FT"[not any(responses[number][6:12])]]
+            rows.append((number, now, "\t".join([row, *cells])))
+    rows.sort()
+    more = "rtt:interval qclass_name:string qtype_name:string rcode_name:string rejected:bool"
+    yield "dns", log("dns", f"{ALL}{COLUMNS['dns']} {more}", rows[0][1], last, [row for _, _, row in rows])
+    rows, asked = rows_of(capture)["http"], [(response.number, request.fields) for conn in conns for request, response in conn.exchanges()]
+    lines = ["\t".join([row, fields.get("referer", "-"), fields.get("origin", "-"), "-", "-", "-"])
+             for (_, _, row), (_, fields) in zip(rows, sorted(asked, key=lambda one: one[0]))]
+    more = "referrer:string origin:string info_code:count info_msg:string proxied:set[string]"
+    yield "http", log("http", f"{ALL}{COLUMNS['http']} {more}", rows[0][1], last, lines)
+
+
 def compare(capture):
     """The lines, sorted."""
     lines = []

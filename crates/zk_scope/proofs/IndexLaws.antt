@@ -1,5 +1,6 @@
 -- Where names stand in a list, when one is added at its end.
-use Rattle.std.proofs.Common.{◌≡◌, ℕ, zero, suc, Bool, true, false, ◌&&◌, ◌||◌, List, [], ◌∷◌, ◌++◌, length, Option, Some, None, refl, ap, sym, ◌∙◌, if◌then◌else◌, cond, find, slice_get, map, Bor}
+use Rattle.std.proofs.Common.{◌≡◌, ℕ, zero, suc, Bool, true, false, ◌&&◌, ◌||◌, List, [], ◌∷◌, ◌++◌, length, Option, Some, None, is_some, refl, ap, sym, ◌∙◌, if◌then◌else◌, cond, find, slice_get, map, Bor}
+use Rattle.std.specs.List.{list_any}
 use Rattle.std.specs.Option.{option_map, option_and_then, option_copied}
 use Rattle.std.specs.Str.{bytes_eq}
 use Rattle.zk_scope.specs.Same.{same_bytes}
@@ -167,3 +168,26 @@ whole_found names from_module whole anywhere place seen found =
 pub seen_through : {A B : Type 0} (f : A → B) (lent : Option (Bor A)) → option_map (λ (one : Bor A). f one.now) lent ≡ option_map f (option_copied lent)
 seen_through f None = refl
 seen_through f (Some one) = refl
+
+-- Names that are there ------------------------------------------------------------------------------------------------
+
+some_by : {A : Type 0} (p : A → Bool) (one : A) (others : List A) (b : Bool) → p one ≡ b → is_some (first_place p others) ≡ list_any p others → is_some (first_place p (one ∷ others)) ≡ list_any p (one ∷ others)
+some_by p one others true e h = rw e refl
+some_by p one others false e h = rw e (behind (first_place p others) ∙ h)
+  where
+    behind : (a : Option ℕ) → is_some (option_map suc a) ≡ is_some a
+    behind None = refl
+    behind (Some at) = refl
+
+some_any : {A : Type 0} (p : A → Bool) (items : List A) → is_some (first_place p items) ≡ list_any p items
+some_any p [] = refl
+some_any p (one ∷ others) = some_by p one others (p one) refl (some_any p others)
+
+-- the first of a name, exported or not
+pub named_anywhere : (names : List Declared) (whole : List ℕ) → first_place (λ (one : Declared). bytes_eq one.name whole && (one.exported || true)) names ≡ first_place (λ (one : Declared). bytes_eq one.name whole) names
+named_anywhere names whole = same_first (λ (one : Declared). bytes_eq one.name whole && (one.exported || true)) (λ (one : Declared). bytes_eq one.name whole) (λ one. or_true (bytes_eq one.name whole) one.exported) names
+
+-- a name stands in a list where its place is found, exported or not
+pub has_place : (names : List Declared) (whole : List ℕ) → is_some (first_place (λ (one : Declared). bytes_eq one.name whole && (one.exported || true)) names) ≡ list_any (λ (one : Declared). bytes_eq one.name whole) names
+has_place names whole =
+    ap is_some (named_anywhere names whole) ∙ some_any (λ (one : Declared). bytes_eq one.name whole) names

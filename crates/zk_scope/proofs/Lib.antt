@@ -1,5 +1,4 @@
 pub mod WithinLaws
-pub mod LineLaws
 pub mod StmtLaws
 pub mod IndexLaws
 pub mod NameLaws
@@ -10,9 +9,6 @@ pub mod LeadLaws
 pub mod TypeLaws
 pub mod FollowLaws
 pub mod FieldLaws
-pub mod AddLaws
-pub mod BodyLaws
-pub mod ScriptLaws
 pub mod CallLaws
 pub mod StatementCallLaws
 pub mod StreamLaws

@@ -6,8 +6,6 @@ use Rattle.zk_tree.specs.declared.decl.Tree.{Tree}
 use Rattle.zk_tree.specs.declared.types.Type.{«Type»}
 use Rattle.zk_scope.specs.declared.home.Home.{Home as LentHome}
 use Rattle.zk_scope.specs.declared.home.Stated.{Stated as LentStated}
-use Rattle.zk_scope.specs.declared.order.Line.{Line as LentLine}
-use Rattle.zk_scope.specs.declared.order.Finding.{Finding}
 use Rattle.zk_scope.specs.declared.node.Node.{Node as LentNode}
 use Rattle.zk_scope.specs.declared.node.Node.TheVariants as lent
 use Rattle.zk_scope.specs.declared.declared.Declared.{Declared as LentDeclared}
@@ -19,7 +17,7 @@ use Rattle.zk_scope.specs.declared.declared.Signature.{Signature as LentSignatur
 use Rattle.zk_scope.specs.declared.declared.Signature.TheVariants as signature
 use Rattle.zk_typed.specs.Names.{Node, RecordNode, EnumNode, Declared, Meant, KnownType, WrittenType, Word, Variable, Event, Hook, Function, BuiltInFunction, Log, Signature, Known, Written, LogFunction, CreateStream, AddFilter, RemoveFilter, RemoveDefaultFilter, Write}
 use Rattle.zk_typed.specs.View.{type_of}
-use Rattle.zk_typed.specs.LoadOrder.{File, Home, Stated, Line, Found}
+use Rattle.zk_typed.specs.LoadOrder.{File, Home, Stated}
 
 abbrev pub types_lent : List (Bor «Type») → List «Type»
 types_lent types = map (λ one. one.now) types
@@ -38,15 +36,6 @@ stated_of one = record { home = home_of one.home; decl = one.decl.now }
 
 abbrev pub stated_lent : List LentStated → List Stated
 stated_lent stated = map stated_of stated
-
-abbrev pub line_of : LentLine → Line
-line_of line = record { exported = line.exported; decl = line.decl.now }
-
-abbrev pub lines_lent : List LentLine → List Line
-lines_lent lines = map line_of lines
-
-abbrev pub found_of : Finding → Found
-found_of found = record { placed = found.placed.items; module_name = found.module_name.now; stated = stated_lent found.stated.items }
 
 abbrev pub node_of : LentNode → Node
 node_of (lent.Record home place fields) = RecordNode (home_of home) place fields.now

@@ -1,6 +1,5 @@
 pub mod Fields
 pub mod Gathering
-pub mod Given
 pub mod Indexing
 pub mod Keys
 pub mod Grouping
@@ -11,7 +10,6 @@ pub mod Ends
 pub mod Numbering
 pub mod Same
 pub mod Scripted
-pub mod Words
 pub mod Streams
 pub mod Calls
 pub mod Leaves

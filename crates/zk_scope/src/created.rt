@@ -17,7 +17,7 @@ use zk_base::{Mem, RecordNo};
 use zk_tree::Item;
 
 /// What a call of `create_stream` says of a log (Zeek manual, Logging Framework).
-#[derive(Debug, Drop)]
+#[derive(Drop)]
 pub struct Created {
     /// The whole name of the log.
     pub word: Vec<u8>,

@@ -3,7 +3,7 @@ use zk_tree::{Attr, Init, Lasting, Param, Type};
 use zk_typed::script::{BuiltIn, ValueType};
 
 /// The parameters and the result of an event, a hook or a function.
-#[derive(Debug, Drop)]
+#[derive(Drop)]
 pub enum Signature<'a> {
     /// Those of a predefined event.
     Known {
@@ -18,7 +18,7 @@ pub enum Signature<'a> {
 }
 
 /// A function of the log framework.
-#[derive(Clone, Copy, Debug, PartialEq, Eq)]
+#[derive(Clone, Copy, PartialEq, Eq)]
 pub enum LogFunction {
     CreateStream,
     AddFilter,
@@ -28,7 +28,7 @@ pub enum LogFunction {
 }
 
 /// What a name means.
-#[derive(Debug, Drop)]
+#[derive(Drop)]
 pub enum Meant<'a> {
     /// A predefined type.
     KnownType {
@@ -69,7 +69,7 @@ pub enum Meant<'a> {
 }
 
 /// A name that is declared: the whole name, whether it is seen outside its module, and what it means.
-#[derive(Debug, Drop)]
+#[derive(Drop)]
 pub struct Declared<'a> {
     pub name: Vec<u8>,
     pub exported: bool,

@@ -3,7 +3,7 @@ use zk_tree::Expr;
 use zk_typed::script::ValueType;
 
 /// A field of a record type (Zeek manual, Types, record), with the place where its text stands.
-#[derive(Debug, Drop)]
+#[derive(Drop)]
 pub struct FieldInfo<'a> {
     pub name: &'a [u8],
     /// None where the type is broken, which is told in the field's text.

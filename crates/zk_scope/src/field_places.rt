@@ -11,7 +11,7 @@ use zk_tree::Field;
 
 /// Where a field stands: in its record type's own text, or in that of the declaration of `redef record` at a
 /// place among the declarations; and at which place there, from 0.
-#[derive(Clone, Copy, Debug, PartialEq, Eq)]
+#[derive(Clone, Copy, PartialEq, Eq)]
 pub struct FieldPlace {
     pub added: Option<usize>,
     pub at: usize,

@@ -10,7 +10,7 @@ use std::alloc::Global;
 use zk_base::Mem;
 
 /// Where a name stands in a list: first, and first as an exported one.
-#[derive(Clone, Copy, Debug)]
+#[derive(Clone, Copy)]
 pub struct Slot {
     pub first: usize,
     pub exported: Option<usize>,

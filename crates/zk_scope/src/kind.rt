@@ -8,7 +8,7 @@ use crate::declared::{Declared, Meant};
 const LOG_ID: u32 = 1;
 
 /// A kind of names whose members have numbers of their own.
-#[derive(Clone, Copy, Debug, PartialEq, Eq)]
+#[derive(Clone, Copy, PartialEq, Eq)]
 pub enum Kind {
     /// A global or a constant.
     Variable,

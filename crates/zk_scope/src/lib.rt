@@ -2,7 +2,6 @@
 #![tactic(auto)]
 
 mod arguing;
-mod bodies;
 mod calls;
 mod circles;
 mod created;
@@ -14,7 +13,6 @@ mod fielding;
 mod fields;
 mod first_places;
 mod gathering;
-mod given;
 mod grouping;
 mod groups;
 mod home;
@@ -29,8 +27,6 @@ mod making;
 mod name;
 mod node;
 mod numbers;
-mod order;
-mod outright;
 mod predefined;
 mod resolve;
 mod scripts;
@@ -42,7 +38,6 @@ mod types;
 mod typing;
 mod ways;
 mod whole;
-mod words;
 
 pub use arguing::{columns_type, setting, settings};
 pub use calls::{Call, item_expr};
@@ -56,12 +51,10 @@ pub use inner::within;
 pub use kind::Kind;
 pub use known::Names;
 pub use leaves::Leaf;
-pub use making::names;
-pub use name::{has_module, module_of, whole_name};
+pub use name::{has_module, module_of, own_module, whole_name};
 pub use node::{Node, add_decl_nodes, record_count};
-pub use outright::{outright_name, written};
 pub use scripts::Scripts;
-pub use signing::body_signature;
+pub use signing::{body_signature, written};
 pub use statement_calls::decl_calls;
 pub use table::Table;
 pub use types::add_local_types;

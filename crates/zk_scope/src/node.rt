@@ -1,9 +1,9 @@
 ghost use Rattle.std.specs.Prelude.{◌≡◌, ◌+◌, ◌≤◌, ◌^◌, ◌++◌, [], ◌∷◌, filter, flat_map, length, OnOk, OnErr, IfOk, if◌then◌else◌};
 ghost use Rattle.zk_tree.specs.declared.decl.Decl.{out-Decl};
 ghost use Rattle.zk_typed.specs.Within.{within};
-ghost use Rattle.zk_typed.specs.Names.{all_nodes, decl_nodes, is_record, node, type_nodes};
+ghost use Rattle.zk_typed.specs.Names.{decl_nodes, is_record, node, type_nodes};
 ghost use Rattle.zk_scope.specs.Indexing.{passing};
-ghost use Rattle.zk_scope.specs.Lent.{home_of, node_of, nodes_lent, stated_lent, types_lent};
+ghost use Rattle.zk_scope.specs.Lent.{home_of, node_of, nodes_lent, types_lent};
 ghost use Rattle.zk_scope.specs.Numbering.{spot};
 
 use crate::home::{Home, Stated};
@@ -17,7 +17,7 @@ use zk_tree::{Field, Name, Type};
 pub const RECORDS: u32 = 8;
 
 /// A `record {` or an `enum {` in a text: each is a type of its own.
-#[derive(Clone, Copy, Debug)]
+#[derive(Clone, Copy)]
 pub enum Node<'a> {
     Record {
         home: Home<'a>,
@@ -124,17 +124,6 @@ pub fn add_decl_nodes<'a>(
     all_within(&types, &mut found)?;
     add_nodes(one.home, &found, nodes)?;
     Ok(())
-}
-
-/// The records and enums in the texts, in load order.
-pub fn all_nodes<'a>(alloc: Global, stated: &[Stated<'a>]) -> Result<Vec<Node<'a>>, Mem>
-    ensures { IfOk result (λ nodes. nodes_lent nodes.items ≡ all_nodes (stated_lent stated.now)) }
-{
-    let mut nodes = Vec::new(alloc);
-    for one in stated {
-        add_decl_nodes(alloc, *one, &mut nodes)?;
-    }
-    Ok(nodes)
 }
 
 /// Adds the place of a record type.

@@ -9,7 +9,7 @@ use zk_base::{Mem, RecordNo};
 use zk_typed::script::{SimpleType, ValueType};
 
 /// The type of a predefined field.
-#[derive(Clone, Copy, Debug)]
+#[derive(Clone, Copy)]
 pub enum KnownType {
     Simple(SimpleType),
     /// A predefined record type, by its number.
@@ -17,7 +17,7 @@ pub enum KnownType {
 }
 
 /// A field of a predefined record type.
-#[derive(Clone, Copy, Debug)]
+#[derive(Clone, Copy)]
 pub struct KnownField {
     pub name: &'static [u8],
     pub field_type: KnownType,

@@ -64,12 +64,17 @@ impl<'a> Scripts<'a> {
     pub fn new(alloc: Global, names: Names<'a>) -> Result<Scripts<'a>, Mem>
         ensures { IfOk result (λ scripts. scripts_in scripts.names ≡ scripts_in names.entry) }
     {
-        let (fields, logs) = fields_and_logs(alloc, &names)?;
-        Ok(Scripts {
-            names,
-            fields,
-            logs,
-        })
+        match fields_and_logs(alloc, &names) {
+            Ok((fields, logs)) => Ok(Scripts {
+                names,
+                fields,
+                logs,
+            }),
+            Err(refusal) => {
+                drop(names);
+                Err(refusal)
+            }
+        }
     }
 
     /// Where the fields of a record type stand.

@@ -2,6 +2,7 @@ ghost use Rattle.std.specs.Prelude.{◌≡◌, List, Option, map, IfOk};
 ghost use Rattle.std.specs.Option.{option_copied, option_map};
 ghost use Rattle.zk_typed.specs.Checked.{Checked};
 ghost use Rattle.zk_typed.specs.Errors.{kind_of};
+ghost use Rattle.zk_typed.specs.Names.{Written};
 ghost use Rattle.zk_typed.specs.Resolving as spec;
 ghost use Rattle.zk_typed.specs.Tells.{Tells};
 ghost use Rattle.zk_typed.specs.Types as typed;
@@ -62,6 +63,17 @@ fn hushed_type(
         Ok(one) => Ok(one),
         Err(Refusal::Broken(_)) => Err(Refusal::Broken(Items::new(alloc))),
         Err(Refusal::NoMemory) => Err(Refusal::NoMemory),
+    }
+}
+
+/// A signature that is written.
+pub fn written<'a>(home: Home<'a>, params: &'a [Param], given: Option<&'a Type>) -> Signature<'a>
+    ensures { signature_of result ≡ Written (home_of home.entry) params.entry.now (option_copied given.entry) }
+{
+    Signature::Written {
+        home,
+        params,
+        result: given,
     }
 }
 

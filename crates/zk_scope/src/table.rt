@@ -40,9 +40,18 @@ impl<'a> Table<'a> {
         ensures ok { OnOk result (declared_lent self.new.names.items ≡ declared_lent self.old.names.items ++ declared_of one.entry ∷ []) }
         ensures err { OnErr result (declared_lent self.new.names.items ≡ declared_lent self.old.names.items) }
     {
-        let name = Whole::copy_of(alloc, &one.name)?;
-        self.names.reserve(1)?;
-        self.index.add(name, one.exported, self.names.len())?;
+        let Ok(name) = Whole::copy_of(alloc, &one.name) else {
+            drop(one);
+            return Err(Mem);
+        };
+        let Ok(()) = self.names.reserve(1) else {
+            drop(one);
+            return Err(Mem);
+        };
+        let Ok(()) = self.index.add(name, one.exported, self.names.len()) else {
+            drop(one);
+            return Err(Mem);
+        };
         let Ok(()) = self.names.push(one) else {
             unreachable!()
         };

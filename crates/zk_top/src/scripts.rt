@@ -18,7 +18,7 @@ use zk_base::{Bytes, Ending, Mem, ScriptKind, Sequence, Shelf, Word};
 use zk_check::{CheckFault, PACKET_SEEN, check};
 use zk_load::{Found, Stop, load_scripts, read_texts};
 use zk_lower::lower;
-use zk_scope::names;
+use zk_names::names;
 use zk_scripts::default_scripts;
 use zk_tree::Tree;
 use zk_typed::script::{Handler, Program};

@@ -6,7 +6,7 @@ use std::alloc::Global;
 use std::test::Fail;
 use zk_check::{CheckFault, blind, check};
 use zk_load::{Found, read_texts};
-use zk_scope::names;
+use zk_names::names;
 use zk_scripts::default_scripts;
 use zk_typed::Rule;
 use zk_typed::script::Program;

@@ -21,7 +21,8 @@ use std::alloc::Global;
 use zk_base::Mem;
 use zk_check_declarations::{Declaration, FieldNames, Paths, Seen, own_names};
 use zk_check_operators::also;
-use zk_scope::{Declared, Home, Names, Stated, names, outright_name, place_in, whole_name};
+use zk_names::{names, outright_name};
+use zk_scope::{Declared, Home, Names, Stated, place_in, whole_name};
 use zk_tree::{Decl, Name, Type};
 use zk_typed::Refusal;
 

@@ -1,6 +1,6 @@
 use Rattle.std.proofs.Common.{◌≡◌, ℕ, length, Option, unwrap_or, ap, sym, ◌∙◌, arith}
 use Rattle.zk_scope.specs.Lent.{declared_lent}
-use Rattle.zk_scope.proofs.BodyLaws.{named_anywhere}
+use Rattle.zk_scope.proofs.IndexLaws.{named_anywhere}
 use Rattle.zk_scope.proofs.LeadLaws.{lent_length}
 use Rattle.zk_scope.proofs.table.Table.first_named.Goals as goal
 

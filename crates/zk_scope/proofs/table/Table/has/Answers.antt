@@ -1,6 +1,6 @@
 use Rattle.std.proofs.Common.{is_some, ap, ◌∙◌}
 use Rattle.zk_scope.specs.Lent.{declared_lent}
-use Rattle.zk_scope.proofs.BodyLaws.{has_place}
+use Rattle.zk_scope.proofs.IndexLaws.{has_place}
 use Rattle.zk_scope.proofs.table.Table.has.Goals as goal
 
 pub returns : goal.returns

@@ -1,0 +1,4 @@
+pub mod AddLaws
+pub mod BodyLaws
+pub mod LineLaws
+pub mod ScriptLaws

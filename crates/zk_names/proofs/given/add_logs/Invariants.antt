@@ -1,0 +1,7 @@
+use Rattle.std.proofs.Common.{◌≡◌, ◌++◌, map, take}
+use Rattle.zk_names.specs.Given.{log_of}
+use Rattle.zk_scope.specs.Lent.{declared_lent}
+use Rattle.zk_names.proofs.given.add_logs.Given as goal
+
+abbrev pub invariant-loop-one : goal.invariant-loop-one
+invariant-loop-one l = declared_lent l.table.names.items ≡ declared_lent l.fn.table.names.items ++ map log_of (take l.one-index l.functions)

@@ -3,7 +3,7 @@ ghost use Rattle.zk_typed.specs.Declarations as spec;
 ghost use Rattle.zk_typed.specs.View.{type_of};
 ghost use Rattle.zk_check_operators.specs.Attributes.{counted};
 
-use crate::same::same_type;
+use crate::same::is_simple;
 use zk_tree::{Container, Expr, Init};
 use zk_typed::script::{SimpleType, ValueType};
 
@@ -61,8 +61,7 @@ pub fn is_column(one: &ValueType) -> bool
 fn is_counted(one: &ValueType) -> bool
     ensures { result ≡ counted (type_of one.now) }
 {
-    same_type(one, &ValueType::Simple(SimpleType::Count))
-        || same_type(one, &ValueType::Simple(SimpleType::String))
+    is_simple(one, SimpleType::Count) || is_simple(one, SimpleType::String)
 }
 
 /// Whether an attribute may stand at a field of a type.

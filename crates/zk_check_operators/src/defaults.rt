@@ -7,8 +7,7 @@ ghost use Rattle.zk_typed.specs.View.{type_of};
 ghost use Rattle.zk_check_operators.specs.Literals.{literal_with_type, empty_where, default_of};
 
 use crate::literals::interval_of;
-use crate::operands::{INT, INTERVAL};
-use crate::same::{same_simple, same_type};
+use crate::same::{is_simple, same_simple};
 use std::alloc::Global;
 use zk_base::{Addr, Bytes, Mem};
 use zk_tree::{Container, Expr, Literal as Token, Place, Prefix};
@@ -110,18 +109,19 @@ fn literal_default(
 ) -> Result<DefaultValue, Refusal>
     ensures { Tells (λ made. made) result (spec.literal_default place (type_of wanted.now) (literal, simple)) }
 {
-    if same_type(wanted, &ValueType::Simple(simple)) {
+    if is_simple(wanted, simple) {
         return Ok(DefaultValue::Literal {
             literal,
             sign: Sign::Plain,
         });
     }
-    if same_type(wanted, &INT) && same_simple(simple, SimpleType::Count) {
+    if is_simple(wanted, SimpleType::Int) && same_simple(simple, SimpleType::Count) {
         return Ok(DefaultValue::Literal {
             literal,
             sign: Sign::Converted,
         });
     }
+    drop(literal);
     Err(Refusal::Broken(one_broken(alloc, Rule::WrongType, place)?))
 }
 
@@ -135,14 +135,16 @@ fn negative_default(
 ) -> Result<DefaultValue, Refusal>
     ensures { Tells (λ made. made) result (spec.negative_default place (type_of wanted.now) (literal, simple)) }
 {
-    let counts = same_type(wanted, &INT) && same_simple(simple, SimpleType::Count);
-    let spans = same_type(wanted, &INTERVAL) && same_simple(simple, SimpleType::Interval);
+    let counts = is_simple(wanted, SimpleType::Int) && same_simple(simple, SimpleType::Count);
+    let spans = is_simple(wanted, SimpleType::Interval)
+        && same_simple(simple, SimpleType::Interval);
     if counts || spans {
         return Ok(DefaultValue::Literal {
             literal,
             sign: Sign::Negated,
         });
     }
+    drop(literal);
     Err(Refusal::Broken(one_broken(alloc, Rule::WrongType, place)?))
 }
 

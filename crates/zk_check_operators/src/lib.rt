@@ -36,7 +36,7 @@ pub use operands::{
 };
 pub use operators::{arithmetic, choice, inverted, negative, related, truths, turned};
 pub use relations::{binary_of, is_ordered, relates, relation_of};
-pub use same::{same_keys, same_simple, same_type, same_types};
+pub use same::{is_simple, same_keys, same_simple, same_type, same_types};
 pub use shapes::{added_type, empty_of, is_vector, keys_in, plain_shape, update_of};
 pub use table::{arithmetic_of, takes_left};
 pub use texts::{verb_takes, verbs, verbs_take};

@@ -22,13 +22,13 @@ pub fn operands_of(alloc: Global, all: Vec<Typed>) -> Result<Items<Expr>, AllocE
 {
     let mut operands = Items::new(alloc);
     for one in all {
-        operands.push(one.expr)?;
+        operands.push(one.into_expr())?;
     }
     Ok(operands)
 }
 
 /// Whether a type has no parts.
-fn is_simple(one: &ValueType) -> bool
+fn has_no_parts(one: &ValueType) -> bool
     ensures { result ≡ without_parts (type_of one.now) }
 {
     match one {
@@ -45,7 +45,7 @@ pub fn is_left_of_in(keys: &[Typed]) -> bool
     ensures { result ≡ spec.is_left_of_in (typed_all keys.now) }
 {
     for key in keys {
-        if !is_simple(&key.value_type) {
+        if !has_no_parts(&key.value_type) {
             return false;
         }
     }
@@ -122,7 +122,17 @@ fn vector_of(alloc: Global, place: Place, all: &[Typed]) -> Result<ValueType, Re
 pub fn vector_alone(alloc: Global, place: Place, all: Vec<Typed>) -> Result<Typed, Refusal>
     ensures { Tells typed_of result (making.vector_alone place (typed_all all.items)) }
 {
-    let value_type = vector_of(alloc, place, &all)?;
-    let operands = operands_of(alloc, all)?;
-    Ok(applied(value_type, Primitive::NewVector, operands))
+    match vector_of(alloc, place, &all) {
+        Ok(value_type) => match operands_of(alloc, all) {
+            Ok(operands) => Ok(applied(value_type, Primitive::NewVector, operands)),
+            Err(_) => {
+                drop(value_type);
+                Err(Refusal::NoMemory)
+            }
+        },
+        Err(refusal) => {
+            drop(all);
+            Err(refusal)
+        }
+    }
 }

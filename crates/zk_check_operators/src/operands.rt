@@ -5,11 +5,12 @@ ghost use Rattle.zk_typed.specs.Forms as form;
 ghost use Rattle.zk_typed.specs.Operations as operations;
 ghost use Rattle.zk_typed.specs.Predefined as type;
 ghost use Rattle.zk_typed.specs.Tells.{Tells};
+ghost use Rattle.zk_typed.specs.Types.{Simple};
 ghost use Rattle.zk_typed.specs.Typing as spec;
 ghost use Rattle.zk_typed.specs.View.{type_of, expr_of, all_of};
 ghost use Rattle.zk_check_operators.specs.Views.{typed_of, wanted_in, pair_of};
 
-use crate::same::same_type;
+use crate::same::{is_simple, same_type};
 use sqlite_items::Items;
 use std::alloc::{AllocError, Global};
 use zk_tree::Place;
@@ -23,6 +24,15 @@ pub struct Typed {
     pub expr: Expr,
 }
 
+impl Typed {
+    /// The typed form alone.
+    pub fn into_expr(self) -> Expr
+        ensures { result ≡ self.expr }
+    {
+        self.expr
+    }
+}
+
 /// The type that a place wants.
 #[derive(Clone, Copy)]
 pub enum Wanted<'a> {
@@ -32,16 +42,6 @@ pub enum Wanted<'a> {
     /// It isn't known for what is broken elsewhere.
     Unclear,
 }
-
-pub const COUNT: ValueType = ValueType::Simple(SimpleType::Count);
-
-pub const INT: ValueType = ValueType::Simple(SimpleType::Int);
-
-pub const INTERVAL: ValueType = ValueType::Simple(SimpleType::Interval);
-
-pub const STRING: ValueType = ValueType::Simple(SimpleType::String);
-
-pub const BOOL: ValueType = ValueType::Simple(SimpleType::Bool);
 
 /// An operand.
 pub fn one_operand(alloc: Global, one: Expr) -> Result<Items<Expr>, AllocError>
@@ -63,14 +63,14 @@ pub fn two_operands(alloc: Global, one: Expr, other: Expr) -> Result<Items<Expr>
 pub fn value_operand(alloc: Global, one: Typed) -> Result<Items<Expr>, AllocError>
     ensures { IfOk result (λ all. all ≡ one.expr ∷ []) }
 {
-    one_operand(alloc, one.expr)
+    one_operand(alloc, one.into_expr())
 }
 
 /// Two values as operands.
 pub fn value_operands(alloc: Global, one: Typed, other: Typed) -> Result<Items<Expr>, AllocError>
     ensures { IfOk result (λ all. all ≡ one.expr ∷ other.expr ∷ []) }
 {
-    two_operands(alloc, one.expr, other.expr)
+    two_operands(alloc, one.into_expr(), other.into_expr())
 }
 
 /// A primitive of operands.
@@ -113,7 +113,7 @@ pub fn fits(alloc: Global, wanted: &ValueType, one: Typed) -> Result<Option<Type
     if same_type(wanted, &one.value_type) {
         return Ok(Some(one));
     }
-    if same_type(wanted, &INT) && same_type(&one.value_type, &COUNT) {
+    if is_simple(wanted, SimpleType::Int) && is_simple(&one.value_type, SimpleType::Count) {
         return Ok(Some(to_int(alloc, one)?));
     }
     drop(one);
@@ -160,18 +160,18 @@ fn converted(alloc: Global, converts: bool, one: Typed) -> Result<Typed, AllocEr
 }
 
 /// Whether two values have these types.
-fn are(a: &ValueType, first: &ValueType, b: &ValueType, second: &ValueType) -> bool
-    ensures { result ≡ (operations.same_type (type_of a.now) (type_of first.now) && operations.same_type (type_of b.now) (type_of second.now)) }
+fn are(a: &Typed, first: SimpleType, b: &Typed, second: SimpleType) -> bool
+    ensures { result ≡ (operations.same_type (typed_of a.now).type (Simple first) && operations.same_type (typed_of b.now).type (Simple second)) }
 {
-    same_type(a, first) && same_type(b, second)
+    is_simple(&a.value_type, first) && is_simple(&b.value_type, second)
 }
 
 /// Two operands, a count beside an int as an int.
 pub fn beside(alloc: Global, a: Typed, b: Typed) -> Result<(Typed, Typed), AllocError>
     ensures { IfOk result (λ pair. pair_of pair ≡ spec.beside (typed_of a) (typed_of b)) }
 {
-    let first = are(&a.value_type, &COUNT, &b.value_type, &INT);
-    let second = !first && are(&a.value_type, &INT, &b.value_type, &COUNT);
+    let first = are(&a, SimpleType::Count, &b, SimpleType::Int);
+    let second = !first && are(&a, SimpleType::Int, &b, SimpleType::Count);
     match converted(alloc, first, a) {
         Ok(a) => match converted(alloc, second, b) {
             Ok(b) => Ok((a, b)),

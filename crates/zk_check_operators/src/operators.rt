@@ -131,7 +131,7 @@ pub fn related(
 fn boxed(alloc: Global, one: Typed) -> Result<Boxed<Expr>, AllocError>
     ensures { IfOk result (λ made. made ≡ one.expr) }
 {
-    Boxed::new(alloc, one.expr)
+    Boxed::new(alloc, one.into_expr())
 }
 
 /// Two operands, each in a box of its own.

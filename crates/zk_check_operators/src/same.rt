@@ -1,6 +1,7 @@
 ghost use Rattle.std.specs.Prelude.{◌≡◌, map};
 ghost use Rattle.zk_typed.specs.LogCalls as logs;
 ghost use Rattle.zk_typed.specs.Operations as spec;
+ghost use Rattle.zk_typed.specs.Types.{Simple};
 ghost use Rattle.zk_typed.specs.View.{type_of};
 
 use zk_typed::script::{SimpleType, ValueType};
@@ -28,6 +29,19 @@ pub fn same_simple(a: SimpleType, b: SimpleType) -> bool
     ensures { result ≡ spec.same_simple a b }
 {
     simple_number(a) == simple_number(b)
+}
+
+/// Whether a type is the one without parts that is named.
+pub fn is_simple(one: &ValueType, simple: SimpleType) -> bool
+    ensures { result ≡ spec.same_type (type_of one.now) (Simple simple) }
+{
+    match one {
+        ValueType::Simple(own) => same_simple(*own, simple),
+        ValueType::Record(_)
+        | ValueType::Table { .. }
+        | ValueType::Set { .. }
+        | ValueType::Vector { .. } => false,
+    }
 }
 
 /// Whether the types of two keys are the same.

@@ -5,11 +5,11 @@ ghost use Rattle.zk_typed.specs.View.{type_of};
 ghost use Rattle.zk_check_operators.specs.Verbs.{after, verbs_in};
 ghost use Rattle.zk_check_operators.specs.Views.{typed_all};
 
-use crate::operands::{COUNT, INT, Typed};
-use crate::same::same_type;
+use crate::operands::Typed;
+use crate::same::is_simple;
 use std::alloc::{AllocError, Global};
 use zk_base::Bytes;
-use zk_typed::script::ValueType;
+use zk_typed::script::{SimpleType, ValueType};
 
 /// Whether a byte behind `%` is a verb that takes an argument.
 fn is_verb(byte: u8) -> bool
@@ -62,7 +62,9 @@ pub fn verbs(alloc: Global, text: &[u8]) -> Result<Option<Bytes>, AllocError>
 pub fn verb_takes(verb: u8, one: &ValueType) -> bool
     ensures { result ≡ spec.verb_takes verb (type_of one.now) }
 {
-    verb == b's' || same_type(one, &COUNT) || (verb == b'd' && same_type(one, &INT))
+    verb == b's'
+        || is_simple(one, SimpleType::Count)
+        || (verb == b'd' && is_simple(one, SimpleType::Int))
 }
 
 /// Whether verbs take values, one each.

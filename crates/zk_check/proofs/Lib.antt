@@ -1,4 +1,3 @@
-pub mod Views
 mod KindRows
 pub mod SoonerLaws
 pub mod GivenLaws

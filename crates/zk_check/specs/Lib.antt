@@ -1,4 +1,3 @@
-pub mod Givens
 pub mod Faults
 pub mod Sooner
 pub mod Functions

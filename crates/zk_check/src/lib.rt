@@ -5,10 +5,8 @@ mod fault;
 mod judged;
 mod logs;
 mod program;
-mod reads;
 mod rules;
 mod scripts;
 
 pub use fault::CheckFault;
-pub use reads::{PACKET_SEEN, blind};
 pub use scripts::{check, one_program};

@@ -1,8 +1,7 @@
 ghost use Rattle.std.specs.Prelude.{◌≡◌, ◌&&◌};
 ghost use Rattle.std.specs.List.{list_all};
 ghost use Rattle.std.specs.Option.{option_map};
-ghost use Rattle.zk_check_statements.specs.Blocks.{all_stated};
-ghost use Rattle.zk_check.specs.Givens.{given_of, all_given};
+ghost use Rattle.zk_blind.specs.Givens.{given_of, all_given};
 ghost use Rattle.zk_typed.specs.Blind as spec;
 ghost use Rattle.zk_typed.specs.Forms.{Givens};
 ghost use Rattle.zk_typed.specs.View as view;
@@ -157,7 +156,7 @@ fn stmt_blind(program: &Program, one: &Stmt) -> bool
 
 #[cycle(stmt)]
 fn stmts_blind(program: &Program, all: &[Stmt]) -> bool
-    ensures { result ≡ spec.stmts_blind (view.program_of program.now) (all_stated all.now) }
+    ensures { result ≡ list_all (λ one. spec.stmt_blind (view.program_of program.now) (view.stmt_of one)) all.now }
 {
     for one in all {
         if !stmt_blind(program, one) {

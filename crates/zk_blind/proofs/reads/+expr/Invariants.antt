@@ -1,8 +1,8 @@
 use Rattle.std.proofs.Common.{◌≡◌, drop}
 use Rattle.zk_typed.specs.Blind as spec
 use Rattle.zk_typed.specs.View as view
-use Rattle.zk_check.specs.Givens.{all_given}
-use Rattle.zk_check.proofs.reads.+expr.Given as goal
+use Rattle.zk_blind.specs.Givens.{all_given}
+use Rattle.zk_blind.proofs.reads.+expr.Given as goal
 
 abbrev pub invariant-exprs_blind-loop-one : goal.invariant-exprs_blind-loop-one
 invariant-exprs_blind-loop-one l =

@@ -10,13 +10,16 @@ use Rattle.zk_typed.specs.declared.script.expr.Expr.TheOpen as layer
 use Rattle.zk_typed.specs.declared.script.expr.Expr.TheFolds.{fold-roll-Expr}
 use Rattle.zk_typed.specs.declared.script.expr.Expr.TheVariants as expr
 use Rattle.zk_typed.specs.declared.script.primitive.Primitive.{Primitive}
+use Rattle.zk_typed.specs.declared.script.stmt.Stmt.{Stmt, Block, fold-roll-Stmt}
+use Rattle.zk_typed.specs.declared.script.stmt.Stmt.TheOpen as opened
+use Rattle.zk_typed.specs.declared.script.stmt.Stmt.TheVariants.{rolls-Block}
 use Rattle.zk_base.specs.declared.numbers.HookNo.{HookNo}
 use Rattle.zk_base.specs.declared.numbers.RecordNo.{RecordNo}
 use Rattle.zk_typed.specs.Blind as spec
 use Rattle.zk_typed.specs.Forms as form
 use Rattle.zk_typed.specs.Program.{Program}
-use Rattle.zk_typed.specs.View.{exprs_of, expr_of, all_of, givens_of, stmt_of, Prefixed, expr_step, given_step, program_of, global_of, hook_of, hook_body_of, handler_of}
-use Rattle.zk_check.specs.Givens.{given_of, all_given}
+use Rattle.zk_typed.specs.View.{exprs_of, expr_of, all_of, givens_of, stmt_of, stmts_of, stmt_step, Prefixed, expr_step, given_step, program_of, global_of, hook_of, hook_body_of, handler_of}
+use Rattle.zk_blind.specs.Givens.{given_of, all_given}
 
 pub operands_are : (all : List Expr) → exprs_of (map expr_of all) ≡ all_of all
 operands_are [] = refl
@@ -45,6 +48,16 @@ hook_is hook operands =
 pub exprs_are_all : (program : Program) (all : List Expr) → spec.exprs_blind program (all_of all) ≡ list_all (spec.expr_blind program) (map expr_of all)
 exprs_are_all program [] = refl
 exprs_are_all program (first ∷ others) = ap (λ rest. spec.expr_blind program (expr_of first) && rest) (exprs_are_all program others)
+
+pub stmts_are_all : (program : Program) (all : List Stmt) → spec.stmts_blind program (stmts_of (map stmt_of all)) ≡ list_all (λ one. spec.stmt_blind program (stmt_of one)) all
+stmts_are_all program [] = refl
+stmts_are_all program (first ∷ others) = ap (λ rest. spec.stmt_blind program (stmt_of first) && rest) (stmts_are_all program others)
+
+pub block_is_blind : (program : Program) (all : List Stmt) → spec.stmt_blind program (stmt_of (Block all)) ≡ list_all (λ one. spec.stmt_blind program (stmt_of one)) all
+block_is_blind program all =
+    ap (λ one. spec.stmt_blind program (stmt_of one)) (sym (rolls-Block all))
+    ∙ ap (spec.stmt_blind program) (fold-roll-Stmt form.Stmt stmt_step (opened.Block all))
+    ∙ stmts_are_all program all
 
 pub hook_is_blind : (program : Program) (hook : Hook) → spec.hook_blind program (hook_of hook) ≡ list_all (λ body. spec.stmt_blind program (stmt_of body.body)) hook.bodies
 hook_is_blind program hook = list_all-map (λ body. spec.stmt_blind program body.body) hook_body_of hook.bodies

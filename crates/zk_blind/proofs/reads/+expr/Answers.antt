@@ -1,8 +1,8 @@
 use Rattle.std.proofs.Common.{rules, ap, ◌∙◌}
 use Rattle.zk_typed.specs.Blind as spec
 use Rattle.zk_typed.specs.View as view
-use Rattle.zk_check.proofs.Views.{apply_is, new_is, call_is, hook_is}
-use Rattle.zk_check.proofs.reads.+expr.Goals as goal
+use Rattle.zk_blind.proofs.Views.{apply_is, new_is, call_is, hook_is}
+use Rattle.zk_blind.proofs.reads.+expr.Goals as goal
 
 pub expr_blind-returns-then-primitive_blind : goal.expr_blind-returns-then-primitive_blind
 expr_blind-returns-then-primitive_blind t c =

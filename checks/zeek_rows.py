@@ -62,6 +62,11 @@ def not_there(module):
     return Refused("Unknown", body(f"{MARK}{module}();"))
 
 
+def over(packets, lines, script, options=("-C",)):
+    """What a script says beside the default ones over a capture that was made by hand."""
+    return Says(script, lines, options, "packets.pcap", packets=packets)
+
+
 ONE = {"one.zeek": "event zeek_init() { print 1; }"}
 DEFAULTS = ()
 INFO = """module Mine; export { redef enum Log::ID += { LOG }; type Info: record { a: count &log; b: count &log &default=0; }; }
@@ -144,11 +149,21 @@ EVENTS = {
         never("connection_finished(c: connection)"),
         Says('event connection_state_remove(c: connection) { if (c$proto == tcp && c$conn_state == "SF") print c$uid; }',
              "C5\nC7\n", capture="web.pcap")],
-    "`connection_half_finished`, `connection_partial_close`, `connection_pending`, `partial_connection`": [
-        never("connection_half_finished(c: connection)"), never("connection_partial_close(c: connection)"),
-        never("connection_pending(c: connection)"), never("partial_connection(c: connection)"),
-        Says('event connection_state_remove(c: connection) { if (c$conn_state in set("S1", "S2", "S3", "SH", "SHR", "OTH")) '
-             "print c$conn_state; }", "", capture="web.pcap")],
+    "`connection_half_finished(c: connection)`": [
+        never("connection_half_finished(c: connection)"),
+        over(capture(*(conversation(10)[place] for place in (1, 4, 6))), "SHR\n",
+             'event connection_state_remove(c: connection) { if (c$conn_state == "SH" || c$conn_state == "SHR") print c$conn_state; }')],
+    "`connection_pending(c: connection)`": [
+        never("connection_pending(c: connection)"),
+        over(capture(*conversation(10, ends=False)), "S1\n",
+             'event connection_state_remove(c: connection) { if (c$conn_state == "S1") print c$conn_state; }')],
+    "`connection_partial_close`, `partial_connection`": [
+        never("connection_partial_close(c: connection)"), never("partial_connection(c: connection)"),
+        over(capture(*conversation(10)[2:]), "OTH\n",
+             'event connection_state_remove(c: connection) { if (c$conn_state == "OTH") print c$conn_state; }')],
+    "`connection_reset`, of established connections alone": [
+        Says("event connection_reset(c: connection) { print c$uid, c$conn_state; }", "C6, REJ\n", capture="web.pcap"),
+        Says('event connection_reset(c: connection) { if (c$conn_state in set("RSTO", "RSTR")) print c$uid; }', "", capture="web.pcap")],
     "`connection_timeout`, `successful_connection_remove`": [
         never("connection_timeout(c: connection)"), never("successful_connection_remove(c: connection)"),
         Says("global n = 0; event connection_state_remove(c: connection) { ++n; } event zeek_done() { print n; }", "7\n",
@@ -239,6 +254,7 @@ TYPES = {
              '{ if (cat(a) == "2001:db8::7") print c$uid; }', "C3\n", capture="web.pcap")],
     "`/re/`, `pattern`": [
         Refused("Unknown", f"global p: {MARK}pattern;"), Refused("NoTree", body('if (/evil/ in "evil") print 1;')),
+        Refused("BadByte", body(f'if (/an{MARK}.evil/ in "evil") print 1;')), Refused("BadByte", body(f'if (/{MARK}\\.evil/ in "evil") print 1;')),
         Says(body('local s = "an evil word"; if ("evil" in s) print strstr(s, "evil"), starts_with(s, "an");'), "4, T\n")],
     "`any`": [
         Refused("Unknown", f"function f(x: {MARK}any) {{ }}"), Says("function f(x: count) { print x; } " + body("f(1);"), "1\n")],
@@ -678,11 +694,6 @@ RECORDS = {
 }
 
 ROWS = {**COMMANDS, **LOADS, **EVENTS, **TYPES, **ATTRIBUTES, **OPERATORS, **STATEMENTS, **FUNCTIONS, **FRAMEWORK, **RECORDS}
-
-
-def over(packets, lines, script="", options=("-C",), **logs):
-    """What the default scripts and another one say of a capture, and the cells of their logs, by `LOG_COLUMNS`."""
-    return Says(script, lines, options, "packets.pcap", logs=logs, packets=packets)
 
 
 # The rows of the default logs, short.

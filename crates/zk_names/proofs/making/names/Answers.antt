@@ -11,8 +11,8 @@ use Rattle.zk_names.proofs.making.names.Goals as goal
 pub returns-in_ok-names-in-Ok : goal.returns-in_ok-names-in-Ok
 unfolding scripts_in
 returns-in_ok-names-in-Ok c =
-    same_scripts _ _ _ _ _ _ (c.in_ok-names-in-Ok.ensures.stated ∙ c.texts_of.ensures.stated ∙ ap (λ (x : Scripts). x.stated) c.in_ok-known.ensures)
-    (c.in_ok-names-in-Ok.ensures.nodes ∙ c.texts_of.ensures.nodes ∙ ap (λ (x : Scripts). x.nodes) c.in_ok-known.ensures)
+    same_scripts _ _ _ _ _ _ (c.in_ok-names-in-Ok.ensures.stated ∙ c.texts_of-stated.ensures.stated ∙ ap (λ (x : Scripts). x.stated) c.in_ok-known.ensures)
+    (c.in_ok-names-in-Ok.ensures.nodes ∙ c.texts_of-stated.ensures.nodes ∙ ap (λ (x : Scripts). x.nodes) c.in_ok-known.ensures)
     (c.in_ok-names-in-Ok.ensures.names ∙ c.in-Ok.ensures ∙
     ap (λ (x : Scripts). with_bodies x.stated (predefined_names ++ flat_map (with_words x) x.stated)) c.in_ok-known.ensures ∙
     all_known (load_order (files_of c.args.files.now)))

@@ -1,4 +1,6 @@
 mod ChecksumLemmas
 mod FileLemmas
+pub mod HeldLemmas
 mod MemShelfLemmas
 mod Rows
+pub mod TimeLemmas

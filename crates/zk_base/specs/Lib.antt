@@ -1,12 +1,17 @@
 pub mod ByteQueue
+pub mod Captured
 pub mod Checksum
 pub mod Contents
 pub mod Counts
 pub mod Ending
 pub mod Faults
+pub mod Fetching
 pub mod Files
+pub mod Held
 pub mod MemShelf
+pub mod NetworkTime
 pub mod Places
 pub mod Shelf
+pub mod Sides
 pub mod Slices
 pub mod SureShelf

@@ -1,12 +1,15 @@
 //! The types that every crate of zeekoff speaks of, and the outside as the program sees it.
 #![tactic(auto)]
 
+mod body;
 mod byte_queue;
 mod bytes;
+mod capture;
 mod checksum;
 mod contents;
 mod counts;
 mod endings;
+mod held;
 mod mem_shelf;
 mod memory;
 mod network;
@@ -16,11 +19,14 @@ mod shelf;
 mod sure_shelf;
 mod time;
 
+pub use body::{Body, Nowhere};
 pub use byte_queue::ByteQueue;
 pub use bytes::{Bytes, Word};
+pub use capture::{CAPTURE_MAX, CaptureEnding, PacketView, RECORD_BYTES_MAX};
 pub use checksum::{is_right_checksum, word_sum};
 pub use counts::Counts;
 pub use endings::{Ending, ScriptKind};
+pub use held::Held;
 pub use mem_shelf::MemShelf;
 pub use memory::Mem;
 pub use network::{Addr, IP4_TOTAL_LENGTH_MAX, LINKTYPE_ETHERNET, LINKTYPE_RAW, Proto, Side};

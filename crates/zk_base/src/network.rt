@@ -1,3 +1,6 @@
+ghost use Rattle.zk_base.specs.Sides.{other};
+ghost use Rattle.std.specs.Prelude.{◌≡◌};
+
 /// The link type of Ethernet frames (LINKTYPE_ETHERNET in the list of link types of the capture
 /// format).
 pub const LINKTYPE_ETHERNET: u16 = 1;
@@ -34,4 +37,16 @@ pub enum Side {
     Orig,
     /// The responder.
     Resp,
+}
+
+impl Side {
+    /// The other end.
+    pub fn other(self) -> Side
+        ensures { result ≡ other self }
+    {
+        match self {
+            Side::Orig => Side::Resp,
+            Side::Resp => Side::Orig,
+        }
+    }
 }

@@ -3,8 +3,5 @@ pub mod Header
 pub mod Record
 pub mod View
 pub mod Capture
-pub mod NetworkTime
 pub mod Feed
 pub mod Standing
-pub mod Held
-pub mod Fetching

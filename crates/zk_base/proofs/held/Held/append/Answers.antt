@@ -1,7 +1,7 @@
 use Rattle.std.proofs.Common.{◌+◌, ◌≤◌, ◌++◌, length, refl, ap, ◌∙◌, arith, take_all}
-use Rattle.zk_pcap.specs.Held.{bytes_of}
-use Rattle.zk_pcap.proofs.HeldLemmas.{written_behind}
-use Rattle.zk_pcap.proofs.held.Held.append.Goals as goal
+use Rattle.zk_base.specs.Held.{bytes_of}
+use Rattle.zk_base.proofs.HeldLemmas.{written_behind}
+use Rattle.zk_base.proofs.held.Held.append.Goals as goal
 
 pub returns-clause-ok : goal.returns-clause-ok
 unfolding bytes_of

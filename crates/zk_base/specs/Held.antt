@@ -1,6 +1,6 @@
 -- What is held of a capture whose bytes come in pieces.
 use Rattle.std.specs.Prelude.{ℕ, List, take, drop}
-use Rattle.zk_pcap.specs.declared.held.Held.{Held}
+use Rattle.zk_base.specs.declared.held.Held.{Held}
 
 -- the bytes that are left: those behind what was taken, up to the end
 unfoldable pub bytes_of : Held → List ℕ

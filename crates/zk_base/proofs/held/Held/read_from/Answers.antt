@@ -1,8 +1,8 @@
 use Rattle.std.proofs.Common.{rules, ◌≡◌, ◌+◌, ◌-◌, ◌≤◌, length, take, drop, refl, arith}
-use Rattle.zk_pcap.specs.Held.{bytes_of}
-use Rattle.zk_pcap.specs.Fetching.{count_of}
-use Rattle.zk_pcap.proofs.HeldLemmas.{written_behind, gives_none}
-use Rattle.zk_pcap.proofs.held.Held.read_from.Goals as goal
+use Rattle.zk_base.specs.Held.{bytes_of}
+use Rattle.zk_base.specs.Fetching.{count_of}
+use Rattle.zk_base.proofs.HeldLemmas.{written_behind, gives_none}
+use Rattle.zk_base.proofs.held.Held.read_from.Goals as goal
 
 pub returns-in-Bytes-clause-read : goal.returns-in-Bytes-clause-read
 unfolding bytes_of

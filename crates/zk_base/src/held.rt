@@ -1,9 +1,9 @@
 ghost use Rattle.std.specs.Prelude.{◌≡◌, ◌+◌, ◌≤◌, ◌<◌, ◌++◌, [], length, drop, vec_len, IsTrue, IfOk, OnOk, OnErr};
 ghost use Rattle.zk_base.specs.Shelf.{is_open};
-ghost use Rattle.zk_pcap.specs.Fetching.{Fetches};
+ghost use Rattle.zk_base.specs.Fetching.{Fetches};
 
+use crate::{Got, Mem, Shelf};
 use std::alloc::Global;
-use zk_base::{Got, Mem, Shelf};
 
 /// Bytes that come in at the end and are taken from the front. The room that they lie in is filled
 /// once and stays, so that a shelf reads straight into it. What was taken is let go of where room is
@@ -21,7 +21,7 @@ pub struct Held {
 
 #[tactic(auto, unfolding(crate::specs::Held::bytes_of))]
 impl Held {
-    ghost use Rattle.zk_pcap.specs.Held.{bytes_of};
+    ghost use Rattle.zk_base.specs.Held.{bytes_of};
 
     /// No bytes. No memory is taken.
     pub fn new(alloc: Global) -> Held

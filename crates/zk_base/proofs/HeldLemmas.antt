@@ -7,7 +7,7 @@ use Rattle.std.specs.Vec.{with_items}
 use Rattle.zk_base.specs.declared.shelf.Got.{Got}
 use Rattle.zk_base.specs.declared.shelf.Got.TheVariants as got
 use Rattle.zk_base.specs.Shelf.{Outside}
-use Rattle.zk_pcap.specs.Fetching.{Fetches, count_of}
+use Rattle.zk_base.specs.Fetching.{Fetches, count_of}
 
 -- the first bytes of what is written behind the first ones of a room
 first_written : (room written behind : List ℕ) (taken end n : ℕ) → taken ≤ end → end ≤ length room → n ≤ length written

@@ -157,6 +157,10 @@ reading_first files name i at =
     let first = first_at files name i at in
     ap (λ file. reading_at file 0) (slice_get-get_or files i ([], []) first.within) ∙ ap (λ own. At own 0) (first.named ([], []))
 
+-- a position is no other than this one
+pub at_same : (files : Pairs) (position other : Position) → Some position ≡ Some other → IsAt files position → IsAt files other
+at_same files position other same at = subst (IsAt files) (let is : position ≡ other = cc in is) at
+
 -- An input is open at a position, and this is its file.
 module _ (files : Pairs) (held : Option Position) (position : Position) (file : List ℕ × List ℕ)
     (is : held ≡ Some position) (at : IsAt files position) (here : slice_get files position.file ≡ Some file) where

@@ -1,4 +1,5 @@
 mod ChecksumLemmas
+mod CountLemmas
 mod FileLemmas
 pub mod HeldLemmas
 mod MemShelfLemmas

@@ -9,7 +9,7 @@ use Rattle.zk_base.specs.declared.shelf.Got.{Got}
 use Rattle.zk_base.specs.declared.shelf.Got.TheVariants as got
 use Rattle.zk_base.specs.declared.shelf.Wrote.{Wrote}
 use Rattle.zk_base.specs.declared.shelf.Wrote.TheVariants as wrote
-use Rattle.zk_base.specs.Faults.{one_more, with_emptied, first_half}
+use Rattle.zk_base.specs.Faults.{one_more, with_emptied, with_write_fault, first_half}
 use Rattle.zk_base.specs.Shelf.{Files, Outside, HasRisen, Starts, Reads, Creates, Puts, with_file, without_file}
 use Rattle.zk_base.specs.MemShelf.{MemState, Succeeds, Fails, MemStarts, MemReads, MemCreates, MemPuts}
 use Rattle.zk_base.proofs.FileLemmas.{same_name}
@@ -70,7 +70,7 @@ creates old name wrote.Failed new failed = record {
   count = one_more old.outside.write_faults;
   risen = has_risen old.outside.write_faults;
   after = left_failed old _ new failed
-      ∙ ap (λ outputs. record old.outside { outputs = outputs; write_faults = one_more old.outside.write_faults }) (emptied_where_there old.outside.outputs name);
+      ∙ ap (λ outputs. with_write_fault (record old.outside { outputs = outputs })) (emptied_where_there old.outside.outputs name);
 }
 creates old name wrote.NoMemory new same = ap (λ (s : MemState). s.outside) same
 

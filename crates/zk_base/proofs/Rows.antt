@@ -1,11 +1,12 @@
 -- What the definitions give at some values, computed by the checker.
 use Rattle.std.specs.Prelude.{◌≡◌, ℕ, ◌-◌, ◌^◌, List, [], ◌∷◌, sum, true, false, Some, None, codes, refl}
 use Rattle.zk_base.specs.declared.network.TheConstants.{LINKTYPE_ETHERNET, LINKTYPE_RAW, IP4_TOTAL_LENGTH_MAX}
+use Rattle.zk_base.specs.declared.shelf.Fault.TheVariants as fault
 use Rattle.zk_base.specs.Checksum.{words, folded, ones_complement_sum}
-use Rattle.zk_base.specs.Shelf.{At, rest_of, with_piece}
+use Rattle.zk_base.specs.Shelf.{At, rest_of, with_piece, after_say}
 use Rattle.zk_base.specs.Files.{files_of}
 use Rattle.zk_base.specs.Contents.{at_first}
-use Rattle.zk_base.specs.Faults.{one_more, first_half, with_emptied}
+use Rattle.zk_base.specs.Faults.{one_more, first_half, with_emptied, after_failed_read, with_write_fault}
 use Rattle.zk_base.specs.MemShelf.{MemState, fails_next, next_number}
 
 -- Files -----------------------------------------------------------------------------------------------------
@@ -48,6 +49,15 @@ half_of_five_bytes_is_two = refl
 
 pub half_of_a_byte_is_none : first_half (codes "1") ≡ []
 half_of_a_byte_is_none = refl
+
+pub a_failed_read_is_the_last_fault : (after_failed_read (at_first [])).last ≡ Some fault.Read
+a_failed_read_is_the_last_fault = refl
+
+pub a_failed_write_is_the_last_fault : (with_write_fault (after_failed_read (at_first []))).last ≡ Some fault.Write
+a_failed_write_is_the_last_fault = refl
+
+pub no_fault_stays_behind_a_write : (after_say (after_failed_read (at_first [])) []).last ≡ None
+no_fault_stays_behind_a_write = refl
 
 pub an_output_is_emptied : with_emptied (files_of (log ∷ [])) (codes "log") (codes "log") ≡ Some []
 an_output_is_emptied = refl

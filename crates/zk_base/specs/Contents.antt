@@ -18,6 +18,7 @@ outside_of c = record {
   read_faults = c.counts.read_faults;
   write_faults = c.counts.write_faults;
   absences = c.counts.absences;
+  last = c.counts.last;
 }
 
 -- the outside that such a shelf shows at first, with these inputs: nothing is written or started yet
@@ -32,6 +33,7 @@ at_first inputs = record {
   read_faults = 0;
   write_faults = 0;
   absences = 0;
+  last = None;
 }
 
 -- A read gives as many bytes as the open input has left and the buffer holds. Where it gives none the buffer is as it was.

@@ -8,7 +8,7 @@ use Rattle.zk_base.specs.declared.shelf.Got.TheVariants as got
 use Rattle.zk_base.specs.declared.shelf.Wrote.{Wrote}
 use Rattle.zk_base.specs.declared.shelf.Wrote.TheVariants as wrote
 use Rattle.zk_base.specs.declared.mem_shelf.MemShelf.{MemShelf}
-use Rattle.zk_base.specs.Shelf.{Outside, OpensInput, GivesBytes, IsReadOut, created}
+use Rattle.zk_base.specs.Shelf.{Outside, OpensInput, GivesBytes, IsReadOut, created, without_fault}
 use Rattle.zk_base.specs.Contents.{outside_of}
 use Rattle.zk_base.specs.Faults.{one_more, after_absence, after_failed_start, after_failed_read, after_failed_create, with_write_fault, first_half}
 
@@ -44,6 +44,10 @@ pub record Fails (old : MemState) (outside : Outside) (new : MemState) : Type 0 
   pub due : fails_next old ≡ true
   pub after : new ≡ record old { outside = outside; calls = next_number old }
 
+-- a call that found no memory has no number, and takes the last fault away alone
+abbrev pub FindsNoMemory : MemState → MemState → Type 0
+FindsNoMemory old new = new ≡ record old { outside = without_fault old.outside }
+
 -- Starting and reading an input ----------------------------------------------------------------------------
 
 -- what a start leaves
@@ -51,7 +55,7 @@ abbrev pub MemStarts : MemState → List ℕ → Started → MemState → Type 0
 MemStarts old name started.Open new = Succeeds old new.outside new × OpensInput old.outside name new.outside
 MemStarts old name started.Absent new = Succeeds old (after_absence old.outside name) new × IfSome old.outside.inputs (λ files. IsNone (files name))
 MemStarts old name started.Failed new = Fails old (after_failed_start old.outside name) new
-MemStarts old name started.NoMemory new = new ≡ old
+MemStarts old name started.NoMemory new = FindsNoMemory old new
 
 -- what a read into a buffer leaves
 abbrev pub MemReads : MemState → List ℕ → Got → List ℕ → MemState → Type 0
@@ -65,13 +69,13 @@ MemReads old before got.Failed after new = Fails old (after_failed_read old.outs
 abbrev pub MemCreates : MemState → List ℕ → Wrote → MemState → Type 0
 MemCreates old name wrote.Done new = Succeeds old (created old.outside name) new
 MemCreates old name wrote.Failed new = Fails old (after_failed_create old.outside name) new
-MemCreates old name wrote.NoMemory new = new ≡ old
+MemCreates old name wrote.NoMemory new = FindsNoMemory old new
 
 -- what a write of a piece leaves, where after says how the outside is after a piece
 abbrev pub MemPuts : (List ℕ → Outside) → MemState → List ℕ → Wrote → MemState → Type 0
 MemPuts after old piece wrote.Done new = Succeeds old (after piece) new
 MemPuts after old piece wrote.Failed new = Fails old (with_write_fault (after (first_half piece))) new
-MemPuts after old piece wrote.NoMemory new = new ≡ old
+MemPuts after old piece wrote.NoMemory new = FindsNoMemory old new
 
 -- how a write ends that has done its work or found no memory for it
 abbrev pub EndsWrite : MemState → Wrote → MemState → Type 0

@@ -2,6 +2,8 @@
 use Rattle.std.specs.Prelude.{◌≡◌, ℕ, ◌+◌, ◌-◌, ◌^◌, ◌≤◌, min, List, [], ◌∷◌, ◌++◌, length, take, drop, Bool, true, false, Option, Some, None, IfSome, IsSome, IsNone, if◌then◌else◌}
 use Rattle.std.specs.Option.{option_map}
 use Rattle.std.specs.Str.{bytes_eq}
+use Rattle.zk_base.specs.declared.shelf.Fault.{Fault}
+use Rattle.zk_base.specs.declared.shelf.Fault.TheVariants as fault
 use Rattle.zk_base.specs.declared.shelf.Started.{Started}
 use Rattle.zk_base.specs.declared.shelf.Started.TheVariants as started
 use Rattle.zk_base.specs.declared.shelf.Got.{Got}
@@ -47,6 +49,12 @@ pub record Outside : Type 0 where
   pub read_faults : ℕ
   pub write_faults : ℕ
   pub absences : ℕ
+  -- what the last call failed at, if it did
+  pub last : Option Fault
+
+-- the last call didn't fail
+abbrev pub without_fault : Outside → Outside
+without_fault o = record o { last = None }
 
 -- a count has risen: it is greater, or it stands at its last value
 pub record HasRisen (old new : ℕ) : Type 0 where
@@ -68,22 +76,22 @@ abbrev pub opened : Option Files → List ℕ → Reading
 opened None name = Untold
 opened (Some files) name = At name 0
 
--- a start that fails is counted, and leaves no input open
+-- a start that fails is counted and is the last fault, and leaves no input open
 pub record FailsToStart (old : Outside) (name : List ℕ) (new : Outside) : Type 0 where
   pub count : ℕ
   pub risen : HasRisen old.read_faults count
-  pub after : new ≡ record old { started = named old.started name; reading = Closed; read_faults = count }
+  pub after : new ≡ record old { started = named old.started name; reading = Closed; read_faults = count; last = Some fault.Read }
 
 -- an absent name is counted, leaves no input open, and is none of the told inputs
 pub record FindsNone (old : Outside) (name : List ℕ) (new : Outside) : Type 0 where
   pub count : ℕ
   pub risen : HasRisen old.absences count
-  pub after : new ≡ record old { started = named old.started name; reading = Closed; absences = count }
+  pub after : new ≡ record old { started = named old.started name; reading = Closed; absences = count; last = None }
   pub lacks : IfSome old.inputs (λ files. IsNone (files name))
 
 -- an input is opened at place 0, and told inputs hold its name
 pub record OpensInput (old : Outside) (name : List ℕ) (new : Outside) : Type 0 where
-  pub after : new ≡ record old { started = named old.started name; reading = opened old.inputs name }
+  pub after : new ≡ record old { started = named old.started name; reading = opened old.inputs name; last = None }
   pub holds : IfSome old.inputs (λ files. IsSome (files name))
 
 -- what a start leaves
@@ -91,7 +99,7 @@ abbrev pub Starts : Outside → List ℕ → Started → Outside → Type 0
 Starts old name started.Open new = OpensInput old name new
 Starts old name started.Absent new = FindsNone old name new
 Starts old name started.Failed new = FailsToStart old name new
-Starts old name started.NoMemory new = new ≡ old
+Starts old name started.NoMemory new = new ≡ without_fault old
 
 -- Reading the open input ----------------------------------------------------------------------------------
 
@@ -122,18 +130,18 @@ pub record GivesBytes (old : Outside) (before : List ℕ) (n : ℕ) (after : Lis
   pub some : 1 ≤ n
   pub within : n ≤ length before
   pub bytes : IfSome (rest_of old) (λ rest. (n ≤ length rest) × (after ≡ take n rest ++ drop n before))
-  pub goes_on : new ≡ record old { reading = advanced old.reading n }
+  pub goes_on : new ≡ record old { reading = advanced old.reading n; last = None }
 
 -- the end of an input comes only where a told input is read out
 pub record IsReadOut (old : Outside) (new : Outside) : Type 0 where
   pub out : IfSome (rest_of old) (λ rest. rest ≡ [])
-  pub same : new ≡ old
+  pub same : new ≡ without_fault old
 
--- a read that fails is counted
+-- a read that fails is counted, and is the last fault
 pub record FailsToRead (old : Outside) (new : Outside) : Type 0 where
   pub count : ℕ
   pub risen : HasRisen old.read_faults count
-  pub after : new ≡ record old { read_faults = count }
+  pub after : new ≡ record old { read_faults = count; last = Some fault.Read }
 
 -- what a read into a buffer leaves
 abbrev pub Reads : Outside → List ℕ → Got → List ℕ → Outside → Type 0
@@ -145,9 +153,9 @@ Reads old before got.Failed after new = FailsToRead old new
 
 -- an output is made, or emptied
 abbrev pub created : Outside → List ℕ → Outside
-created o name = record o { outputs = option_map (λ files. with_file files name []) o.outputs }
+created o name = record o { outputs = option_map (λ files. with_file files name []) o.outputs; last = None }
 
--- an output that couldn't be made is counted, and the output is absent or empty
+-- an output that couldn't be made is counted and is the last fault, and the output is absent or empty
 pub record FailsToCreate (old : Outside) (name : List ℕ) (new : Outside) : Type 0 where
   pub there : Bool
   pub count : ℕ
@@ -155,13 +163,14 @@ pub record FailsToCreate (old : Outside) (name : List ℕ) (new : Outside) : Typ
   pub after : new ≡ record old {
     outputs = option_map (λ files. if there then with_file files name [] else without_file files name) old.outputs;
     write_faults = count;
+    last = Some fault.Write;
   }
 
 -- what the making of an output leaves
 abbrev pub Creates : Outside → List ℕ → Wrote → Outside → Type 0
 Creates old name wrote.Done new = new ≡ created old name
 Creates old name wrote.Failed new = FailsToCreate old name new
-Creates old name wrote.NoMemory new = new ≡ old
+Creates old name wrote.NoMemory new = new ≡ without_fault old
 
 -- where outputs are told, there is one of this name
 abbrev pub IsCreated : Outside → List ℕ → Type 0
@@ -173,23 +182,23 @@ with_piece files name piece = λ other. if bytes_eq name other then appended (fi
 
 -- the outside after a piece is added to an output, said, or complained
 abbrev pub after_append : Outside → List ℕ → List ℕ → Outside
-after_append o name piece = record o { outputs = option_map (λ files. with_piece files name piece) o.outputs }
+after_append o name piece = record o { outputs = option_map (λ files. with_piece files name piece) o.outputs; last = None }
 
 abbrev pub after_say : Outside → List ℕ → Outside
-after_say o piece = record o { said = appended o.said piece }
+after_say o piece = record o { said = appended o.said piece; last = None }
 
 abbrev pub after_complaint : Outside → List ℕ → Outside
-after_complaint o piece = record o { complained = appended o.complained piece }
+after_complaint o piece = record o { complained = appended o.complained piece; last = None }
 
--- a write that fails is counted, and has put a prefix of its piece
+-- a write that fails is counted and is the last fault, and has put a prefix of its piece
 pub record PutsPrefix (after : List ℕ → Outside) (old : Outside) (piece : List ℕ) (new : Outside) : Type 0 where
   pub length : ℕ
   pub count : ℕ
   pub risen : HasRisen old.write_faults count
-  pub left : new ≡ record (after (take length piece)) { write_faults = count }
+  pub left : new ≡ record (after (take length piece)) { write_faults = count; last = Some fault.Write }
 
 -- what a write of a piece leaves, where after says how the outside is after a piece
 abbrev pub Puts : (List ℕ → Outside) → Outside → List ℕ → Wrote → Outside → Type 0
 Puts after old piece wrote.Done new = new ≡ after piece
 Puts after old piece wrote.Failed new = PutsPrefix after old piece new
-Puts after old piece wrote.NoMemory new = new ≡ old
+Puts after old piece wrote.NoMemory new = new ≡ without_fault old

@@ -94,8 +94,8 @@ pub struct Position {
     pub place: usize,
 }
 
-/// What a shelf in memory holds, with its counts. Its plain calls never fail; those named
-/// `fail_to_` do what a call does that fails.
+/// What a shelf in memory holds, with its counts and its last fault. Its plain calls never fail; those
+/// named `fail_to_` do what a call does that fails.
 #[derive(Debug, Drop)]
 pub struct Contents {
     alloc: Global,
@@ -112,7 +112,7 @@ pub struct Contents {
 impl Contents {
     ghost use Rattle.zk_base.specs.Contents.{outside_of, at_first, Fills};
     ghost use Rattle.zk_base.specs.Faults.{after_absence, after_failed_start, after_failed_read, after_failed_create, with_write_fault};
-    ghost use Rattle.zk_base.specs.Shelf.{Starts, is_open, Reads, Creates, IsCreated, Puts, after_append, after_say, after_complaint};
+    ghost use Rattle.zk_base.specs.Shelf.{Starts, is_open, Reads, Creates, IsCreated, Puts, after_append, after_say, after_complaint, without_fault};
 
     /// These inputs, nothing written and no count risen. No memory is taken.
     pub fn new(alloc: Global, inputs: Vec<File>) -> Contents
@@ -136,6 +136,7 @@ impl Contents {
         ensures sure { result ≢ Started.Failed }
         ensures absent { result ≡ Started.Absent → outside_of self.new ≡ after_absence (outside_of self.old) name.now }
     {
+        self.counts.clear_fault();
         let Ok(()) = note(self.alloc, &mut self.started, name) else {
             return Started::NoMemory;
         };
@@ -155,9 +156,10 @@ impl Contents {
     /// Notes the name of an input, opens none, and fails.
     pub fn fail_to_start(&mut self, name: &[u8]) -> Started
         ensures failed { result ≡ Started.Failed → outside_of self.new ≡ after_failed_start (outside_of self.old) name.now }
-        ensures memory { result ≡ Started.NoMemory → outside_of self.new ≡ outside_of self.old }
+        ensures memory { result ≡ Started.NoMemory → outside_of self.new ≡ without_fault (outside_of self.old) }
         ensures never_open { (result ≢ Started.Open) × (result ≢ Started.Absent) }
     {
+        self.counts.clear_fault();
         let Ok(()) = note(self.alloc, &mut self.started, name) else {
             return Started::NoMemory;
         };
@@ -174,6 +176,7 @@ impl Contents {
         ensures fills { Fills (outside_of self.old) buf.old result buf.new }
         ensures sure { result ≢ Got.Failed }
     {
+        self.counts.clear_fault();
         let Some(position) = self.position else {
             unreachable!()
         };
@@ -203,6 +206,7 @@ impl Contents {
         ensures leaves { Creates (outside_of self.old) name.now result (outside_of self.new) }
         ensures sure { result ≢ Wrote.Failed }
     {
+        self.counts.clear_fault();
         let Ok(name) = Bytes::copy_of(self.alloc, name) else {
             return Wrote::NoMemory;
         };
@@ -226,6 +230,7 @@ impl Contents {
         ensures leaves { Puts (after_append (outside_of self.old) name.now) (outside_of self.old) bytes.now result (outside_of self.new) }
         ensures sure { result ≢ Wrote.Failed }
     {
+        self.counts.clear_fault();
         wrote(add_piece(&mut self.outputs, name, bytes))
     }
 
@@ -234,6 +239,7 @@ impl Contents {
         ensures leaves { Puts (after_say (outside_of self.old)) (outside_of self.old) bytes.now result (outside_of self.new) }
         ensures sure { result ≢ Wrote.Failed }
     {
+        self.counts.clear_fault();
         wrote(self.said.append(bytes))
     }
 
@@ -242,6 +248,7 @@ impl Contents {
         ensures leaves { Puts (after_complaint (outside_of self.old)) (outside_of self.old) bytes.now result (outside_of self.new) }
         ensures sure { result ≢ Wrote.Failed }
     {
+        self.counts.clear_fault();
         wrote(self.complained.append(bytes))
     }
 

@@ -32,6 +32,6 @@ pub use memory::Mem;
 pub use network::{Addr, IP4_TOTAL_LENGTH_MAX, LINKTYPE_ETHERNET, LINKTYPE_RAW, Proto, Side};
 pub use numbers::{ConnNo, EventNo, HandlerNo, HookNo, LogId, ObjectNo, RecordNo};
 pub use sequence::Sequence;
-pub use shelf::{Got, Shelf, Started, Wrote};
+pub use shelf::{Fault, Got, Shelf, Started, Wrote};
 pub use sure_shelf::SureShelf;
 pub use time::{Moment, Span};

@@ -13,7 +13,7 @@ use std::alloc::Global;
 /// Failed, and counts one fault of its kind. A write has then put the first half of its piece,
 /// rounded down; the making of an output has emptied it, if it was there; a start has noted the
 /// name and left no input open; a read has left the place as it was. A call that answers NoMemory
-/// changes nothing and has no number.
+/// has no number, and changes nothing but that no fault is the last.
 #[derive(Debug, Drop)]
 pub struct MemShelf {
     contents: Contents,

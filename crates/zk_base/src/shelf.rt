@@ -1,6 +1,15 @@
 ghost use Rattle.std.specs.Prelude.{◌<◌, length, IsTrue};
 ghost use Rattle.zk_base.specs.Shelf.{Outside, Starts, is_open, Reads, Creates, IsCreated, Puts, after_append, after_say, after_complaint};
 
+/// What a call of a shelf failed at.
+#[derive(Clone, Copy, Debug, PartialEq, Eq)]
+pub enum Fault {
+    /// An input couldn't be opened or read.
+    Read,
+    /// An output couldn't be made or written.
+    Write,
+}
+
 /// What became of the start of an input.
 #[derive(Clone, Copy, Debug, PartialEq, Eq)]
 pub enum Started {
@@ -41,8 +50,10 @@ pub enum Wrote {
 /// error. Inputs and outputs are separate name spaces.
 ///
 /// A shelf counts how often an input has failed, an output has failed and an input was absent. The
-/// counts never fall, and a count at 2^64 - 1 counts as risen. Each shelf says what it tells of the
-/// rest: one that stands for real files tells nothing, one in memory tells all.
+/// counts never fall, and a count at 2^64 - 1 counts as risen. It shows too what its last call failed
+/// at, if it did: each call that answers Failed sets that, and every other takes it away. Each shelf
+/// says what it tells of the rest: one that stands for real files tells nothing, one in memory tells
+/// all.
 pub trait Shelf {
     /// What the shelf shows of the outside.
     ghost outside: { Self → Outside };

@@ -1,4 +1,4 @@
-ghost use Rattle.std.specs.Prelude.{◌≡◌, ◌≢◌, ◌<◌, Some, [], IfOk, IsTrue, length};
+ghost use Rattle.std.specs.Prelude.{◌≡◌, ◌≢◌, ◌<◌, Some, None, [], IfOk, IsTrue, length};
 ghost use Rattle.std.specs.Option.{option_copied};
 ghost use Rattle.zk_base.specs.Shelf.{lies_under};
 ghost use Rattle.zk_base.specs.Contents.{at_first};
@@ -15,6 +15,7 @@ pub struct SureShelf {
     ghost no_call_fails: { (state_of shelf).fails ≡ [] },
     ghost no_read_faults: { (mem_outside shelf).read_faults ≡ 0 },
     ghost no_write_faults: { (mem_outside shelf).write_faults ≡ 0 },
+    ghost no_last_fault: { (mem_outside shelf).last ≡ None },
 }
 
 impl SureShelf {

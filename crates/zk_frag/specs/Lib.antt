@@ -4,5 +4,6 @@ pub mod Fragment
 pub mod Group
 pub mod Groups
 pub mod Histories
+pub mod Ip4Fragments
 pub mod Standing
 pub mod Table

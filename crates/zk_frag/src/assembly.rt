@@ -1,8 +1,8 @@
-ghost use Rattle.std.specs.Prelude.{◌≡◌, ℕ, ◌+◌, ◌<◌, ◌≤◌, true, false, not, max, if◌then◌else◌, IsTrue, List, [], ◌∷◌, ◌++◌, length, slice_index, slice_index_or, OnOk, OnErr, vec_len, Some, None};
+ghost use Rattle.std.specs.Prelude.{◌≡◌, ℕ, ◌+◌, ◌<◌, ◌≤◌, true, false, not, max, if◌then◌else◌, IsTrue, Option, length, slice_index_or, OnOk, OnErr, vec_len, Some, None};
 ghost use Rattle.std.specs.Option.{option_or};
 ghost use Rattle.zk_frag.specs.Buffer.{byte_held};
-ghost use Rattle.zk_frag.specs.Fragment.{Fragment, byte_of};
-ghost use Rattle.zk_frag.specs.Group.{is_covered, datagram};
+ghost use Rattle.zk_frag.specs.Fragment.{byte_of};
+ghost use Rattle.zk_frag.specs.Group.{bytes_to, covered_to};
 
 use std::alloc::Global;
 use zk_base::Mem;
@@ -56,6 +56,13 @@ fn end_after(named: Option<usize>, more: bool, here: usize) -> Option<usize>
     if more { named } else { named.or(Some(here)) }
 }
 
+/// A whole datagram.
+#[derive(Debug, Drop)]
+pub struct Datagram {
+    pub bytes: Vec<u8>,
+    ghost short: { vec_len bytes ≤ 65535 },
+}
+
 /// A datagram as far as its fragments have come.
 #[derive(Debug, Drop)]
 pub struct Assembly {
@@ -71,11 +78,11 @@ pub struct Assembly {
 }
 
 impl Assembly {
-    ghost use Rattle.zk_frag.specs.Assembly.{Carries, Holds};
+    ghost use Rattle.zk_frag.specs.Assembly.{Holds, with_end, with_payload};
 
     /// No bytes. No memory is taken.
     pub fn new(alloc: Global) -> Assembly
-        ensures { Holds result [] }
+        ensures { Holds result (λ place. None) None }
     {
         Assembly {
             bytes: Vec::new(alloc),
@@ -88,9 +95,9 @@ impl Assembly {
     /// Adds a fragment's payload at a place. At `Mem` the assembly holds what it held.
     pub fn add(&mut self, place: usize, more: bool, payload: &[u8]) -> Result<(), Mem>
         requires { place + length payload.now ≤ 65535 }
-        ensures ok { OnOk result ((group : List Fragment) (fragment : Fragment) → Holds self.old group
-            → Carries fragment place more payload.now → Holds self.new (group ++ fragment ∷ [])) }
-        ensures err { OnErr result ((group : List Fragment) → Holds self.old group → Holds self.new group) }
+        ensures ok { OnOk result ((byte_at : ℕ → Option ℕ) (end : Option ℕ) → Holds self.old byte_at end
+            → Holds self.new (with_payload byte_at place payload.now) (with_end end place more payload.now)) }
+        ensures err { OnErr result ((byte_at : ℕ → Option ℕ) (end : Option ℕ) → Holds self.old byte_at end → Holds self.new byte_at end) }
     {
         let end = place + payload.len();
         lengthen(&mut self.bytes, end, 0)?;
@@ -103,7 +110,7 @@ impl Assembly {
 
     /// Whether the end is named and each place before it is covered.
     pub fn is_whole(&self) -> bool
-        ensures { (group : List Fragment) → Holds self.now group → result ≡ is_covered group }
+        ensures { (byte_at : ℕ → Option ℕ) (end : Option ℕ) → Holds self.now byte_at end → result ≡ covered_to byte_at end }
     {
         match self.end {
             Some(end) => end <= self.front,
@@ -112,9 +119,9 @@ impl Assembly {
     }
 
     /// The bytes from place 0 to the end.
-    pub fn into_datagram(self) -> Vec<u8>
-        ensures value { (group : List Fragment) → Holds self group → IsTrue (is_covered group) → result.items ≡ datagram group }
-        ensures bound { vec_len result ≤ 65535 }
+    pub fn into_datagram(self) -> Datagram
+        ensures { (byte_at : ℕ → Option ℕ) (end : Option ℕ) → Holds self byte_at end → IsTrue (covered_to byte_at end)
+            → result.bytes.items ≡ bytes_to byte_at end }
     {
         let Assembly {
             mut bytes,
@@ -125,6 +132,6 @@ impl Assembly {
         if let Some(end) = end {
             bytes.truncate(end);
         }
-        bytes
+        Datagram { bytes }
     }
 }

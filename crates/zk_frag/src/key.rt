@@ -1,6 +1,6 @@
 ghost use Rattle.std.specs.Prelude.{◌≡◌};
 ghost use Rattle.zk_link_ip.specs.Views.{packet};
-ghost use Rattle.zk_frag.specs.Fragment.{key_of};
+ghost use Rattle.zk_frag.specs.Ip4Fragments.{key_of};
 
 use zk_base::Addr;
 use zk_link_ip::Ip4;

@@ -1,5 +1,0 @@
-use Rattle.zk_frag.proofs.GroupLaws.{open_by_cutting, one_cutting}
-use Rattle.zk_frag.proofs.frags.fragment_groups.Goals as goal
-
-pub returns : goal.returns
-returns c = record { cut = open_by_cutting; one = one_cutting }

@@ -1,6 +1,7 @@
 pub mod Conversation
 pub mod Datagram
 pub mod Fresh
+pub mod History
 pub mod Instances
 pub mod Items
 pub mod Kept

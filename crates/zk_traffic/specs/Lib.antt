@@ -1,5 +1,6 @@
 pub mod Conversation
 pub mod Datagram
+pub mod Families
 pub mod Fresh
 pub mod History
 pub mod Instances

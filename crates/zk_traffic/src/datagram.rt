@@ -1,5 +1,7 @@
 ghost use Rattle.std.specs.Prelude.{◌≡◌, ◌≤◌, length, MatchOption, Some, None};
 ghost use Rattle.zk_base.specs.declared.time.Moment.{Moment};
+ghost use Rattle.zk_l4.specs.PseudoHeader.{IsOneFamily};
+ghost use Rattle.zk_traffic.specs.Families.{one_family-prop};
 
 use crate::segment::Segment;
 use zk_base::{Addr, Proto};
@@ -26,6 +28,7 @@ pub struct Datagram<'a> {
     pub ip_len: u32,
     /// Whether the checksum of the segment in it is judged.
     pub judged: bool,
+    ghost family: { IsOneFamily src dst } by { one_family-prop src dst },
     ghost captured: { length payload.now ≤ full_len },
     ghost limit: { full_len ≤ 65535 },
 }

@@ -25,7 +25,7 @@ pub returns-in-Whole-clause-taken : goal.returns-in-Whole-clause-taken
 returns-in-Whole-clause-taken c = on_ok c.take_some.result c.take_some.ensures (λ takes options step is part ready.
     let p = (packet c.args.ip.now).now in
     let t = time_at step in
-    let r = c.segment.result in
+    let r = c.segment-segment.result in
     let frs = fragments options step.before in
     let whole_is : c.whole-whole.result.now ≡ datagram_of frs (fragment_of t p) = c.whole-whole.ensures.value frs (fragment_of t p)
     (subst (λ m. frags.StandsFor c.take.new.self (frs ++ fragment_of m p ∷ [])) ready.time_is (c.in_ok-take.ensures.taken frs ready.frags_are))
@@ -34,6 +34,6 @@ returns-in-Whole-clause-taken c = on_ok c.take_some.result c.take_some.ensures (
     (ap (λ j. cond (is_whole j) (segment_in t (put_together options p (datagram_of frs (fragment_of t p)))) None) c.in-Whole.is
     ∙ ap (λ w. segment_in t (put_together options p w)) (sym whole_is)
     ∙ ap (λ o. segment_in t (put_together o p c.whole-whole.result.now)) (sym ready.options_are)
-    ∙ ap (segment_in t) (sym c.carrying.ensures)
-    ∙ answered (segment_of t) r (segment_in t (datagram_from c.carrying.result)) (c.segment.ensures t))
+    ∙ ap (segment_in t) (sym c.carrying-datagram.ensures)
+    ∙ answered (segment_of t) r (segment_in t (datagram_from c.carrying-datagram.result)) (c.segment-segment.ensures t))
     (took_some c.args.self.now c.take_some.new.self options step r ready takes))

@@ -1,4 +1,4 @@
-use Rattle.std.proofs.Common.{◌≡◌, ◌==◌, cond, MatchOption, Some, None, ℕ, sym, ap, subst, ◌∙◌}
+use Rattle.std.proofs.Common.{◌≡◌, ◌==◌, cond, MatchOption, Some, None, ℕ, sym, ap, subst}
 use Rattle.zk_traffic.specs.Segments.{tcp_judged, udp_judged}
 use Rattle.zk_traffic.specs.Taken.{datagram_from, segment_of}
 use Rattle.zk_traffic.proofs.datagram.Datagram.segment.Goals as goal

@@ -7,17 +7,15 @@ use Rattle.zk_base.specs.declared.network.Side.TheVariants.{Orig, Resp}
 use Rattle.zk_reasm.specs.declared.stream.Stream.{Stream}
 use Rattle.zk_reasm.specs.Histories.{front_of}
 use Rattle.zk_reasm.proofs.ContentLemmas.{kept_bound, kept_is as kept_exact}
-use Rattle.zk_pcap.specs.declared.records.Packet.{Packet}
-use Rattle.zk_pcap.specs.NetworkTime.{now}
-use Rattle.zk_traffic.specs.declared.item.Item.{Item}
-use Rattle.zk_traffic.specs.declared.options.Options.{Options}
+use Rattle.zk_base.specs.NetworkTime.{now}
 use Rattle.zk_traffic.specs.declared.streams.Streams.{Streams}
 use Rattle.zk_traffic.specs.declared.traffic.Traffic.{Traffic}
 use Rattle.zk_traffic.specs.Conversation.{Conversation, Direction, protocol_of, stream_of, streams_of}
+use Rattle.zk_traffic.specs.History.{History}
 use Rattle.zk_traffic.specs.Instances.{Instance, instances}
 use Rattle.zk_traffic.specs.Kept.{bytes_held, held_by, held_in, held_in_all, live_streams, one_if, streams_in, unread_in}
 use Rattle.zk_traffic.specs.Segments.{segments}
-use Rattle.zk_traffic.specs.Standing.{StandsFor}
+use Rattle.zk_traffic.specs.Standing.{IsTable, StandsFor}
 use Rattle.zk_traffic.specs.StreamTable.{HasStreams}
 use Rattle.zk_traffic.specs.Streams.{IsStream}
 use Rattle.zk_traffic.specs.Table.{gone_by, left}
@@ -65,27 +63,36 @@ sum_within limit (i ∷ rest) each =
     sums : (limit all one more all_n n more_n : ℕ) → all ≡ one + more → all_n ≡ n + more_n → one ≤ (limit + 65537) * n → more ≤ (limit + 65537) * more_n → all ≤ (limit + 65537) * all_n
     sums limit all one more all_n n more_n all_is n_is first second = grind (arith, common_steps, all_is, n_is, first, second)
 
-pub kept_is : (traffic : Traffic) (options : Options) (link : ℕ) (records : List Packet) (given : List Item) (ended : Bool) → StandsFor traffic options link records given ended
-    → traffic.connections.table.streams.kept ≡ bytes_held options link records ended
+pub kept_is : (traffic : Traffic) (h : History) → StandsFor traffic h → traffic.connections.table.streams.kept ≡ bytes_held h.options h.records h.ended
 unfolding bytes_held
-kept_is traffic options link records given true stands = stands.table_is
-kept_is traffic options link records given false stands =
-    stands.table_is.holds.kept_is ∙ ap (held_in_all options.buffer) (sym (live_left options.buffer (segments options link records) (now records) (instances options.buffer (segments options link records)) (all_are options.buffer (segments options link records))))
+kept_is traffic h stands = by_end h.ended stands.table_is
+  where
+    by_end : (ended : Bool) → IsTable traffic.connections.table h.options.buffer (segments h.options h.records) (now h.records) ended
+        → traffic.connections.table.streams.kept ≡ bytes_held h.options h.records ended
+    by_end true table = table
+    by_end false table =
+        let segs = segments h.options h.records in
+        table.holds.kept_is ∙ ap (held_in_all h.options.buffer) (sym (live_left h.options.buffer segs (now h.records) (instances h.options.buffer segs) (all_are h.options.buffer segs)))
 
-pub kept_within : (traffic : Traffic) (options : Options) (link : ℕ) (records : List Packet) (given : List Item) (ended : Bool) → StandsFor traffic options link records given ended
-    → traffic.connections.table.streams.kept ≤ (options.buffer + 65537) * live_streams options link records ended
+pub kept_within : (traffic : Traffic) (h : History) → StandsFor traffic h
+    → traffic.connections.table.streams.kept ≤ (h.options.buffer + 65537) * live_streams h.options h.records h.ended
 unfolding live_streams
-kept_within traffic options link records given true stands = omega (arith, stands.table_is)
-kept_within traffic options link records given false stands =
-    let segs = segments options link records in
-    let t = now records in
-    let gone = gone_by options.buffer segs t in
-    let holds = stands.table_is.holds in
-    let each = left_each (IsInstance options.buffer segs) (λ i. held_in options.buffer i.conversation ≤ (options.buffer + 65537) * streams_in i.conversation) gone (instances options.buffer segs)
-    (λ i live is. held_within options.buffer _ i.conversation
-    (entry_live traffic.connections.table options.buffer segs gone stands.table_is.told i.key i.number i.conversation holds (record { latest_is = is.0; not_gone = live; number_is = is.1 })))
-    (all_are options.buffer segs) in
-    subst (λ l. traffic.connections.table.streams.kept ≤ (options.buffer + 65537) * sum_by (λ i. streams_in i.conversation) l)
-    (sym (live_left options.buffer segs t (instances options.buffer segs) (all_are options.buffer segs)))
-    (subst (λ n. n ≤ (options.buffer + 65537) * sum_by (λ i. streams_in i.conversation) (left gone (instances options.buffer segs))) (sym holds.kept_is)
-    (sum_within options.buffer (left gone (instances options.buffer segs)) each))
+kept_within traffic h stands = by_end h.ended stands.table_is
+  where
+    by_end : (ended : Bool) → IsTable traffic.connections.table h.options.buffer (segments h.options h.records) (now h.records) ended
+        → traffic.connections.table.streams.kept ≤ (h.options.buffer + 65537) * live_streams h.options h.records ended
+    by_end true table = omega (arith, table)
+    by_end false table =
+        let limit = h.options.buffer in
+        let segs = segments h.options h.records in
+        let t = now h.records in
+        let gone = gone_by limit segs t in
+        let holds = table.holds in
+        let each = left_each (IsInstance limit segs) (λ i. held_in limit i.conversation ≤ (limit + 65537) * streams_in i.conversation) gone (instances limit segs)
+        (λ i live is. held_within limit _ i.conversation
+        (entry_live traffic.connections.table limit segs gone table.told i.key i.number i.conversation holds (record { latest_is = is.0; not_gone = live; number_is = is.1 })))
+        (all_are limit segs) in
+        subst (λ l. traffic.connections.table.streams.kept ≤ (limit + 65537) * sum_by (λ i. streams_in i.conversation) l)
+        (sym (live_left limit segs t (instances limit segs) (all_are limit segs)))
+        (subst (λ n. n ≤ (limit + 65537) * sum_by (λ i. streams_in i.conversation) (left gone (instances limit segs))) (sym holds.kept_is)
+        (sum_within limit (left gone (instances limit segs)) each))

@@ -3,6 +3,7 @@ use Rattle.std.proofs.Common.{◌≡◌, ℕ, Bool, true, false, cond, if◌then
 use Rattle.std.proofs.lemmas.List.{append-nil}
 use Rattle.zk_base.specs.declared.network.Side.{Side}
 use Rattle.zk_base.specs.declared.network.Side.TheVariants.{Orig, Resp}
+use Rattle.zk_base.specs.Sides.{other}
 use Rattle.zk_conn.specs.declared.half.StreamEnd.{StreamEnd}
 use Rattle.zk_conn.specs.declared.half.StreamEnd.TheVariants.{Open, Fin, Rst}
 use Rattle.zk_conn.specs.declared.key.Endpoint.{Endpoint}
@@ -13,7 +14,7 @@ use Rattle.zk_conn.specs.Segment.{key_of}
 use Rattle.zk_conn.specs.State.{is_fin, is_open}
 use Rattle.zk_conn.specs.Told.{Told, Packet, Front, Reached}
 use Rattle.zk_conn.proofs.HalfLemmas.{end_of-append}
-use Rattle.zk_traffic.specs.Conversation.{Conversation, Direction, direction, direction_with, front_at, has_ended, moved, moved_with, originator_of, other, sender_in, with_packet, with_segment}
+use Rattle.zk_traffic.specs.Conversation.{Conversation, Direction, direction, direction_with, front_at, has_ended, moved, moved_with, originator_of, sender_in, with_packet, with_segment}
 use Rattle.zk_traffic.specs.Instances.{is_over_by}
 use Rattle.zk_traffic.specs.Items.{ends}
 use Rattle.zk_traffic.specs.Segments.{Segment}

@@ -5,6 +5,7 @@ use Rattle.std.proofs.lemmas.List.{map-append}
 use Rattle.zk_base.specs.declared.network.Side.{Side}
 use Rattle.zk_base.specs.declared.numbers.ConnNo.{ConnNo}
 use Rattle.zk_base.specs.declared.time.Moment.{Moment}
+use Rattle.zk_base.specs.Sides.{other}
 use Rattle.zk_conn.specs.declared.facts.Facts.{Facts}
 use Rattle.zk_conn.specs.Segment.{key_of}
 use Rattle.zk_traffic.specs.declared.item.Item.{Item}
@@ -13,7 +14,7 @@ use Rattle.zk_traffic.specs.declared.table.Done.{Done}
 use Rattle.zk_traffic.specs.declared.table.Table.{Table}
 use Rattle.zk_traffic.specs.declared.news.News.{News}
 use Rattle.zk_traffic.specs.declared.news.Gap.{Gap as Code}
-use Rattle.zk_traffic.specs.Conversation.{gives_up, other, resets, sender_in, with_segment}
+use Rattle.zk_traffic.specs.Conversation.{gives_up, resets, sender_in, with_segment}
 use Rattle.zk_traffic.specs.Instances.{begins, joined_by, latest, number_of}
 use Rattle.zk_traffic.specs.Items.{ends, establishes, facts, gaps, item, own_items, segment_items, unit_item, units_with, when}
 use Rattle.zk_traffic.specs.Moves.{gap_in, segment_gaps}

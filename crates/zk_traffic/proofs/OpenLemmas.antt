@@ -1,12 +1,11 @@
 -- A value before the first packet, and behind the end.
-use Rattle.std.proofs.Common.{◌≡◌, ℕ, true, false, List, [], ◌++◌, map, OnOk, Result, Ok, Err, refl, sym, ap, subst, ◌∙◌, append_assoc}
+use Rattle.std.proofs.Common.{◌≡◌, ℕ, true, false, [], ◌++◌, map, OnOk, Result, Ok, Err, refl, sym, ap, subst, ◌∙◌, append_assoc}
 use Rattle.zk_frag.specs.Standing as frags
-use Rattle.zk_pcap.specs.declared.records.Packet.{Packet}
-use Rattle.zk_pcap.specs.NetworkTime.{now}
-use Rattle.zk_traffic.specs.declared.item.Item.{Item}
+use Rattle.zk_base.specs.NetworkTime.{now}
 use Rattle.zk_traffic.specs.declared.options.Options.{Options}
 use Rattle.zk_traffic.specs.declared.traffic.Traffic.{Traffic}
 use Rattle.zk_traffic.specs.Datagram.{fragments}
+use Rattle.zk_traffic.specs.History.{History, at_start}
 use Rattle.zk_traffic.specs.Instances.{live_at}
 use Rattle.zk_traffic.specs.Items.{items_at_end, items_of, items_so_far, removed_at}
 use Rattle.zk_traffic.specs.News.{runs_of}
@@ -21,7 +20,7 @@ on_ok_is (Ok a) p then = then a refl p
 on_ok_is (Err e) p then = tt
 
 pub stands_new : (new : Traffic) (options : Options) (link : ℕ) → new.has_failed ≡ false → new.options ≡ options → new.link ≡ link → new.time ≡ now [] → frags.StandsFor new.frags []
-    → IsCurrent new.connections.table options.buffer [] (now []) → items_in new.connections.items ≡ [] → runs_of new.connections.news ≡ [] → StandsFor new options link [] [] false
+    → IsCurrent new.connections.table options.buffer [] (now []) → items_in new.connections.items ≡ [] → runs_of new.connections.news ≡ [] → StandsFor new (at_start options link)
 unfolding items_of items_so_far segments fragments
 stands_new new options link works options_are link_is time_is frags_are table_is items_are no_runs = record {
   works = works;
@@ -32,23 +31,23 @@ stands_new new options link works options_are link_is time_is frags_are table_is
   table_is = table_is;
   items_are = items_are;
   none_fresh = λ none. no_runs;
-  fresh_is = λ before last is. absurd (not_nil before last (sym is));
+  fresh_is = λ step is. absurd (not_nil step.before step.last (sym is));
 }
 
-pub stands_ended : (old new : Traffic) (options : Options) (link : ℕ) (records : List Packet) (given : List Item) → StandsFor old options link records given false
+pub stands_ended : (old new : Traffic) (h : History) → StandsFor old h → h.ended ≡ false
     → new.has_failed ≡ false → new.options ≡ old.options → new.link ≡ old.link → new.time ≡ old.time → new.frags ≡ old.frags → new.connections.table.streams.kept ≡ 0
-    → items_in new.connections.items ≡ items_in old.connections.items ++ map (removed_at (now records)) (live_at options.buffer (segments options link records) (now records))
-    → new.connections.news ≡ old.connections.news → StandsFor new options link records given true
+    → items_in new.connections.items ≡ items_in old.connections.items ++ map (removed_at (now h.records)) (live_at h.options.buffer (segments h.options h.records) (now h.records))
+    → new.connections.news ≡ old.connections.news → StandsFor new (record h { ended = true })
 unfolding items_at_end
-stands_ended old new options link records given stands works options_are link_is time_is frags_are none_kept items_are news_are = record {
+stands_ended old new h stands goes_on works options_are link_is time_is frags_are none_kept items_are news_are = record {
   works = works;
   options_are = options_are ∙ stands.options_are;
   link_is = link_is ∙ stands.link_is;
   time_is = time_is ∙ stands.time_is;
-  frags_are = subst (λ f. frags.StandsFor f (fragments options link records)) (sym frags_are) stands.frags_are;
+  frags_are = subst (λ f. frags.StandsFor f (fragments h.options h.records)) (sym frags_are) stands.frags_are;
   table_is = none_kept;
-  items_are = ap (λ l. given ++ l) items_are ∙ sym (append_assoc given (items_in old.connections.items) (items_at_end options link records))
-      ∙ ap (λ l. l ++ items_at_end options link records) stands.items_are ∙ sym (items_ended options link records);
+  items_are = ap (λ l. h.given ++ l) items_are ∙ sym (append_assoc h.given (items_in old.connections.items) (items_at_end h.options h.records))
+      ∙ ap (λ l. l ++ items_at_end h.options h.records) (stands.items_are ∙ ap (items_of h.options h.records) goes_on) ∙ sym (items_ended h.options h.records);
   none_fresh = λ none. ap runs_of news_are ∙ stands.none_fresh none;
-  fresh_is = λ before last is. ap runs_of news_are ∙ stands.fresh_is before last is;
+  fresh_is = λ step is. ap runs_of news_are ∙ stands.fresh_is step is;
 }

@@ -3,13 +3,14 @@ use Rattle.std.proofs.Common.{◌≡◌, ℕ, Bool, true, false, cond, List, [],
 use Rattle.std.proofs.lemmas.List.{map-append}
 use Rattle.zk_base.specs.declared.network.Side.{Side}
 use Rattle.zk_base.specs.declared.time.Moment.{Moment}
+use Rattle.zk_base.specs.Sides.{other}
 use Rattle.zk_conn.specs.declared.facts.Facts.{Facts}
 use Rattle.zk_conn.specs.declared.key.Key.{Key}
 use Rattle.zk_conn.specs.Segment.{key_of}
 use Rattle.zk_traffic.specs.declared.item.Item.{Item}
 use Rattle.zk_traffic.specs.declared.item.What.{What}
 use Rattle.zk_traffic.specs.declared.item.What.TheVariants as what
-use Rattle.zk_traffic.specs.Conversation.{Conversation, gives_up, other, resets, sender_in, unbegun, with_segment}
+use Rattle.zk_traffic.specs.Conversation.{Conversation, gives_up, resets, sender_in, unbegun, with_segment}
 use Rattle.zk_traffic.specs.Instances.{begins, goes_on, is_over_by, joined_by, latest, number_of, segments_of}
 use Rattle.zk_traffic.specs.Items.{ends, establishes, facts, gaps, item, items_with, numbered, own_items, segment_items, unit_item, units_with, when}
 use Rattle.zk_traffic.specs.Own.{item_of, told_of, with_number}

@@ -6,6 +6,7 @@ use Rattle.std.proofs.lemmas.List.{append-nil}
 use Rattle.zk_base.specs.Places.{Place}
 use Rattle.zk_base.specs.declared.network.Side.{Side}
 use Rattle.zk_base.specs.declared.network.Side.TheVariants.{Orig, Resp}
+use Rattle.zk_base.specs.Sides.{other}
 use Rattle.zk_http.specs.Places.{Both, Stream, of_side}
 use Rattle.zk_reasm.specs.Between.{places_between}
 use Rattle.zk_reasm.specs.Histories.{byte_of_stream, content, ended_of, front_of, gap_of, run_of}
@@ -14,7 +15,7 @@ use Rattle.zk_reasm.proofs.BelowLemmas.{stays_below, stays_ended}
 use Rattle.zk_reasm.proofs.ContentLemmas.{places_between-same}
 use Rattle.zk_reasm.proofs.LawLemmas.{front_never_falls}
 use Rattle.zk_reasm.proofs.RangeLemmas.{places_between-none, places_between-split}
-use Rattle.zk_traffic.specs.Conversation.{Conversation, Direction, direction, direction_with, other, stream_of, streams_of}
+use Rattle.zk_traffic.specs.Conversation.{Conversation, Direction, direction, direction_with, stream_of, streams_of}
 use Rattle.zk_traffic.specs.Moves.{stretch}
 use Rattle.zk_traffic.specs.Segments.{Segment}
 use Rattle.zk_traffic.proofs.PlaceLemmas.{gap_of-some, run_of-some, stretch-byte, stretch-gap}

@@ -7,12 +7,13 @@ use Rattle.std.proofs.lemmas.List.Elements.{filter-append}
 use Rattle.std.proofs.lemmas.List.Folds.{list_any-append}
 use Rattle.std.proofs.lemmas.List.Sums.{fold-append}
 use Rattle.zk_base.specs.declared.network.Side.{Side}
+use Rattle.zk_base.specs.Sides.{other}
 use Rattle.zk_conn.specs.declared.key.Key.{Key}
 use Rattle.zk_conn.specs.Histories as conn
 use Rattle.zk_conn.specs.Instance.{Opening, opening}
 use Rattle.zk_conn.specs.Segment.{key_of, same_key}
 use Rattle.zk_conn.specs.Told.{Told, Packet, Front, Reached}
-use Rattle.zk_traffic.specs.Conversation.{Conversation, Direction, direction, direction_with, front_at, has_ended, moved, moved_with, other, sender_in, unbegun, with_packet, with_segment}
+use Rattle.zk_traffic.specs.Conversation.{Conversation, Direction, direction, direction_with, front_at, has_ended, moved, moved_with, sender_in, unbegun, with_packet, with_segment}
 use Rattle.zk_traffic.specs.Instances.{begun, begun_at, goes_on, is_over_by, joined_by, latest, segments_of}
 use Rattle.zk_traffic.specs.Segments.{Segment}
 use Rattle.zk_traffic.specs.Steps.{steps, steps_behind}

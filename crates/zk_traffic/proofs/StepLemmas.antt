@@ -4,6 +4,7 @@ use Rattle.std.specs.Prelude.{All}
 use Rattle.std.proofs.lemmas.Bool.{cases_Bool, true≢false}
 use Rattle.std.proofs.lemmas.List.{append-nil}
 use Rattle.zk_base.specs.declared.network.Side.{Side}
+use Rattle.zk_base.specs.Sides.{other}
 use Rattle.zk_conn.specs.declared.key.Key.{Key}
 use Rattle.zk_conn.specs.Histories as conn
 use Rattle.zk_conn.specs.Segment.{key_of, same_key}
@@ -15,7 +16,7 @@ use Rattle.zk_traffic.specs.declared.streams.Moved.{Moved}
 use Rattle.zk_traffic.specs.declared.streams.Moves.{Moves}
 use Rattle.zk_traffic.specs.declared.table.Done.{Done}
 use Rattle.zk_traffic.specs.declared.table.Table.{Table}
-use Rattle.zk_traffic.specs.Conversation.{Conversation, Direction, datagram_units, direction, direction_with, freed_with, front_at, has_ended, moved, moved_with, other, sender_in, unbegun, with_packet, with_segment}
+use Rattle.zk_traffic.specs.Conversation.{Conversation, Direction, datagram_units, direction, direction_with, freed_with, front_at, has_ended, moved, moved_with, sender_in, unbegun, with_packet, with_segment}
 use Rattle.zk_traffic.specs.Instances.{begins, begun, begun_at, instances, instances_from, joined_by, latest, number_of}
 use Rattle.zk_traffic.specs.Items.{fresh_with, segment_fresh}
 use Rattle.zk_traffic.specs.Kept.{held_in, held_in_all}

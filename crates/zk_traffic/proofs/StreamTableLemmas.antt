@@ -10,13 +10,14 @@ use Rattle.std.proofs.lemmas.List.{append-nil}
 use Rattle.zk_base.specs.declared.network.Side.{Side}
 use Rattle.zk_base.specs.declared.network.Side.TheVariants.{Orig, Resp}
 use Rattle.zk_base.specs.declared.numbers.ConnNo.{ConnNo}
+use Rattle.zk_base.specs.Sides.{other}
 use Rattle.zk_conn.specs.Instance.{same_side}
 use Rattle.zk_conn.specs.Segment.{has_rst, has_syn}
 use Rattle.zk_traffic.specs.declared.news.News.{News}
 use Rattle.zk_traffic.specs.declared.stream_table.StreamTable.{StreamTable}
 use Rattle.zk_traffic.specs.declared.streams.Moves.{Moves}
 use Rattle.zk_traffic.specs.declared.streams.Streams.{Streams}
-use Rattle.zk_traffic.specs.Conversation.{Conversation, Direction, acknowledged_told, begun_by, direction, direction_with, fin_told, front_at, has_ended, other, put_with, freed_with, protocol_of, resets, sender_in, sent_told, stop_told, stream_of, streams_of, told_more, was_reset_with, with_segment}
+use Rattle.zk_traffic.specs.Conversation.{Conversation, Direction, acknowledged_told, begun_by, direction, direction_with, fin_told, front_at, has_ended, put_with, freed_with, protocol_of, resets, sender_in, sent_told, stop_told, stream_of, streams_of, told_more, was_reset_with, with_segment}
 use Rattle.zk_traffic.specs.Items.{fresh_run, news_of}
 use Rattle.zk_traffic.specs.Kept.{held_by, held_in, unread_in}
 use Rattle.zk_traffic.specs.Moves.{HasTaken, IsMove, front_moved, gap_in}

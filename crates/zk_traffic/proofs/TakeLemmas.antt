@@ -3,6 +3,7 @@ use Rattle.std.proofs.Common.{◌≡◌, ℕ, Bool, true, false, cond, not, ◌&
 use Rattle.zk_base.specs.declared.network.Side.{Side}
 use Rattle.zk_base.specs.declared.network.Side.TheVariants.{Orig, Resp}
 use Rattle.zk_base.specs.declared.numbers.ConnNo.{ConnNo}
+use Rattle.zk_base.specs.Sides.{other}
 use Rattle.zk_conn.specs.Instance.{same_side}
 use Rattle.zk_conn.specs.Segment.{has_rst, has_syn}
 use Rattle.zk_reasm.specs.declared.stream.Stream.{Stream}
@@ -10,7 +11,7 @@ use Rattle.zk_traffic.specs.declared.news.News.{News}
 use Rattle.zk_traffic.specs.declared.streams.Moved.{Moved}
 use Rattle.zk_traffic.specs.declared.streams.Moves.{Moves}
 use Rattle.zk_traffic.specs.declared.streams.Streams.{Streams}
-use Rattle.zk_traffic.specs.Conversation.{Conversation, Direction, acknowledged_told, begun_by, direction, direction_with, fin_told, front_at, has_ended, other, put_with, resets, sender_in, sent_told, stop_told, stream_of, told_more, was_reset_with}
+use Rattle.zk_traffic.specs.Conversation.{Conversation, Direction, acknowledged_told, begun_by, direction, direction_with, fin_told, front_at, has_ended, put_with, resets, sender_in, sent_told, stop_told, stream_of, told_more, was_reset_with}
 use Rattle.zk_traffic.specs.Items.{fresh_run, gaps, news_of, runs}
 use Rattle.zk_traffic.specs.Moves.{Adds, Begins, HasMoved, HasTaken, front_moved, gap_in}
 use Rattle.zk_traffic.specs.News.{runs_of}

@@ -2,6 +2,7 @@
 use Rattle.std.proofs.Common.{◌≡◌, ◌≢◌, ℕ, ◌≤◌, Bool, true, false, not, ◌&&◌, ◌||◌, List, [], ◌∷◌, ◌++◌, Option, Some, sym, ap, subst, ◌∙◌}
 use Rattle.std.specs.Prelude.{All}
 use Rattle.zk_base.specs.declared.network.Side.{Side}
+use Rattle.zk_base.specs.Sides.{other}
 use Rattle.zk_conn.specs.declared.conns.Conns.{Conns}
 use Rattle.zk_conn.specs.declared.conns.Touched.{Touched}
 use Rattle.zk_conn.specs.declared.key.Key.{Key}
@@ -18,7 +19,7 @@ use Rattle.zk_traffic.specs.declared.streams.Moves.{Moves}
 use Rattle.zk_traffic.specs.declared.streams.Stops.{Stops}
 use Rattle.zk_traffic.specs.declared.table.Done.{Done}
 use Rattle.zk_traffic.specs.declared.table.Table.{Table}
-use Rattle.zk_traffic.specs.Conversation.{Conversation, datagram_units, direction, direction_with, has_ended, moved_with, other, originator_of, protocol_of, resets, sender_in, was_reset_with, with_packet}
+use Rattle.zk_traffic.specs.Conversation.{Conversation, datagram_units, direction, direction_with, has_ended, moved_with, originator_of, protocol_of, resets, sender_in, was_reset_with, with_packet}
 use Rattle.zk_traffic.specs.Instances.{begins, joined_by, latest, number_of}
 use Rattle.zk_traffic.specs.Kept.{held_in}
 use Rattle.zk_traffic.specs.News.{runs_of}

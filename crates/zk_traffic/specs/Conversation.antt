@@ -3,6 +3,7 @@
 use Rattle.std.specs.Prelude.{ℕ, ◌+◌, ◌%◌, ◌^◌, nat_lt, Bool, true, false, not, ◌&&◌, ◌==◌, if◌then◌else◌, List, [], ◌∷◌, ◌++◌, length, Option, Some, None}
 use Rattle.zk_base.specs.declared.network.Side.{Side}
 use Rattle.zk_base.specs.declared.network.Side.TheVariants.{Orig, Resp}
+use Rattle.zk_base.specs.Sides.{other}
 use Rattle.zk_conn.specs.declared.key.Endpoint.{Endpoint}
 use Rattle.zk_conn.specs.declared.key.Key.{Key}
 use Rattle.zk_conn.specs.Instance.{Opening, originator, responder, side_of, same_side, is_reset}
@@ -42,10 +43,6 @@ originator_of c = originator c.first.packet
 abbrev pub direction : Conversation → Side → Option Direction
 direction c Orig = c.orig
 direction c Resp = c.resp
-
-abbrev pub other : Side → Side
-other Orig = Resp
-other Resp = Orig
 
 -- the side that sends a segment
 abbrev pub sender_in : Conversation → Segment → Side

@@ -10,14 +10,15 @@ use Rattle.zk_conn.specs.declared.facts.Facts.{Facts}
 use Rattle.zk_conn.specs.Instance.{facts_from, end_of, is_established}
 use Rattle.zk_conn.specs.Segment.{key_of}
 use Rattle.zk_conn.specs.State.{is_fin}
-use Rattle.zk_pcap.specs.declared.records.Packet.{Packet}
-use Rattle.zk_pcap.specs.NetworkTime.{now}
+use Rattle.zk_base.specs.Captured.{Captured}
+use Rattle.zk_base.specs.NetworkTime.{now}
+use Rattle.zk_base.specs.Sides.{other}
 use Rattle.zk_reasm.specs.Histories.{content}
 use Rattle.zk_traffic.specs.declared.item.Item.{Item}
 use Rattle.zk_traffic.specs.declared.item.What.{What}
 use Rattle.zk_traffic.specs.declared.item.What.TheVariants as what
 use Rattle.zk_traffic.specs.declared.options.Options.{Options}
-use Rattle.zk_traffic.specs.Conversation.{Conversation, Direction, datagram_units, direction, direction_with, freed_with, front_at, gives_up, originator_of, other, resets, sender_in, with_packet, with_segment}
+use Rattle.zk_traffic.specs.Conversation.{Conversation, Direction, datagram_units, direction, direction_with, freed_with, front_at, gives_up, originator_of, resets, sender_in, with_packet, with_segment}
 use Rattle.zk_traffic.specs.Datagram.{time_at}
 use Rattle.zk_traffic.specs.Fresh.{FreshRun}
 use Rattle.zk_traffic.specs.Instances.{Instance, begins, in_order, joined_by, latest, live_at, number_of, over_between, removal}
@@ -108,28 +109,28 @@ unfoldable pub segment_items : ℕ → List Segment → Segment → List Item
 segment_items limit before s =
     own_items limit (number_of limit (key_of s.view) (before ++ s ∷ [])) (latest limit (key_of s.view) before) s
 
-abbrev pub seen : Options → Step Packet → List Item
+abbrev pub seen : Options → Step Captured → List Item
 seen options step = when options.packets (item (time_at step) (what.Seen step.last.moment (length step.last.bytes) step.last.orig_len))
 
 -- the items of a record: what is removed by then, the packet, and what its segment brings
-unfoldable pub items_at : Options → ℕ → Step Packet → List Item
-items_at options link step =
-    map removed (in_order (over_between options.buffer (segments options link step.before) (now step.before) (time_at step)))
+unfoldable pub items_at : Options → Step Captured → List Item
+items_at options step =
+    map removed (in_order (over_between options.buffer (segments options step.before) (now step.before) (time_at step)))
     ++ seen options step
-    ++ option_map_or (segment_items options.buffer (segments options link step.before)) (segment_at options link step) []
+    ++ option_map_or (segment_items options.buffer (segments options step.before)) (segment_at options step) []
 
 -- the items of some records
-unfoldable pub items_so_far : Options → ℕ → List Packet → List Item
-items_so_far options link records = flat_map (items_at options link) (steps records)
+unfoldable pub items_so_far : Options → List Captured → List Item
+items_so_far options records = flat_map (items_at options) (steps records)
 
 -- at the end of a capture what is still live is removed in order of number, at the last network time
-unfoldable pub items_at_end : Options → ℕ → List Packet → List Item
-items_at_end options link records = map (removed_at (now records)) (live_at options.buffer (segments options link records) (now records))
+unfoldable pub items_at_end : Options → List Captured → List Item
+items_at_end options records = map (removed_at (now records)) (live_at options.buffer (segments options records) (now records))
 
 -- the items of a capture, or of as much of it as has come
-unfoldable pub items_of : Options → ℕ → List Packet → Bool → List Item
-items_of options link records ended =
-    items_so_far options link records ++ (if ended then items_at_end options link records else [])
+unfoldable pub items_of : Options → List Captured → Bool → List Item
+items_of options records ended =
+    items_so_far options records ++ (if ended then items_at_end options records else [])
 
 abbrev pub fresh_run : ℕ → Side → Run → FreshRun
 fresh_run number side r = record { conn = numbered number; side = side; from = r.from; bytes = r.bytes }
@@ -145,5 +146,5 @@ segment_fresh limit before s =
     fresh_with limit (number_of limit (key_of s.view) (before ++ s ∷ [])) (joined_by (latest limit (key_of s.view) before) s) s
 
 -- the runs of bytes by which a record moves fronts
-unfoldable pub fresh_at : Options → ℕ → Step Packet → List FreshRun
-fresh_at options link step = option_map_or (segment_fresh options.buffer (segments options link step.before)) (segment_at options link step) []
+unfoldable pub fresh_at : Options → Step Captured → List FreshRun
+fresh_at options step = option_map_or (segment_fresh options.buffer (segments options step.before)) (segment_at options step) []

@@ -2,8 +2,8 @@
 use Rattle.std.specs.Prelude.{ℕ, ◌+◌, Bool, if◌then◌else◌, List, [], sum_by, Option, Some, None}
 use Rattle.zk_base.specs.declared.network.Side.{Side}
 use Rattle.zk_base.specs.declared.network.Side.TheVariants.{Orig, Resp}
-use Rattle.zk_pcap.specs.declared.records.Packet.{Packet}
-use Rattle.zk_pcap.specs.NetworkTime.{now}
+use Rattle.zk_base.specs.Captured.{Captured}
+use Rattle.zk_base.specs.NetworkTime.{now}
 use Rattle.zk_reasm.specs.Histories.{front_of, kept_of}
 use Rattle.zk_traffic.specs.declared.options.Options.{Options}
 use Rattle.zk_traffic.specs.Conversation.{Conversation, Direction, protocol_of, streams_of}
@@ -34,14 +34,14 @@ abbrev pub held_in_all : ℕ → List Instance → ℕ
 held_in_all limit instances = sum_by (λ i. held_in limit i.conversation) instances
 
 -- the instances that are live behind some records: none behind the end
-abbrev pub live_behind : Options → ℕ → List Packet → Bool → List Instance
-live_behind options link records ended =
-    if ended then [] else live_at options.buffer (segments options link records) (now records)
+abbrev pub live_behind : Options → List Captured → Bool → List Instance
+live_behind options records ended =
+    if ended then [] else live_at options.buffer (segments options records) (now records)
 
 -- the bytes that live streams hold, each connection's by its own segments
-unfoldable pub bytes_held : Options → ℕ → List Packet → Bool → ℕ
-bytes_held options link records ended = held_in_all options.buffer (live_behind options link records ended)
+unfoldable pub bytes_held : Options → List Captured → Bool → ℕ
+bytes_held options records ended = held_in_all options.buffer (live_behind options records ended)
 
 -- the number of live streams
-unfoldable pub live_streams : Options → ℕ → List Packet → Bool → ℕ
-live_streams options link records ended = sum_by (λ i. streams_in i.conversation) (live_behind options link records ended)
+unfoldable pub live_streams : Options → List Captured → Bool → ℕ
+live_streams options records ended = sum_by (λ i. streams_in i.conversation) (live_behind options records ended)

@@ -1,6 +1,8 @@
 pub mod Conversation
 pub mod Datagram
+pub mod Families
 pub mod Fresh
+pub mod History
 pub mod Instances
 pub mod Items
 pub mod Kept

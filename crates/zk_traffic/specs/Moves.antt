@@ -4,6 +4,7 @@ use Rattle.zk_base.specs.declared.network.Side.{Side}
 use Rattle.zk_base.specs.declared.network.Side.TheVariants.{Orig, Resp}
 use Rattle.zk_base.specs.declared.numbers.ConnNo.{ConnNo}
 use Rattle.zk_base.specs.Places.{Place}
+use Rattle.zk_base.specs.Sides.{other}
 use Rattle.zk_http.specs.Places.{Both, Stream as Placed, of_side}
 use Rattle.zk_reasm.specs.declared.stream.Stream.{Stream}
 use Rattle.zk_reasm.specs.Histories.{content, front_of, gap_of, run_of}
@@ -15,7 +16,7 @@ use Rattle.zk_traffic.specs.declared.reading.Reading.{Reading}
 use Rattle.zk_traffic.specs.declared.streams.Moved.{Moved}
 use Rattle.zk_traffic.specs.declared.streams.Moves.{Moves}
 use Rattle.zk_traffic.specs.declared.streams.Streams.{Streams}
-use Rattle.zk_traffic.specs.Conversation.{Conversation, Direction, begun_by, direction, direction_with, front_at, gives_up, has_ended, other, sender_in, stop_told, stream_of, streams_of, told_more}
+use Rattle.zk_traffic.specs.Conversation.{Conversation, Direction, begun_by, direction, direction_with, front_at, gives_up, has_ended, sender_in, stop_told, stream_of, streams_of, told_more}
 use Rattle.zk_traffic.specs.Items.{fresh_run, fresh_with, gaps, news_of}
 use Rattle.zk_traffic.specs.News.{runs_of}
 use Rattle.zk_traffic.specs.Reading.{Gets}

@@ -2,6 +2,7 @@
 use Rattle.std.specs.Prelude.{◌≡◌, ℕ, Bool, List, ◌++◌}
 use Rattle.zk_base.specs.declared.numbers.ConnNo.{ConnNo}
 use Rattle.zk_base.specs.declared.time.Moment.{Moment}
+use Rattle.zk_base.specs.Sides.{other}
 use Rattle.zk_conn.specs.declared.facts.Facts.{Facts}
 use Rattle.zk_conn.specs.declared.key.Key.{Key}
 use Rattle.zk_conn.specs.Told.{Told}
@@ -13,7 +14,7 @@ use Rattle.zk_traffic.specs.declared.queue.Event.{Event}
 use Rattle.zk_traffic.specs.declared.queue.Event.TheVariants as event
 use Rattle.zk_traffic.specs.declared.table.Done.{Done}
 use Rattle.zk_traffic.specs.declared.table.Table.{Table}
-use Rattle.zk_traffic.specs.Conversation.{Conversation, other}
+use Rattle.zk_traffic.specs.Conversation.{Conversation}
 use Rattle.zk_traffic.specs.Items.{facts, item, when}
 use Rattle.zk_traffic.specs.Segments.{Segment}
 use Rattle.zk_traffic.specs.Table.{HasLive, Holds}

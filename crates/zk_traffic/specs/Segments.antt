@@ -3,7 +3,7 @@ use Rattle.std.specs.Prelude.{ℕ, ◌-◌, ◌==◌, if◌then◌else◌, List,
 use Rattle.std.specs.List.{filter_map}
 use Rattle.zk_base.specs.declared.network.Proto.TheVariants.{Tcp, Udp}
 use Rattle.zk_base.specs.declared.time.Moment.{Moment}
-use Rattle.zk_pcap.specs.declared.records.Packet.{Packet}
+use Rattle.zk_base.specs.Captured.{Captured}
 use Rattle.zk_l4.specs.Tcp as tcp
 use Rattle.zk_l4.specs.Udp as udp
 use Rattle.zk_conn.specs.declared.view.L4View.{L4View}
@@ -57,29 +57,29 @@ udp_segment moment datagram = record {
 }
 
 -- each is well-formed, and its checksum right where that is judged
-abbrev pub tcp_judged : Options → Moment → Datagram → Option Segment
-tcp_judged options moment datagram =
-    if is_none (tcp.tcp_fault datagram.source datagram.destination datagram.payload datagram.full_len options.check)
+abbrev pub tcp_judged : Moment → Datagram → Option Segment
+tcp_judged moment datagram =
+    if is_none (tcp.tcp_fault datagram.source datagram.destination datagram.payload datagram.full_len datagram.judged)
     then Some (tcp_segment moment datagram)
     else None
 
-abbrev pub udp_judged : Options → Moment → Datagram → Option Segment
-udp_judged options moment datagram =
-    if is_none (udp.udp_fault datagram.source datagram.destination datagram.payload datagram.full_len options.check)
+abbrev pub udp_judged : Moment → Datagram → Option Segment
+udp_judged moment datagram =
+    if is_none (udp.udp_fault datagram.source datagram.destination datagram.payload datagram.full_len datagram.judged)
     then Some (udp_segment moment datagram)
     else None
 
 -- the segment in a datagram
-abbrev pub segment_in : Options → Moment → Datagram → Option Segment
-segment_in options moment datagram =
-    if datagram.protocol == tcp.protocol then tcp_judged options moment datagram
-    else if datagram.protocol == udp.protocol then udp_judged options moment datagram
+abbrev pub segment_in : Moment → Datagram → Option Segment
+segment_in moment datagram =
+    if datagram.protocol == tcp.protocol then tcp_judged moment datagram
+    else if datagram.protocol == udp.protocol then udp_judged moment datagram
     else None
 
 -- the segment that stands at a record
-unfoldable pub segment_at : Options → ℕ → Step Packet → Option Segment
-segment_at options link step = option_and_then (segment_in options (time_at step)) (datagram_at options link step)
+unfoldable pub segment_at : Options → Step Captured → Option Segment
+segment_at options step = option_and_then (segment_in (time_at step)) (datagram_at options step)
 
 -- the segments of some records
-unfoldable pub segments : Options → ℕ → List Packet → List Segment
-segments options link records = filter_map (segment_at options link) (steps records)
+unfoldable pub segments : Options → List Captured → List Segment
+segments options records = filter_map (segment_at options) (steps records)

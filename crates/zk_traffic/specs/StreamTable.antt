@@ -3,12 +3,13 @@ use Rattle.std.specs.Prelude.{◌≡◌, ℕ, ◌+◌, ◌≤◌, ◌++◌, nat_
 use Rattle.indexmap.specs.IndexMap as indexed
 use Rattle.zk_base.specs.declared.network.Side.{Side}
 use Rattle.zk_base.specs.declared.numbers.ConnNo.{ConnNo}
+use Rattle.zk_base.specs.Sides.{other}
 use Rattle.zk_traffic.specs.declared.news.News.{News}
 use Rattle.zk_traffic.specs.declared.reading.Reading.{Reading}
 use Rattle.zk_traffic.specs.declared.stream_table.StreamTable.{StreamTable}
 use Rattle.zk_traffic.specs.declared.streams.Moves.{Moves}
 use Rattle.zk_traffic.specs.declared.streams.Streams.{Streams}
-use Rattle.zk_traffic.specs.Conversation.{Conversation, freed_with, gives_up, other, protocol_of, sender_in, streams_of, with_segment}
+use Rattle.zk_traffic.specs.Conversation.{Conversation, freed_with, gives_up, protocol_of, sender_in, streams_of, with_segment}
 use Rattle.zk_traffic.specs.Items.{fresh_with}
 use Rattle.zk_traffic.specs.Kept.{held_in, unread_in}
 use Rattle.zk_traffic.specs.Moves.{IsMove, segment_gaps}

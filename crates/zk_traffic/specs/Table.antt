@@ -2,6 +2,7 @@
 use Rattle.std.specs.Prelude.{◌≡◌, ℕ, ◌<◌, ◌≤◌, Bool, if◌then◌else◌, true, false, not, ◌||◌, int_le, List, [], ◌∷◌, ◌++◌, length, filter, Option, Some, None, All}
 use Rattle.zk_base.specs.declared.network.Side.{Side}
 use Rattle.zk_base.specs.declared.time.Moment.{Moment}
+use Rattle.zk_base.specs.Sides.{other}
 use Rattle.zk_conn.specs.declared.conns.Removed.{Removed}
 use Rattle.zk_conn.specs.declared.key.Key.{Key}
 use Rattle.zk_conn.specs.Histories as conn
@@ -13,7 +14,7 @@ use Rattle.zk_traffic.specs.declared.streams.Moved.{Moved}
 use Rattle.zk_traffic.specs.declared.streams.Streams.{Streams}
 use Rattle.zk_traffic.specs.declared.table.Done.{Done}
 use Rattle.zk_traffic.specs.declared.table.Table.{Table}
-use Rattle.zk_traffic.specs.Conversation.{Conversation, gives_up, other, resets, sender_in, with_segment}
+use Rattle.zk_traffic.specs.Conversation.{Conversation, gives_up, resets, sender_in, with_segment}
 use Rattle.zk_traffic.specs.Instances.{Instance, begins, begun, instances, is_over_by, joined_by, latest, number_of, removal}
 use Rattle.zk_traffic.specs.Items.{ends, establishes, facts, segment_fresh, units_with}
 use Rattle.zk_traffic.specs.Kept.{held_in_all}

@@ -19,8 +19,7 @@ use crate::segment::Segment;
 use crate::table::Table;
 use crate::waiting::{Seen, Waiting};
 use std::alloc::Global;
-use zk_base::{Mem, Moment};
-use zk_pcap::PacketView;
+use zk_base::{Mem, Moment, PacketView};
 
 /// The connections of a capture, and the items that were not given yet.
 #[derive(Debug, Drop)]

@@ -2,6 +2,7 @@
 #![tactic(auto)]
 
 mod connections;
+mod datagram;
 mod frame;
 mod item;
 mod news;

@@ -7,7 +7,7 @@ ghost use Rattle.zk_traffic.specs.declared.item.What.TheVariants as what;
 
 use crate::item::{Item, What};
 use crate::news::Gap;
-use crate::table::{Done, Table, peer};
+use crate::table::{Done, Table};
 use crate::waiting::Waiting;
 use std::collections::VecDeque;
 use zk_base::{ConnNo, Mem, Moment, Side};
@@ -226,7 +226,7 @@ pub fn give_endings(items: &mut Waiting, table: &Table, t: Moment, done: Done) -
         conn,
         Event::Ended(done.side),
     )?;
-    let receiver = Event::Ended(peer(done.side));
+    let receiver = Event::Ended(done.side.other());
     give_if(items, table, done.receiver_ended, t, conn, receiver)?;
     give_if(
         items,

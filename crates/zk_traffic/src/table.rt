@@ -8,7 +8,7 @@ ghost use Rattle.zk_conn.specs.Segment.{has_syn, is_tcp};
 ghost use Rattle.zk_conn.specs.Standing.{StandsFor};
 ghost use Rattle.zk_conn.specs.State.{is_open};
 ghost use Rattle.zk_conn.specs.Told.{Ending, Front, Reached, Removal, Told};
-ghost use Rattle.zk_traffic.specs.Conversation.{Conversation, datagram_units, other, protocol_of, sender_in, speaks_dns};
+ghost use Rattle.zk_traffic.specs.Conversation.{Conversation, datagram_units, protocol_of, sender_in, speaks_dns};
 ghost use Rattle.zk_traffic.specs.Items.{facts};
 ghost use Rattle.zk_traffic.specs.News.{runs_of};
 ghost use Rattle.zk_traffic.specs.Segments.{Segment as SegmentData};
@@ -48,16 +48,6 @@ pub struct Table {
     alloc: Global,
     conns: Conns,
     streams: StreamTable,
-}
-
-/// The other side.
-pub fn peer(side: Side) -> Side
-    ensures { result ≡ other side }
-{
-    match side {
-        Side::Orig => Side::Resp,
-        Side::Resp => Side::Orig,
-    }
 }
 
 /// Whether a connection speaks DNS.
@@ -146,7 +136,7 @@ impl Table {
             .streams
             .take(conn, place, side, stops, protocol, segment, news)?;
         let reached = self.tell(conn, side, moves.sender);
-        let receiver_ended = self.tell(conn, peer(side), moves.receiver);
+        let receiver_ended = self.tell(conn, side.other(), moves.receiver);
         Ok(Done {
             conn,
             side,

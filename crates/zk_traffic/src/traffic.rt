@@ -1,39 +1,38 @@
 ghost use Rattle.std.specs.Prelude.{◌≡◌, ◌≤ℤ◌, ◌≤◌, ◌<◌, ◌*◌, ◌+◌, ◌-◌, ◌^◌, ℕ, Bool, true, false, pos, length, slice_get, Option, Some, None, Err, List, [], ◌∷◌, ◌++◌, IfOk, IsOk, OnOk, OnErr, IfSome, IfNone};
 ghost use Rattle.std.specs.Option.{option_map};
+ghost use Rattle.zk_base.specs.Captured.{Captured, captured};
+ghost use Rattle.zk_base.specs.NetworkTime.{later};
 ghost use Rattle.zk_link_ip.specs.Views.{packet};
-ghost use Rattle.zk_pcap.specs.NetworkTime.{later};
-ghost use Rattle.zk_pcap.specs.View.{packet_of};
-ghost use Rattle.zk_pcap.specs.declared.records.Packet.{Packet};
-ghost use Rattle.zk_traffic.specs.Datagram.{is_fragment, packet_in, time_at};
+ghost use Rattle.zk_traffic.specs.Datagram.{is_fragment, packet_at, time_at};
 ghost use Rattle.zk_traffic.specs.Fresh.{fresh_lent};
 ghost use Rattle.zk_conn.specs.Segment.{key_of};
 ghost use Rattle.zk_conn.specs.declared.key.Key.{Key};
 ghost use Rattle.zk_traffic.specs.Conversation.{Conversation};
+ghost use Rattle.zk_traffic.specs.History.{History, all_items, at_start};
 ghost use Rattle.zk_traffic.specs.Instances.{is_over_by, latest as latest_of, segments_of};
 ghost use Rattle.zk_traffic.specs.Items.{fresh_at, items_of, own_items, segment_items};
 ghost use Rattle.zk_traffic.specs.Kept.{bytes_held, live_streams};
 ghost use Rattle.zk_traffic.specs.Own.{with_number};
 ghost use Rattle.zk_traffic.specs.Segments.{Segment as SegmentData};
-ghost use Rattle.zk_traffic.specs.Steps.{Step};
+ghost use Rattle.zk_traffic.specs.Steps.{Step, so_far};
 ghost use Rattle.zk_traffic.specs.declared.item.Item.{Item as ItemData};
 ghost use Rattle.zk_traffic.specs.declared.options.Options.{Options as OptionsData};
 
 use crate::connections::Connections;
-use crate::frame::{is_fragment, packet_in, segment_in};
+use crate::frame::{carrying, is_fragment, packet_in};
 use crate::item::Item;
 use crate::news::Fresh;
 use crate::options::Options;
 use std::alloc::Global;
-use zk_base::{Mem, Moment};
+use zk_base::{Mem, Moment, PacketView};
 use zk_frag::{Frags, Joined};
 use zk_link_ip::Ip4;
-use zk_pcap::PacketView;
 
 /// What the items of a capture are while its records come. There is nothing to run.
 pub fn items_stay()
     // The items of the records so far are a prefix of those of the capture, however much of it is still to come.
-    ensures { (options : OptionsData) (link : ℕ) (records more : List Packet) (ended : Bool)
-        → (rest : List ItemData) × (items_of options link (records ++ more) ended ≡ items_of options link records false ++ rest) }
+    ensures { (options : OptionsData) (records more : List Captured) (ended : Bool)
+        → (rest : List ItemData) × (items_of options (records ++ more) ended ≡ items_of options records false ++ rest) }
 {}
 
 /// What a connection's items rest on, in the subject's own words. There is nothing to run.
@@ -67,6 +66,7 @@ pub fn items_are_own()
 #[derive(Debug, Drop)]
 pub struct Traffic {
     options: Options,
+    /// The link type of the next packet's frame.
     link: u16,
     /// Network time: the greatest moment of the packets so far.
     time: Moment,
@@ -88,10 +88,11 @@ impl Traffic {
     ghost use Rattle.zk_traffic.specs.Standing.{HasFailed, StandsFor, waiting};
     ghost use Rattle.zk_traffic.specs.Taking.{HasTaken, IsReady};
 
-    /// A capture of this link type, before its first packet. No memory is taken.
+    /// A capture before its first packet, whose frame has this link type unless `set_link` names
+    /// another. No memory is taken.
     pub fn new(alloc: Global, options: Options, link: u16) -> Result<Traffic, Mem>
         ensures succeeds { IsOk result }
-        ensures stands { IfOk result (λ traffic. StandsFor traffic options link [] [] false) }
+        ensures stands { IfOk result (λ traffic. StandsFor traffic (at_start options link)) }
     {
         Ok(Traffic {
             options,
@@ -103,14 +104,24 @@ impl Traffic {
         })
     }
 
-    /// Takes the next packet, and makes all items that it brings. After `Mem` the value has failed:
+    /// The packets that come have frames of this link type, until another is set. Those that came keep
+    /// theirs, and so do their items. No memory is taken.
+    pub fn set_link(&mut self, link: u16)
+        ensures stands { (h : History) → StandsFor self.old h → StandsFor self.new (record h { link = link }) }
+        ensures failed { HasFailed self.old → HasFailed self.new }
+    {
+        self.link = link;
+    }
+
+    /// Takes the next packet, whose frame has the link type that was set last, and makes all items that
+    /// it brings. After `Mem` the value has failed:
     /// from then on `packet` and `end` answer `Mem`, and `next` gives nothing.
     pub fn packet(&mut self, p: PacketView<'_>) -> Result<(), Mem>
         requires early { pos 0 ≤ℤ p.moment.0 }
         requires late { p.moment.0 ≤ℤ pos (2 ^ 62) }
         requires captured { length p.bytes.now ≤ 262144 }
-        ensures taken { OnOk result ((options : OptionsData) (link : ℕ) (records : List Packet) (given : List ItemData) → StandsFor self.old options link records given false
-            → StandsFor self.new options link (records ++ packet_of p.entry ∷ []) given false) }
+        ensures taken { OnOk result ((h : History) → StandsFor self.old h → h.ended ≡ false
+            → StandsFor self.new (record h { records = h.records ++ captured h.link p.entry ∷ [] })) }
         ensures fails { OnErr result (HasFailed self.new) }
         ensures failed { HasFailed self.old → OnOk result ⊥ }
     {
@@ -124,13 +135,9 @@ impl Traffic {
 
     /// The next item that was not given yet: none where all were given, or the value has failed.
     pub fn next(&mut self) -> Option<Item>
-        ensures item { (options : OptionsData) (link : ℕ) (records : List Packet) (given : List ItemData) (ended : Bool) → StandsFor self.old options link records given ended
-            → result ≡ slice_get (items_of options link records ended) (length given) }
-        ensures given { IfSome result (λ item. (options : OptionsData) (link : ℕ) (records : List Packet) (given : List ItemData) (ended : Bool)
-            → StandsFor self.old options link records given ended → StandsFor self.new options link records (given ++ item ∷ []) ended) }
-        ensures none { IfNone result ((options : OptionsData) (link : ℕ) (records : List Packet) (given : List ItemData) (ended : Bool)
-            → StandsFor self.old options link records given ended
-            → (given ≡ items_of options link records ended) × StandsFor self.new options link records given ended) }
+        ensures item { (h : History) → StandsFor self.old h → result ≡ slice_get (all_items h) (length h.given) }
+        ensures given { IfSome result (λ item. (h : History) → StandsFor self.old h → StandsFor self.new (record h { given = h.given ++ item ∷ [] })) }
+        ensures none { IfNone result ((h : History) → StandsFor self.old h → (h.given ≡ all_items h) × StandsFor self.new h) }
         ensures fewer { IfSome result (λ item. waiting self.new < waiting self.old) }
         ensures failed { HasFailed self.old → (result ≡ None) × HasFailed self.new }
     {
@@ -142,8 +149,7 @@ impl Traffic {
 
     /// The capture has come to its end: what is live is removed. After `Mem` the value has failed.
     pub fn end(&mut self) -> Result<(), Mem>
-        ensures ended { OnOk result ((options : OptionsData) (link : ℕ) (records : List Packet) (given : List ItemData) → StandsFor self.old options link records given false
-            → StandsFor self.new options link records given true) }
+        ensures ended { OnOk result ((h : History) → StandsFor self.old h → h.ended ≡ false → StandsFor self.new (record h { ended = true })) }
         ensures fails { OnErr result (HasFailed self.new) }
         ensures failed { HasFailed self.old → OnOk result ⊥ }
     {
@@ -158,10 +164,8 @@ impl Traffic {
     /// How many bytes are held: those that came ahead of a hole in a live stream, and those below its
     /// front that are not read yet, as a message that isn't whole, of which a stream has at most 65,536.
     pub fn kept(&self) -> u64
-        ensures exact { (options : OptionsData) (link : ℕ) (records : List Packet) (given : List ItemData) (ended : Bool) → StandsFor self.now options link records given ended
-            → result ≡ bytes_held options link records ended }
-        ensures bound { (options : OptionsData) (link : ℕ) (records : List Packet) (given : List ItemData) (ended : Bool) → StandsFor self.now options link records given ended
-            → result ≤ (options.buffer + 65537) * live_streams options link records ended }
+        ensures exact { (h : History) → StandsFor self.now h → result ≡ bytes_held h.options h.records h.ended }
+        ensures bound { (h : History) → StandsFor self.now h → result ≤ (h.options.buffer + 65537) * live_streams h.options h.records h.ended }
     {
         self.connections.kept()
     }
@@ -169,10 +173,9 @@ impl Traffic {
     /// The k-th run of bytes by which the last packet moved a front: those of its sender's stream
     /// first, by place. It stays until the next packet, also behind the end.
     pub fn fresh(&self, k: usize) -> Option<Fresh<'_>>
-        ensures run { (options : OptionsData) (link : ℕ) (before : List Packet) (last : Packet) (given : List ItemData) (ended : Bool)
-            → StandsFor self.now options link (before ++ last ∷ []) given ended
-            → option_map fresh_lent result ≡ slice_get (fresh_at options link (record { before = before; last = last })) k }
-        ensures none { (options : OptionsData) (link : ℕ) (given : List ItemData) (ended : Bool) → StandsFor self.now options link [] given ended → result ≡ None }
+        ensures run { (h : History) (step : Step Captured) → StandsFor self.now h → h.records ≡ so_far step
+            → option_map fresh_lent result ≡ slice_get (fresh_at h.options step) k }
+        ensures none { (h : History) → StandsFor self.now h → h.records ≡ [] → result ≡ None }
     {
         self.connections.news().run(k)
     }
@@ -182,8 +185,8 @@ impl Traffic {
         requires early { pos 0 ≤ℤ p.now.moment.0 }
         requires late { p.now.moment.0 ≤ℤ pos (2 ^ 62) }
         requires captured { length p.now.bytes.now ≤ 262144 }
-        ensures taken { OnOk result ((options : OptionsData) (link : ℕ) (records : List Packet) (given : List ItemData) → StandsFor self.old options link records given false
-            → StandsFor self.new options link (records ++ packet_of p.now ∷ []) given false) }
+        ensures taken { OnOk result ((h : History) → StandsFor self.old h → h.ended ≡ false
+            → StandsFor self.new (record h { records = h.records ++ captured h.link p.now ∷ [] })) }
     {
         self.time = latest(self.time, p.moment);
         self.connections.begin();
@@ -195,8 +198,8 @@ impl Traffic {
 
     /// Takes what stands in a frame.
     fn take_frame(&mut self, frame: &[u8]) -> Result<(), Mem>
-        ensures taken { OnOk result ((options : OptionsData) (link : ℕ) (step : Step Packet) → step.last.bytes ≡ frame.now → IsReady self.old options link step.before (time_at step)
-            → HasTaken self.old self.new options link step) }
+        ensures taken { OnOk result ((options : OptionsData) (step : Step Captured) → step.last.bytes ≡ frame.now → IsReady self.old options step
+            → HasTaken self.old self.new options step) }
         ensures works { self.new.has_failed ≡ self.old.has_failed }
     {
         match packet_in(&self.options, self.link, frame) {
@@ -207,28 +210,30 @@ impl Traffic {
 
     /// Takes an IPv4 packet.
     fn take_ip(&mut self, ip: &Ip4<'_>) -> Result<(), Mem>
-        ensures taken { OnOk result ((options : OptionsData) (link : ℕ) (step : Step Packet) → packet_in options link step.last.bytes ≡ Some (packet ip.now).now
-            → IsReady self.old options link step.before (time_at step) → HasTaken self.old self.new options link step) }
+        ensures taken { OnOk result ((options : OptionsData) (step : Step Captured) → packet_at options step ≡ Some (packet ip.now).now
+            → IsReady self.old options step → HasTaken self.old self.new options step) }
         ensures works { self.new.has_failed ≡ self.old.has_failed }
     {
         if is_fragment(ip) {
             return self.take_fragment(ip);
         }
-        let segment = segment_in(&self.options, ip, ip.payload(), ip.full_len());
+        let datagram = carrying(&self.options, ip, ip.payload(), ip.full_len());
+        let segment = datagram.segment();
         self.connections.take_some(self.time, &segment)
     }
 
     /// Takes a fragment, and the datagram that it makes whole.
     fn take_fragment(&mut self, ip: &Ip4<'_>) -> Result<(), Mem>
-        ensures taken { OnOk result ((options : OptionsData) (link : ℕ) (step : Step Packet) → packet_in options link step.last.bytes ≡ Some (packet ip.now).now
-            → is_fragment (packet ip.now).now ≡ true → IsReady self.old options link step.before (time_at step) → HasTaken self.old self.new options link step) }
+        ensures taken { OnOk result ((options : OptionsData) (step : Step Captured) → packet_at options step ≡ Some (packet ip.now).now
+            → is_fragment (packet ip.now).now ≡ true → IsReady self.old options step → HasTaken self.old self.new options step) }
         ensures works { self.new.has_failed ≡ self.old.has_failed }
     {
         match self.frags.take(self.time, ip)? {
             Joined::Held | Joined::Ignored => Ok(()),
             Joined::Whole => {
                 let whole = self.frags.whole();
-                let segment = segment_in(&self.options, ip, whole, whole.len());
+                let datagram = carrying(&self.options, ip, whole, whole.len());
+                let segment = datagram.segment();
                 self.connections.take_some(self.time, &segment)
             }
         }

@@ -2,4 +2,4 @@ use Rattle.zk_traffic.proofs.RecordLemmas.{items_longer}
 use Rattle.zk_traffic.proofs.traffic.items_stay.Goals as goal
 
 pub returns : goal.returns
-returns c = λ options link records more ended. items_longer options link records more ended
+returns c = λ options records more ended. items_longer options records more ended

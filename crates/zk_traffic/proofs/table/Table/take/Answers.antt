@@ -20,11 +20,11 @@ returns-then-touched c = λ limit segments current.
       gave_up = c.in_ok-moves.moves.gave_up;
       reset = touched.reset;
     })
-    c.packet.new.self c.tell-reached.new.self.conns c.take.new.self c.peer.result c.protocol-protocol.result c.args.news.now c.read_datagram.new.news c.take.new.news
+    c.packet.new.self c.tell-reached.new.self.conns c.take.new.self c.other.result c.protocol-protocol.result c.args.news.now c.read_datagram.new.news c.take.new.news
     current.holds current.in_order (c.in_ok-touched.ensures.answer current.told current.holds.stands may) (c.in_ok-touched.ensures.taken current.told current.holds.stands may)
     c.stops-stops.ensures.resets c.stops-stops.ensures.was_reset c.protocol-protocol.ensures.syn c.protocol-protocol.ensures.datagram
     c.read_datagram.ensures.runs c.read_datagram.ensures.gaps (c.in_ok-read_datagram.ensures.units c.args.t) c.in_ok-moves.ensures.limit c.in_ok-moves.ensures.others (c.in_ok-moves.ensures.taken c.args.t)
-    c.peer.ensures
+    c.other.ensures
     (record { told = c.tell-reached.ensures.told; ended_is = c.tell-reached.ensures.ended })
     (record { told = c.tell-receiver_ended.ensures.told; ended_is = c.tell-receiver_ended.ensures.ended })
     (c.tell-receiver_ended.ensures.streams ∙ c.tell-reached.ensures.streams)
@@ -46,11 +46,11 @@ returns-else-touched c = λ limit segments current.
       gave_up = c.in_ok-moves.moves.gave_up;
       reset = touched.reset;
     })
-    c.packet.new.self c.tell-reached.new.self.conns c.take.new.self c.peer.result c.protocol-protocol.result c.args.news.now c.read_datagram.new.news c.take.new.news
+    c.packet.new.self c.tell-reached.new.self.conns c.take.new.self c.other.result c.protocol-protocol.result c.args.news.now c.read_datagram.new.news c.take.new.news
     current.holds current.in_order (c.in_ok-touched.ensures.answer current.told current.holds.stands may) (c.in_ok-touched.ensures.taken current.told current.holds.stands may)
     c.stops-stops.ensures.resets c.stops-stops.ensures.was_reset c.protocol-protocol.ensures.syn c.protocol-protocol.ensures.datagram
     c.read_datagram.ensures.runs c.read_datagram.ensures.gaps (c.in_ok-read_datagram.ensures.units c.args.t) c.in_ok-moves.ensures.limit c.in_ok-moves.ensures.others (c.in_ok-moves.ensures.taken c.args.t)
-    c.peer.ensures
+    c.other.ensures
     (record { told = c.tell-reached.ensures.told; ended_is = c.tell-reached.ensures.ended })
     (record { told = c.tell-receiver_ended.ensures.told; ended_is = c.tell-receiver_ended.ensures.ended })
     (c.tell-receiver_ended.ensures.streams ∙ c.tell-reached.ensures.streams)

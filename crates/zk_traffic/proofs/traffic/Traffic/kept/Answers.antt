@@ -3,8 +3,8 @@ use Rattle.zk_traffic.proofs.BoundLemmas.{kept_within, kept_is}
 use Rattle.zk_traffic.proofs.traffic.Traffic.kept.Goals as goal
 
 pub returns-clause-exact : goal.returns-clause-exact
-returns-clause-exact c = λ options link records given ended stands. c.kept.ensures ∙ kept_is c.args.self.now options link records given ended stands
+returns-clause-exact c = λ h stands. c.kept.ensures ∙ kept_is c.args.self.now h stands
 
 pub returns-clause-bound : goal.returns-clause-bound
-returns-clause-bound c = λ options link records given ended stands.
-    omega (arith, c.kept.ensures, kept_within c.args.self.now options link records given ended stands)
+returns-clause-bound c = λ h stands.
+    omega (arith, c.kept.ensures, kept_within c.args.self.now h stands)

@@ -1,5 +1,5 @@
 use Rattle.std.proofs.Common.{[], refl}
-use Rattle.zk_pcap.specs.NetworkTime.{now}
+use Rattle.zk_base.specs.NetworkTime.{now}
 use Rattle.zk_traffic.proofs.OpenLemmas.{stands_new}
 use Rattle.zk_traffic.proofs.traffic.Traffic.new.Goals as goal
 

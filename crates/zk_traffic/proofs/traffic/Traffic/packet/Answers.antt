@@ -4,8 +4,8 @@ use Rattle.zk_traffic.proofs.OpenLemmas.{on_ok_is}
 use Rattle.zk_traffic.proofs.traffic.Traffic.packet.Goals as goal
 
 pub returns-clause-taken : goal.returns-clause-taken
-returns-clause-taken c = on_ok_is c.take-taken.result c.take-taken.ensures.taken (λ u is taken options link records given stands.
-    let s = taken options link records given stands in
+returns-clause-taken c = on_ok_is c.take-taken.result c.take-taken.ensures.taken (λ u is taken h stands goes_on.
+    let s = taken h stands goes_on in
     record {
       works = c.is_err-self.ensures.value ∙ ap is_err is;
       options_are = s.options_are;

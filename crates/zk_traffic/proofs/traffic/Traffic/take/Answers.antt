@@ -1,14 +1,14 @@
 use Rattle.std.proofs.Common.{◌≡◌, ◌≤ℤ◌, ◌++◌, map, length, refl, sym, ap, subst, ◌∙◌}
 use Rattle.zk_base.specs.declared.time.Moment.{Moment}
-use Rattle.zk_pcap.specs.declared.records.Packet.{Packet}
-use Rattle.zk_pcap.specs.NetworkTime.{later, now, now-append}
-use Rattle.zk_pcap.specs.View.{packet_of}
+use Rattle.zk_base.specs.Captured.{Captured, captured}
+use Rattle.zk_base.specs.NetworkTime.{later, now, now-append}
 use Rattle.zk_traffic.specs.declared.item.What.TheVariants as what
 use Rattle.zk_traffic.specs.Datagram.{time_at}
 use Rattle.zk_traffic.specs.Instances.{in_order, over_between}
 use Rattle.zk_traffic.specs.Items.{item, removed, when}
 use Rattle.zk_traffic.specs.News.{runs_of}
 use Rattle.zk_traffic.specs.Segments.{segments}
+use Rattle.zk_traffic.specs.Standing.{IsTable}
 use Rattle.zk_traffic.specs.Steps.{Step}
 use Rattle.zk_traffic.specs.Table.{IsCurrent}
 use Rattle.zk_traffic.specs.Waiting.{items_in}
@@ -18,18 +18,22 @@ use Rattle.zk_traffic.proofs.traffic.Traffic.take.Goals as goal
 
 pub returns : goal.returns
 returns c = record {
-  taken = on_ok c.take_frame.result c.take_frame.ensures.taken (λ taken options link records given stands.
+  taken = on_ok c.take_frame.result c.take_frame.ensures.taken (λ taken h stands goes_on.
       let p = c.args.p.now in
-      let step : Step Packet = record { before = records; last = packet_of p } in
-      let segs = segments options link records in
+      let options = h.options in
+      let records = h.records in
+      let last = captured h.link p in
+      let step : Step Captured = record { before = records; last = last } in
+      let segs = segments options records in
       let t = c.latest-self.result in
-      let t_is : t ≡ time_at step = c.latest-self.ensures ∙ ap (λ m. later m p.moment) stands.time_is ∙ sym (now-append records (packet_of p)) in
-      let behind : (now records).0 ≤ℤ t.0 = subst (λ (m : Moment). (now records).0 ≤ℤ m.0) (sym t_is) (not_before records (packet_of p)) in
-      let due = c.in_ok-remove_due.ensures.removed options.buffer segs (now records) (subst (λ x. IsCurrent x options.buffer segs (now records)) (sym c.begin.ensures.table) stands.table_is) behind in
+      let t_is : t ≡ time_at step = c.latest-self.ensures ∙ ap (λ m. later m p.moment) stands.time_is ∙ sym (now-append records last) in
+      let behind : (now records).0 ≤ℤ t.0 = subst (λ (m : Moment). (now records).0 ≤ℤ m.0) (sym t_is) (not_before records last) in
+      let table_is = subst (IsTable c.args.self.now.connections.table options.buffer segs (now records)) goes_on stands.table_is in
+      let due = c.in_ok-remove_due.ensures.removed options.buffer segs (now records) (subst (λ x. IsCurrent x options.buffer segs (now records)) (sym c.begin.ensures.table) table_is) behind in
       let old_items = items_in c.args.self.now.connections.items in
       let news_are = c.give_seen.ensures.news ∙ c.remove_due.ensures.news in
-      stands_with c.args.self.now _ c.take_frame.new.self options link step given stands
-      (taken options link step refl (record {
+      stands_with c.args.self.now _ c.take_frame.new.self h last stands goes_on refl
+      (taken options step refl (record {
         options_are = stands.options_are;
         link_is = stands.link_is;
         time_is = t_is;

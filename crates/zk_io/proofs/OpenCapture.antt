@@ -2,17 +2,16 @@
 use Rattle.std.proofs.Common.{◌≡◌, ℕ, ◌^◌, false, List, [], ◌∷◌, ◌++◌, drop, Option, Some, None, Result, Ok, Err, IsTrue, IsSome, IfSome, inl, inr, refl, sym, ap, subst, ◌∙◌, append-nil}
 use Rattle.std.specs.Prelude.{◌⊎◌}
 use Rattle.std.specs.Option.{option_map}
+use Rattle.zk_base.specs.Captured.{Captured}
+use Rattle.zk_base.specs.declared.capture.CaptureEnding.{CaptureEnding}
 use Rattle.zk_base.specs.declared.endings.Ending.TheVariants as ending
 use Rattle.zk_base.specs.Shelf.{Files, Outside, is_open, rest_of, bytes_from, lies_under, OpensInput, FindsNone, HasRisen}
 use Rattle.zk_base.specs.Shelf.{opened as opened_reading}
-use Rattle.zk_pcap.specs.declared.captures.Capture.{Capture}
-use Rattle.zk_pcap.specs.declared.captures.CaptureEnding.{CaptureEnding}
-use Rattle.zk_pcap.specs.declared.records.Packet.{Packet}
 use Rattle.zk_pcap.specs.declared.faults.CaptureFault.{CaptureFault}
 use Rattle.zk_pcap.specs.declared.faults.CaptureFault.TheVariants as fault
 use Rattle.zk_pcap.specs.declared.headers.Header.{Header}
 use Rattle.zk_pcap.specs.CaptureFault.{place_of}
-use Rattle.zk_pcap.specs.Capture.{capture_of, capture_after}
+use Rattle.zk_pcap.specs.Capture.{capture_after}
 use Rattle.zk_pcap.specs.Feed.{IsSure}
 use Rattle.zk_pcap.specs.Header.{counted, header_of}
 use Rattle.zk_pcap.proofs.FrontLemmas.{header_stays}
@@ -20,11 +19,10 @@ use Rattle.zk_pcap.proofs.HeaderLemmas.{header_of_counted}
 use Rattle.zk_io.specs.declared.capture.CaptureReader.{CaptureReader}
 use Rattle.zk_load.specs.declared.found.Found.{Found}
 use Rattle.zk_load.specs.declared.found.Found.TheVariants.{Accepted, Refused}
-use Rattle.zk_io.specs.Opened.{link_by, link_in, judged, opened}
+use Rattle.zk_io.specs.Opened.{Recording, judged, opened, recording_after, recording_of}
 use Rattle.zk_load.specs.Parts.{IsReadOf, IsRefusal, DoesWithoutFault, DoesAll, Finds}
 use Rattle.zk_io.specs.Reading.{HasRead, is_short, IsOpen, IsJudged, IsCapture, OpensCapture, FindsCapture}
 use Rattle.zk_load.proofs.Doing.{none_appended, start_all, does_both_all}
-use Rattle.zk_io.proofs.CaptureReading.{told_header}
 use Rattle.zk_load.proofs.SoFar.{none_of_input}
 
 -- an input that is opened can be read
@@ -60,10 +58,10 @@ whole_header : (front rest : List ℕ) → (is_short (header_of front) ≡ false
 whole_header front rest (inl sure) = header_stays front rest (sure_of (header_of front) sure)
 whole_header front rest (inr over) = ap (λ r. header_of (front ++ r)) over ∙ ap header_of (append-nil front)
 
-refused_whole : (front rest : List ℕ) (why : CaptureFault) → (is_short (header_of front) ≡ false) ⊎ (rest ≡ []) → header_of front ≡ Err why → capture_of (front ++ rest) ≡ Err why
+refused_whole : (front rest : List ℕ) (why : CaptureFault) → (is_short (header_of front) ≡ false) ⊎ (rest ≡ []) → header_of front ≡ Err why → recording_of (front ++ rest) ≡ Err why
 refused_whole front rest why known refused =
     let whole : List ℕ = front ++ rest in
-    ap (λ read. capture_after read (counted whole)) (sym (header_of_counted whole) ∙ whole_header front rest known ∙ refused)
+    ap (recording_after (header_of whole)) (ap (λ read. capture_after read (counted whole)) (sym (header_of_counted whole) ∙ whole_header front rest known ∙ refused))
 
 refused_told : (name front : List ℕ) (why : CaptureFault) (there : Option (List ℕ)) → IsSome there → (rest : Option (List ℕ)) → there ≡ option_map (λ r. front ++ r) rest
     → (is_short (header_of front) ≡ false) ⊎ IfSome rest (λ r. r ≡ []) → header_of front ≡ Err why → opened name there ≡ Refused (ending.CaptureRefused name (place_of why))
@@ -76,7 +74,6 @@ pub found_by : (name front : List ℕ) (old mid new : Outside) (found : Found Ca
 found_by name front old mid new (Accepted reader) opens reads has known judges = record {
   does = does_both_all (name ∷ []) [] [] [] [] [] old mid new (start_all name old mid opens) reads;
   holds = opens.holds;
-  header = judges.0;
   bytes = front;
   reading = judges.2 (lies_under old.inputs name) new (subst (λ whole. HasRead whole front new) (all_left old mid name opens) has);
 }
@@ -129,38 +126,24 @@ found_no_capture file old new read lacks risen = record {
   present = λ other. absurd (other file refl);
 }
 
-pub found_absent : (name : List ℕ) (old new : Outside) → FindsNone old name new → Finds {X = Capture} name (opened name) old (Refused (ending.NoInput name)) new
+pub found_absent : (name : List ℕ) (old new : Outside) → FindsNone old name new → Finds {X = Recording} name (opened name) old (Refused (ending.NoInput name)) new
 found_absent name old new finds =
     found_no_capture name old new (absent_does name old new finds) (none_of_input name (2 ^ 40) old new finds)
     (subst (λ n. HasRisen old.absences n) (sym (ap (λ (o : Outside). o.absences) finds.after)) finds.risen)
 
-told_opened : (name : List ℕ) (packets : List Packet) (e : CaptureEnding) (there : Option (List ℕ)) → IsSome there → IsCapture there packets e
-    → Accepted (record { packets = packets; ending = e }) ≡ opened name there
-told_opened name packets e None holds is = absurd (let never : ⊥ = cc in never)
-told_opened name packets e (Some file) holds is = ap (judged name) (sym is)
+told_opened : (name : List ℕ) (records : List Captured) (e : CaptureEnding) (there : Option (List ℕ)) → IsSome there → IsCapture there records e
+    → Accepted (record { records = records; ending = e }) ≡ opened name there
+told_opened name records e None holds is = absurd (let never : ⊥ = cc in never)
+told_opened name records e (Some file) holds is = ap (judged name) (sym is)
 
--- the capture that was opened, once its packets are known
-pub capture_found : (name : List ℕ) (old : Outside) (reader : CaptureReader) (new : Outside) (packets : List Packet) (e : CaptureEnding) → OpensCapture name old reader new
-    → IsCapture (lies_under old.inputs name) packets e → Finds name (opened name) old (Accepted (record { packets = packets; ending = e })) new
-capture_found name old reader new packets e opens is = record {
+-- the capture that was opened, once its records are known
+pub capture_found : (name : List ℕ) (old : Outside) (reader : CaptureReader) (new : Outside) (records : List Captured) (e : CaptureEnding) → OpensCapture name old reader new
+    → IsCapture (lies_under old.inputs name) records e → Finds name (opened name) old (Accepted (record { records = records; ending = e })) new
+capture_found name old reader new records e opens is = record {
   does = opens.does.all;
-  told = λ inputs t. told_opened name packets e (inputs name) (subst (λ o. IfSome o (λ files. IsSome (files name))) t opens.holds)
-      (subst (λ i. IsCapture (lies_under i name) packets e) t is);
+  told = λ inputs t. told_opened name records e (inputs name) (subst (λ o. IfSome o (λ files. IsSome (files name))) t opens.holds)
+      (subst (λ i. IsCapture (lies_under i name) records e) t is);
   refusal = λ refused same. absurd (let never : ⊥ = cc in never);
   absent = λ absentee same. absurd (let never : ⊥ = cc in never);
   present = λ other. opens.does.present;
 }
-
--- ---- the link type
-
-told_link : (there : Option (List ℕ)) (header : Header) → IsSome there → IfSome there (λ file. header_of file ≡ Ok header) → link_in there ≡ header.link
-told_link None header holds is = absurd (let never : ⊥ = cc in never)
-told_link (Some file) header holds is = ap link_by is
-
--- the told input has the link type that was read
-pub opened_link : (name : List ℕ) (old : Outside) (reader : CaptureReader) (now : Outside) → (opens : OpensCapture name old reader now)
-    → (inputs : Files) → old.inputs ≡ Some inputs → link_in (inputs name) ≡ opens.header.link
-opened_link name old reader now opens inputs told =
-    told_link (inputs name) opens.header (subst (λ o. IfSome o (λ files. IsSome (files name))) told opens.holds)
-    (subst (λ i. IfSome (lies_under i name) (λ file. header_of file ≡ Ok opens.header)) told
-    (told_header (lies_under old.inputs name) opens.header opens.bytes [] reader now opens.reading))

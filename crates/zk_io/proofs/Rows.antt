@@ -1,9 +1,9 @@
 -- Small files as captures, computed by the checker.
-use Rattle.std.proofs.Common.{◌≡◌, ℕ, List, [], ◌∷◌, codes, Some, None, refl}
+use Rattle.std.proofs.Common.{◌≡◌, ℕ, List, [], ◌∷◌, ◌++◌, codes, pos, Some, None, refl}
 use Rattle.zk_base.specs.declared.endings.Ending.TheVariants.{NoInput, CaptureRefused, CutShort}
 use Rattle.zk_load.specs.declared.found.Found.TheVariants.{Accepted, Refused}
-use Rattle.zk_pcap.specs.declared.captures.CaptureEnding.TheVariants.{Whole, Cut}
-use Rattle.zk_io.specs.Opened.{opened, link_in, end_of_capture}
+use Rattle.zk_base.specs.declared.capture.CaptureEnding.TheVariants.{Whole, Cut}
+use Rattle.zk_io.specs.Opened.{opened, end_of_capture}
 
 -- little-endian numbers, microseconds, version 2.4 and raw IP
 abbrev header_alone : List ℕ
@@ -12,11 +12,13 @@ header_alone = 212 ∷ 195 ∷ 178 ∷ 161 ∷ 2 ∷ 0 ∷ 4 ∷ 0 ∷ 0 ∷ 0 �
 no_file_is_there : opened (codes "a") None ≡ Refused (NoInput (codes "a"))
 no_file_is_there = refl
 
-a_header_alone_is_a_capture : opened (codes "a") (Some header_alone) ≡ Accepted (record { packets = []; ending = Whole })
+a_header_alone_is_a_capture : opened (codes "a") (Some header_alone) ≡ Accepted (record { records = []; ending = Whole })
 a_header_alone_is_a_capture = refl
 
-its_frames_are_raw_ip : link_in (Some header_alone) ≡ 101
-its_frames_are_raw_ip = refl
+-- behind it an empty record at second 1, whose frame had 60 bytes
+a_record_has_the_link_type_of_the_header : opened (codes "a") (Some (header_alone ++ 1 ∷ 0 ∷ 0 ∷ 0 ∷ 0 ∷ 0 ∷ 0 ∷ 0 ∷ 0 ∷ 0 ∷ 0 ∷ 0 ∷ 60 ∷ 0 ∷ 0 ∷ 0 ∷ []))
+    ≡ Accepted (record { records = record { moment = record { 0 = pos 1000000 }; orig_len = 60; bytes = []; link = 101 } ∷ []; ending = Whole })
+a_record_has_the_link_type_of_the_header = refl
 
 a_header_is_refused_where_it_ends : opened (codes "a") (Some (212 ∷ 195 ∷ 178 ∷ 161 ∷ 2 ∷ [])) ≡ Refused (CaptureRefused (codes "a") 5)
 a_header_is_refused_where_it_ends = refl

@@ -1,23 +1,23 @@
 -- How far the reading of an input has come, and of a capture in it.
-use Rattle.std.specs.Prelude.{◌≡◌, ◌⊎◌, ℕ, ◌+◌, ◌≤◌, ◌^◌, Bool, true, false, List, [], ◌∷◌, ◌++◌, length, Option, None, Result, Ok, Err, IsTrue, IsSome, IfSome}
+use Rattle.std.specs.Prelude.{◌≡◌, ◌⊎◌, ℕ, ◌+◌, ◌≤◌, ◌^◌, Bool, true, false, List, [], ◌∷◌, ◌++◌, length, map, Option, None, Result, Ok, Err, IsTrue, IsSome, IfSome}
 use Rattle.std.specs.Option.{is_some, option_map}
+use Rattle.zk_base.specs.Captured.{Captured}
+use Rattle.zk_base.specs.declared.capture.CaptureEnding.{CaptureEnding}
 use Rattle.zk_base.specs.Shelf.{Outside, Closed, is_open, rest_of, lies_under}
-use Rattle.zk_pcap.specs.declared.captures.Capture.{Capture}
-use Rattle.zk_pcap.specs.declared.captures.CaptureEnding.{CaptureEnding}
 use Rattle.zk_pcap.specs.declared.faults.CaptureFault.{CaptureFault}
 use Rattle.zk_pcap.specs.declared.faults.CaptureFault.TheVariants as fault
 use Rattle.zk_pcap.specs.declared.headers.Header.{Header}
 use Rattle.zk_pcap.specs.declared.records.Packet.{Packet}
-use Rattle.zk_pcap.specs.Capture.{capture_of, end_from}
-use Rattle.zk_pcap.specs.Header.{header_of}
-use Rattle.zk_pcap.specs.Record.{record_at, is_too_long}
+use Rattle.zk_pcap.specs.Header.{header_of, number_of}
+use Rattle.zk_pcap.specs.Record.{record_by, is_too_long_by}
 use Rattle.zk_pcap.specs.Standing.{StandsFor, first_record}
 use Rattle.zk_base.specs.declared.endings.Ending.TheVariants.{NoInput, CaptureRefused}
 use Rattle.zk_pcap.specs.CaptureFault.{place_of}
 use Rattle.zk_io.specs.declared.capture.CaptureReader.{CaptureReader}
 use Rattle.zk_load.specs.declared.found.Found.{Found}
 use Rattle.zk_load.specs.declared.found.Found.TheVariants.{Accepted, Refused}
-use Rattle.zk_io.specs.Opened.{opened}
+use Rattle.zk_pcap.specs.View.{recorded}
+use Rattle.zk_io.specs.Opened.{Recording, recording_of, opened}
 use Rattle.zk_load.specs.declared.stop.Stop.{Stop}
 use Rattle.zk_load.specs.declared.stop.Stop.TheVariants.{ReadFault, WriteFault, NoMemory}
 use Rattle.zk_load.specs.Parts.{DoesAll, DoesPart, Finds}
@@ -66,8 +66,8 @@ IsStoppedEarly whole ReadFault now = (now.reading ≡ Closed) ⊎ LacksHeader wh
 IsStoppedEarly whole WriteFault now = ⊥
 IsStoppedEarly whole NoMemory now = Unit {0}
 
--- The reader has read these bytes of a capture with this header, and has gone on behind these packets.
-pub record IsReading (whole : Option (List ℕ)) (header : Header) (bytes : List ℕ) (packets : List Packet) (reader : CaptureReader) (now : Outside) : Type 0 where
+-- The reader has read these bytes of a capture of the classic form with this header, and has gone on behind these packets.
+pub record IsBehind (whole : Option (List ℕ)) (header : Header) (bytes : List ℕ) (packets : List Packet) (reader : CaptureReader) (now : Outside) : Type 0 where
   pub opens : header_of bytes ≡ Ok header
   pub link : reader.link ≡ header.link
   pub stands : StandsFor reader.feed header bytes packets
@@ -75,6 +75,13 @@ pub record IsReading (whole : Option (List ℕ)) (header : Header) (bytes : List
   pub counted : reader.left + length bytes ≡ 2 ^ 40
   pub read_out : reader.is_read_out ≡ true → (reader.left ≡ 0) ⊎ IfSome (rest_of now) (λ rest. rest ≡ [])
   pub passed : reader.passed ≡ length packets
+
+-- The reader has read these bytes of a capture, and has gone on behind these records.
+pub record IsReading (whole : Option (List ℕ)) (bytes : List ℕ) (records : List Captured) (reader : CaptureReader) (now : Outside) : Type 0 where
+  pub header : Header
+  pub packets : List Packet
+  pub behind : IsBehind whole header bytes packets reader now
+  pub are : records ≡ map (recorded header) packets
 
 -- a packet stands next
 abbrev pub has_next : CaptureReader → Bool
@@ -88,57 +95,71 @@ has_ended reader = reader.is_read_out
 abbrev pub next_place : CaptureReader → ℕ
 next_place reader = reader.feed.place
 
+-- the link type of the packet that stands next
+abbrev pub link_of : CaptureReader → ℕ
+link_of reader = reader.link
+
+-- the record that stands next in a capture of which these bytes were read, if it is whole
+abbrev pub next_in : List ℕ → CaptureReader → Option Packet
+next_in bytes reader = record_by (number_of reader.feed.big) reader.feed.nano bytes (next_place reader)
+
+-- what was captured of it
+abbrev pub next_record : List ℕ → CaptureReader → Option Captured
+next_record bytes reader =
+    option_map (λ packet. record { moment = packet.moment; orig_len = packet.orig_len; bytes = packet.bytes; link = link_of reader }) (next_in bytes reader)
+
+-- it says that more bytes were captured than a record may have
+abbrev pub is_next_too_long : List ℕ → CaptureReader → Bool
+is_next_too_long bytes reader = is_too_long_by (number_of reader.feed.big) bytes (next_place reader)
+
 -- the record that stands next in the capture that is being read is too long
 abbrev pub MeetsTooLong : CaptureReader → Outside → Type 0
 MeetsTooLong reader now =
-    (whole : Option (List ℕ)) × (header : Header) × (bytes : List ℕ) × (packets : List Packet)
-    × IsReading whole header bytes packets reader now × (is_too_long header bytes (end_from 24 packets) ≡ true)
+    (whole : Option (List ℕ)) × (bytes : List ℕ) × (records : List Captured) × IsReading whole bytes records reader now × (is_next_too_long bytes reader ≡ true)
 
 -- a capture is being read
 abbrev pub IsUnderWay : CaptureReader → Outside → Type 0
-IsUnderWay reader now =
-    (whole : Option (List ℕ)) × (header : Header) × (bytes : List ℕ) × (packets : List Packet) × IsReading whole header bytes packets reader now
+IsUnderWay reader now = (whole : Option (List ℕ)) × (bytes : List ℕ) × (records : List Captured) × IsReading whole bytes records reader now
 
 -- No other packet follows: the bytes that count have ended, or the next record is too long.
-pub record IsReadThrough (header : Header) (bytes : List ℕ) (packets : List Packet) (reader : CaptureReader) : Type 0 where
-  pub no_more : record_at header bytes (end_from 24 packets) ≡ None
-  pub through : (reader.is_read_out ≡ true) ⊎ (is_too_long header bytes (end_from 24 packets) ≡ true)
+pub record IsReadThrough (bytes : List ℕ) (reader : CaptureReader) : Type 0 where
+  pub no_more : next_in bytes reader ≡ None
+  pub through : (has_ended reader ≡ true) ⊎ (is_next_too_long bytes reader ≡ true)
 
--- where the whole is told, it is this capture
-abbrev pub IsCapture : Option (List ℕ) → List Packet → CaptureEnding → Type 0
-IsCapture whole packets ending = IfSome whole (λ file. capture_of file ≡ Ok (record { packets = packets; ending = ending }))
+-- where the whole is told, these records were captured in it
+abbrev pub IsCapture : Option (List ℕ) → List Captured → CaptureEnding → Type 0
+IsCapture whole records ending = IfSome whole (λ file. recording_of file ≡ Ok (record { records = records; ending = ending }))
 
--- A capture was read to its end, and what is wanted over its packets was said.
-pub record SaysAll (whole : Option (List ℕ)) (header : Header) (wanted : List Packet → List ℕ) (old : Outside) (reader : CaptureReader) (new : Outside) : Type 0 where
+-- A capture was read to its end, and what is wanted over its records was said.
+pub record SaysAll (whole : Option (List ℕ)) (wanted : List Captured → List ℕ) (old : Outside) (reader : CaptureReader) (new : Outside) : Type 0 where
   pub bytes : List ℕ
-  pub packets : List Packet
-  pub reading : IsReading whole header bytes packets reader new
-  pub through : IsReadThrough header bytes packets reader
-  pub says : DoesAll [] (wanted packets) [] old new
+  pub records : List Captured
+  pub reading : IsReading whole bytes records reader new
+  pub through : IsReadThrough bytes reader
+  pub says : DoesAll [] (wanted records) [] old new
 
--- something holds of the packets of the capture
-pub record OverCapture (whole : Option (List ℕ)) (holds : List Packet → Type 0) : Type 0 where
-  pub packets : List Packet
+-- something holds of the records of the capture
+pub record OverCapture (whole : Option (List ℕ)) (holds : List Captured → Type 0) : Type 0 where
+  pub records : List Captured
   pub ending : CaptureEnding
-  pub all : IsCapture whole packets ending
-  pub there : holds packets
+  pub all : IsCapture whole records ending
+  pub there : holds records
 
--- It was stopped on the way, and a prefix of what is wanted over the packets of the capture was said.
-abbrev pub SaysPart : Option (List ℕ) → (List Packet → List ℕ) → Outside → Stop → Outside → Type 0
-SaysPart whole wanted old stop new = OverCapture whole (λ packets. DoesPart [] (wanted packets) [] old stop new)
+-- It was stopped on the way, and a prefix of what is wanted over the records of the capture was said.
+abbrev pub SaysPart : Option (List ℕ) → (List Captured → List ℕ) → Outside → Stop → Outside → Type 0
+SaysPart whole wanted old stop new = OverCapture whole (λ records. DoesPart [] (wanted records) [] old stop new)
 
 -- the capture in the input of a name is open, and its first packet is next
 pub record OpensCapture (name : List ℕ) (old : Outside) (reader : CaptureReader) (new : Outside) : Type 0 where
   pub does : DoesAll (name ∷ []) [] [] old new
   pub holds : IfSome old.inputs (λ files. IsSome (files name))
-  pub header : Header
   pub bytes : List ℕ
-  pub reading : IsReading (lies_under old.inputs name) header bytes [] reader new
+  pub reading : IsReading (lies_under old.inputs name) bytes [] reader new
 
 -- the capture is open, or the run ends so
 abbrev pub FindsCapture : List ℕ → Outside → Found CaptureReader → Outside → Type 0
 FindsCapture name old (Accepted reader) new = OpensCapture name old reader new
-FindsCapture name old (Refused ending) new = Finds {X = Capture} name (opened name) old (Refused ending) new
+FindsCapture name old (Refused ending) new = Finds {X = Recording} name (opened name) old (Refused ending) new
 
 -- the header of a capture that is there is judged as soon as it is sure
 abbrev pub IsFoundSoon : ℕ → Option (List ℕ) → Found CaptureReader → Outside → Type 0
@@ -154,5 +175,5 @@ IsOpen (Refused ending) now = Unit {0}
 -- The header at the front of a capture is accepted, and the reader has read these bytes; or it is refused.
 abbrev pub IsJudged : List ℕ → List ℕ → Found CaptureReader → Type 0
 IsJudged name bytes (Accepted reader) =
-    (header : Header) × (header_of bytes ≡ Ok header) × ((whole : Option (List ℕ)) (now : Outside) → HasRead whole bytes now → IsReading whole header bytes [] reader now)
+    (header : Header) × (header_of bytes ≡ Ok header) × ((whole : Option (List ℕ)) (now : Outside) → HasRead whole bytes now → IsReading whole bytes [] reader now)
 IsJudged name bytes (Refused ending) = (why : CaptureFault) × (header_of bytes ≡ Err why) × (ending ≡ CaptureRefused name (place_of why))

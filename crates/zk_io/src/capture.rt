@@ -1,11 +1,8 @@
 ghost use Rattle.std.specs.Prelude.{◌≡◌, ◌≢◌, ◌⊎◌, ◌+◌, ◌≤◌, ◌<◌, ◌++◌, ◌∷◌, [], ℕ, List, Option, true, false, length, Some, None, Ok, Err, IsTrue, IfSome, IfOk, OnOk, IfErr};
+ghost use Rattle.zk_base.specs.Captured.{Captured, IsBounded, captured};
 ghost use Rattle.zk_base.specs.Shelf.{Outside, is_open, lies_under, rest_of};
-ghost use Rattle.zk_pcap.specs.Capture.{capture_of, end_from};
 ghost use Rattle.zk_pcap.specs.Header.{header_of};
-ghost use Rattle.zk_pcap.specs.Record.{IsBounded, record_at};
 ghost use Rattle.zk_pcap.specs.View.{packet_of};
-ghost use Rattle.zk_pcap.specs.declared.headers.Header.{Header as HeaderData};
-ghost use Rattle.zk_pcap.specs.declared.records.Packet.{Packet as PacketData};
 ghost use Rattle.zk_io.specs.Opened.{end_of_capture};
 ghost use Rattle.zk_load.specs.Parts.{DoesAll, DoesPart};
 
@@ -35,7 +32,7 @@ pub struct CaptureReader {
 }
 
 impl CaptureReader {
-    ghost use Rattle.zk_io.specs.Reading.{FindsCapture, HasRead, IsCapture, IsFoundSoon, IsJudged, IsOpen, IsReading, IsReadThrough, IsStoppedEarly, MeetsTooLong, has_ended, has_next};
+    ghost use Rattle.zk_io.specs.Reading.{FindsCapture, HasRead, IsCapture, IsFoundSoon, IsJudged, IsOpen, IsReading, IsReadThrough, IsStoppedEarly, MeetsTooLong, has_ended, has_next, link_of, next_in, next_record};
 
     /// Opens the capture in a file, or says how a run ends where there is none: as `NoInput` where no
     /// such file is there, as `CaptureRefused` with the place of the fault where its header is refused.
@@ -86,7 +83,7 @@ impl CaptureReader {
     fn new(alloc: Global, header: Header, front: &[u8]) -> Result<CaptureReader, Mem>
         requires short { length front.now ≤ 23 + CHUNK }
         requires header { header_of front.now ≡ Ok header }
-        ensures { IfOk result (λ reader. (whole : Option (List ℕ)) (now : Outside) → HasRead whole front.now now → IsReading whole header front.now [] reader now) }
+        ensures { IfOk result (λ reader. (whole : Option (List ℕ)) (now : Outside) → HasRead whole front.now now → IsReading whole front.now [] reader now) }
     {
         let mut feed = Feed::new(alloc, &header)?;
         feed.push(&front[HEADER_LEN..])?;
@@ -109,11 +106,11 @@ impl CaptureReader {
         ensures read { OnOk result (DoesAll [] [] [] (S.outside shelf.old) (S.outside shelf.new)) }
         ensures input { OnOk result (IsTrue (is_open (S.outside shelf.new).reading)) }
         ensures packet { IfOk result (λ next. next ≡ has_next self.new) }
-        ensures goes_on { OnOk result ((whole : Option (List ℕ)) (header : HeaderData) (bytes : List ℕ) (packets : List PacketData)
-            → IsReading whole header bytes packets self.old (S.outside shelf.old)
-            → (longer : List ℕ) × IsReading whole header longer packets self.new (S.outside shelf.new)) }
-        ensures through { IfOk result (λ next. next ≡ false → (whole : Option (List ℕ)) (header : HeaderData) (bytes : List ℕ) (packets : List PacketData)
-            → IsReading whole header bytes packets self.new (S.outside shelf.new) → IsReadThrough header bytes packets self.new) }
+        ensures goes_on { OnOk result ((whole : Option (List ℕ)) (bytes : List ℕ) (records : List Captured)
+            → IsReading whole bytes records self.old (S.outside shelf.old)
+            → (longer : List ℕ) × IsReading whole longer records self.new (S.outside shelf.new)) }
+        ensures through { IfOk result (λ next. next ≡ false → (whole : Option (List ℕ)) (bytes : List ℕ) (records : List Captured)
+            → IsReading whole bytes records self.new (S.outside shelf.new) → IsReadThrough bytes self.new) }
         ensures unread { IsTrue (has_ended self.old) → shelf.new ≡ shelf.old }
         ensures ended { IsTrue (has_ended self.old) → IsTrue (has_ended self.new) }
         ensures there { IsTrue (has_next self.old) → shelf.new ≡ shelf.old }
@@ -142,9 +139,9 @@ impl CaptureReader {
         ensures input { OnOk result (IsTrue (is_open (S.outside shelf.new).reading)) }
         ensures less { OnOk result (IsTrue (has_ended self.new) ⊎ (self.new.left < self.old.left)) }
         ensures no_more { OnOk result (self.new.left ≤ self.old.left) }
-        ensures goes_on { OnOk result ((whole : Option (List ℕ)) (header : HeaderData) (bytes : List ℕ) (packets : List PacketData)
-            → IsReading whole header bytes packets self.old (S.outside shelf.old)
-            → (longer : List ℕ) × IsReading whole header longer packets self.new (S.outside shelf.new)) }
+        ensures goes_on { OnOk result ((whole : Option (List ℕ)) (bytes : List ℕ) (records : List Captured)
+            → IsReading whole bytes records self.old (S.outside shelf.old)
+            → (longer : List ℕ) × IsReading whole longer records self.new (S.outside shelf.new)) }
         ensures stopped { IfErr result (λ stop. DoesPart [] [] [] (S.outside shelf.old) stop (S.outside shelf.new)) }
     {
         let most = CHUNK.min(self.left);
@@ -160,10 +157,11 @@ impl CaptureReader {
         Ok(())
     }
 
-    /// The link type of the frames, as the header has it.
+    /// The link type of the packet that stands next: that of all packets, which the header has.
     pub fn link(&self) -> u16
-        ensures { (whole : Option (List ℕ)) (header : HeaderData) (bytes : List ℕ) (packets : List PacketData) (now : Outside)
-            → IsReading whole header bytes packets self.now now → result ≡ header.link }
+        ensures link { result ≡ link_of self.now }
+        ensures header { (whole : Option (List ℕ)) (bytes : List ℕ) (records : List Captured) (now : Outside)
+            → (reading : IsReading whole bytes records self.now now) → result ≡ reading.header.link }
     {
         self.link
     }
@@ -171,9 +169,11 @@ impl CaptureReader {
     /// The packet that stands next, whose bytes are lent from what is held of the capture.
     pub fn packet(&self) -> PacketView<'_>
         requires { IsTrue (has_next self.now) }
-        ensures limits { IsBounded (packet_of result) }
-        ensures record { (whole : Option (List ℕ)) (header : HeaderData) (bytes : List ℕ) (packets : List PacketData) (now : Outside)
-            → IsReading whole header bytes packets self.now now → record_at header bytes (end_from 24 packets) ≡ Some (packet_of result) }
+        ensures limits { (link : ℕ) → IsBounded (captured link result) }
+        ensures record { (whole : Option (List ℕ)) (bytes : List ℕ) (records : List Captured) (now : Outside)
+            → IsReading whole bytes records self.now now → next_in bytes self.now ≡ Some (packet_of result) }
+        ensures captured { (whole : Option (List ℕ)) (bytes : List ℕ) (records : List Captured) (now : Outside)
+            → IsReading whole bytes records self.now now → next_record bytes self.now ≡ Some (captured (link_of self.now) result) }
     {
         match self.feed.next() {
             Next::Packet(packet) => packet,
@@ -184,9 +184,9 @@ impl CaptureReader {
     /// Goes on behind the packet that stands next. Nothing is read for that.
     pub fn advance(&mut self)
         requires { IsTrue (has_next self.old) }
-        ensures goes_on { (whole : Option (List ℕ)) (header : HeaderData) (bytes : List ℕ) (packets : List PacketData) (packet : PacketData) (now : Outside)
-            → IsReading whole header bytes packets self.old now → record_at header bytes (end_from 24 packets) ≡ Some packet
-            → IsReading whole header bytes (packets ++ packet ∷ []) self.new now }
+        ensures goes_on { (whole : Option (List ℕ)) (bytes : List ℕ) (records : List Captured) (next : Captured) (now : Outside)
+            → IsReading whole bytes records self.old now → next_record bytes self.old ≡ Some next
+            → IsReading whole bytes (records ++ next ∷ []) self.new now }
         ensures ended { has_ended self.new ≡ has_ended self.old }
     {
         self.feed.advance();
@@ -195,8 +195,8 @@ impl CaptureReader {
 
     /// How many packets were passed.
     pub fn passed(&self) -> u64
-        ensures { (whole : Option (List ℕ)) (header : HeaderData) (bytes : List ℕ) (packets : List PacketData) (now : Outside)
-            → IsReading whole header bytes packets self.now now → result ≡ length packets }
+        ensures { (whole : Option (List ℕ)) (bytes : List ℕ) (records : List Captured) (now : Outside)
+            → IsReading whole bytes records self.now now → result ≡ length records }
     {
         self.passed
     }
@@ -204,8 +204,8 @@ impl CaptureReader {
     /// How the capture ends, of which no other packet follows: whole, or cut at the byte at which the
     /// record begins that is unfinished or too long.
     pub fn ending(&self) -> CaptureEnding
-        ensures { (whole : Option (List ℕ)) (header : HeaderData) (bytes : List ℕ) (packets : List PacketData) (now : Outside)
-            → IsReading whole header bytes packets self.now now → IsReadThrough header bytes packets self.now → IsCapture whole packets result }
+        ensures { (whole : Option (List ℕ)) (bytes : List ℕ) (records : List Captured) (now : Outside)
+            → IsReading whole bytes records self.now now → IsReadThrough bytes self.now → IsCapture whole records result }
     {
         match self.feed.rest() {
             Some(place) => CaptureEnding::Cut { place },

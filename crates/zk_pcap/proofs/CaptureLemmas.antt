@@ -1,17 +1,22 @@
 -- The capture that a file is, by the packets that stand in it.
-use Rattle.std.proofs.Common.{◌≡◌, ℕ, zero, suc, ◌+◌, ◌*◌, ◌/◌, ◌<◌, ◌≤◌, ◌^◌, Bool, true, false, nat_le, if◌then◌else◌, List, [], ◌∷◌, length, take, drop, slice_index, Some, None, Result, Ok, Err, refl, sym, ap, subst, ◌∙◌, arith}
+use Rattle.std.proofs.Common.{◌≡◌, ℕ, zero, suc, ◌+◌, ◌*◌, ◌/◌, ◌<◌, ◌≤◌, ◌^◌, Bool, true, false, nat_le, if◌then◌else◌, List, [], ◌∷◌, length, map, take, drop, slice_index, Some, None, Result, Ok, Err, refl, sym, ap, subst, ◌∙◌, arith}
 use Rattle.std.specs.List.{All}
 use Rattle.std.proofs.lemmas.Bool.{and_parts, leb-true}
 use Rattle.std.proofs.lemmas.Bool.Decides.{nat_tests}
 use Rattle.std.proofs.lemmas.List.{get_or-drop, length-take}
 use Rattle.std.proofs.lemmas.Option.{cond_some}
+use Rattle.std.proofs.lemmas.List.Elements.{All-map, All-weaker}
 use Rattle.byteorder.specs.Numbers.{big_from-lt, little_from-lt}
+use Rattle.zk_base.specs.Captured.{IsBounded}
+use Rattle.zk_base.specs.NetworkTime.{HasNetworkTime}
+use Rattle.zk_base.proofs.TimeLemmas.{has_network_time}
 use Rattle.zk_pcap.specs.declared.headers.Header.{Header}
 use Rattle.zk_pcap.specs.declared.records.Packet.{Packet}
 use Rattle.zk_pcap.specs.declared.captures.Capture.{Capture}
 use Rattle.zk_pcap.specs.declared.faults.CaptureFault.{CaptureFault}
 use Rattle.zk_pcap.specs.Header.{number_of, header_of, counted}
 use Rattle.zk_pcap.specs.Record.{record_by, record_at, end_of, IsWithinLimits}
+use Rattle.zk_pcap.specs.View.{recorded}
 use Rattle.zk_pcap.specs.Capture.{packets_from, end_from, ending_at, capture_after, capture_of, StandBetween, HasPackets, IsRead, IsAlone}
 use Rattle.zk_pcap.proofs.RecordLemmas.{packets_from-stand, packets_from-stands, packets_from-no_more, end_from-stand, stand_alone, length-stand, all-stand}
 
@@ -98,6 +103,16 @@ pub packets-within : (bytes : List ℕ) (header : Header) (packets : List Packet
     → All IsWithinLimits packets
 packets-within bytes header packets place small counted stand =
     all-stand IsWithinLimits (record_at header bytes) (record_at-within header bytes small counted) 24 packets place stand
+
+-- what is captured of a packet of a file is bounded, under whatever header
+recorded_bounded : (header : Header) (packet : Packet) → IsWithinLimits packet → IsBounded (recorded header packet)
+recorded_bounded header packet within = record { moment = within.moment; captured = within.captured }
+
+-- so network time is the greatest moment so far
+pub recorded_time : (header : Header) (packets : List Packet) → All IsWithinLimits packets → HasNetworkTime (map (recorded header) packets)
+recorded_time header packets within =
+    has_network_time (map (recorded header) packets) (All-map IsBounded (recorded header) packets
+    (All-weaker IsWithinLimits (λ (p : Packet). IsBounded (recorded header p)) (recorded_bounded header) packets within))
 
 -- no record begins behind the bytes
 record_by-past : (number : ℕ → List ℕ → ℕ) (nano : Bool) (bytes : List ℕ) (place : ℕ) → length bytes ≤ place → record_by number nano bytes place ≡ None

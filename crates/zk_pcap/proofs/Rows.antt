@@ -1,11 +1,13 @@
 -- Small captures, computed.
-use Rattle.std.specs.Prelude.{◌≡◌, ℕ, List, [], ◌∷◌, ◌++◌, pos, Ok, Err, refl}
+use Rattle.std.specs.Prelude.{◌≡◌, ℕ, List, [], ◌∷◌, ◌++◌, map, pos, Ok, Err, refl}
+use Rattle.zk_base.specs.declared.capture.CaptureEnding.TheVariants.{Whole, Cut}
+use Rattle.zk_base.specs.NetworkTime.{now}
+use Rattle.zk_pcap.specs.declared.headers.Header.{Header}
 use Rattle.zk_pcap.specs.declared.records.Packet.{Packet}
-use Rattle.zk_pcap.specs.declared.captures.CaptureEnding.TheVariants.{Whole, Cut}
 use Rattle.zk_pcap.specs.declared.faults.CaptureFault.TheVariants.{Short, Version, Link}
 use Rattle.zk_pcap.specs.Header.{header_of}
 use Rattle.zk_pcap.specs.Capture.{capture_of}
-use Rattle.zk_pcap.specs.NetworkTime.{now}
+use Rattle.zk_pcap.specs.View.{recorded}
 
 -- a header of little-endian numbers, microseconds and Ethernet
 abbrev header_alone : List ℕ
@@ -39,8 +41,8 @@ pub falling : capture_of (header_alone ++ 5 ∷ 0 ∷ 0 ∷ 0 ∷ 0 ∷ 0 ∷ 0 
 falling = refl
 
 -- network time stays at the greater moment
-pub not_falling : now time_falls ≡ record { 0 = pos 5000000 }
-not_falling = refl
+pub not_falling : (header : Header) → now (map (recorded header) time_falls) ≡ record { 0 = pos 5000000 }
+not_falling header = refl
 
 -- big-endian numbers and nanoseconds, which are floored
 big_nanoseconds : capture_of (161 ∷ 178 ∷ 60 ∷ 77 ∷ 0 ∷ 2 ∷ 0 ∷ 4 ∷ 0 ∷ 0 ∷ 0 ∷ 0 ∷ 0 ∷ 0 ∷ 0 ∷ 0 ∷ 0 ∷ 4 ∷ 0 ∷ 0 ∷ 0 ∷ 0 ∷ 0 ∷ 1 ∷ 0 ∷ 0 ∷ 0 ∷ 1 ∷ 59 ∷ 154 ∷ 201 ∷ 255 ∷ 0 ∷ 0 ∷ 0 ∷ 0 ∷ 0 ∷ 0 ∷ 0 ∷ 60 ∷ [])

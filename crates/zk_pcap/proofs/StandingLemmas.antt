@@ -4,7 +4,7 @@ use Rattle.std.specs.Prelude.{◌==◌, if◌then◌else◌, IsSome, IfSome, min
 use Rattle.std.specs.Option.{option_map}
 use Rattle.std.proofs.lemmas.Bool.Decides.{nat_tests}
 use Rattle.std.proofs.lemmas.List.{drop-append-le, drop-drop}
-use Rattle.zk_pcap.specs.Held.{bytes_of}
+use Rattle.zk_base.specs.Held.{bytes_of}
 use Rattle.zk_pcap.specs.declared.feed.Feed.{Feed}
 use Rattle.zk_pcap.specs.declared.feed.Next.{Next}
 use Rattle.zk_pcap.specs.declared.feed.Next.TheVariants as next

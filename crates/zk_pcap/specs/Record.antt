@@ -39,11 +39,6 @@ is_too_long header = is_too_long_by (number_of header.big)
 abbrev pub end_of : Packet → ℕ
 end_of packet = packet.place + 16 + length packet.bytes
 
--- what holds of each packet that is read, wherever it stands
-pub record IsBounded (packet : Packet) : Type 0 where
-  pub moment : (micros : ℕ) × (micros < 2 ^ 62) × (packet.moment ≡ record { 0 = pos micros })
-  pub captured : length packet.bytes ≤ 262144
-
 -- what holds of each packet of a file
 pub record IsWithinLimits (packet : Packet) : Type 0 where
   pub moment : (micros : ℕ) × (micros < 2 ^ 62) × (packet.moment ≡ record { 0 = pos micros })

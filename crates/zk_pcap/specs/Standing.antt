@@ -1,7 +1,8 @@
 -- What a value of `Feed` stands for.
 use Rattle.std.specs.Prelude.{◌≡◌, ℕ, ◌<◌, ◌≤◌, ◌^◌, Bool, true, false, ◌==◌, if◌then◌else◌, List, ◌++◌, length, drop, Option, Some, None}
 use Rattle.std.specs.Option.{option_map}
-use Rattle.zk_pcap.specs.Held.{bytes_of}
+use Rattle.zk_base.specs.Captured.{IsBounded, captured}
+use Rattle.zk_base.specs.Held.{bytes_of}
 use Rattle.zk_pcap.specs.declared.feed.Feed.{Feed}
 use Rattle.zk_pcap.specs.declared.feed.Next.{Next}
 use Rattle.zk_pcap.specs.declared.feed.Next.TheVariants as next
@@ -9,7 +10,7 @@ use Rattle.zk_pcap.specs.declared.headers.Header.{Header}
 use Rattle.zk_pcap.specs.declared.records.Packet.{Packet}
 use Rattle.zk_pcap.specs.Capture.{StandBetween}
 use Rattle.zk_pcap.specs.Header.{number_of}
-use Rattle.zk_pcap.specs.Record.{IsBounded, record_by, record_at, is_too_long_by, is_too_long}
+use Rattle.zk_pcap.specs.Record.{record_by, record_at, is_too_long_by, is_too_long}
 use Rattle.zk_pcap.specs.View.{packet_of}
 
 -- The feed is one of a file with this header, has got these bytes of it, and has gone on behind these packets: it holds
@@ -39,7 +40,7 @@ is_packet (next.Bad place) = false
 
 -- a packet that stands next keeps to the limits
 abbrev pub NextIsBounded : Next → Type 0
-NextIsBounded (next.Packet view) = IsBounded (packet_of view)
+NextIsBounded (next.Packet view) = (link : ℕ) → IsBounded (captured link view)
 NextIsBounded next.NeedMore = Unit {0}
 NextIsBounded (next.Bad place) = Unit {0}
 

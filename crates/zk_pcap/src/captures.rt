@@ -1,16 +1,18 @@
-ghost use Rattle.std.specs.Prelude.{◌≡◌, ◌≤◌, length, Ok, IfOk, All};
+ghost use Rattle.std.specs.Prelude.{◌≡◌, ◌≤◌, length, map, Ok, IfOk, All};
 ghost use Rattle.zk_pcap.specs.Header.{counted};
 ghost use Rattle.zk_pcap.specs.Record.{IsWithinLimits, record_at, record_by};
 ghost use Rattle.zk_pcap.specs.Capture.{capture_of, UnlessNoMemory, StandBetween, IsRead, IsAlone, ending_at};
-ghost use Rattle.zk_pcap.specs.NetworkTime.{HasNetworkTime};
+ghost use Rattle.zk_base.specs.NetworkTime.{HasNetworkTime};
+ghost use Rattle.zk_pcap.specs.View.{recorded};
 ghost use Rattle.zk_pcap.specs.declared.captures.Capture.{Capture as CaptureData};
+ghost use Rattle.zk_pcap.specs.declared.headers.Header.{Header as HeaderData};
 
 use crate::headers::HEADER_LEN;
-use crate::records::PacketView;
+use crate::records::{read_record, record_end};
 use crate::{CaptureFault, Header, Packet};
 use byteorder::{BigEndian, ByteOrder, LittleEndian};
 use std::alloc::Global;
-use zk_base::{Mem, Sequence};
+use zk_base::{CAPTURE_MAX, CaptureEnding, Mem, Sequence};
 
 /// The packets of a capture, and how it ends.
 #[derive(Debug, Drop)]
@@ -18,19 +20,6 @@ pub struct Capture {
     pub packets: Sequence<Packet>,
     pub ending: CaptureEnding,
 }
-
-/// How a capture ends.
-#[derive(Clone, Copy, Debug, PartialEq, Eq)]
-pub enum CaptureEnding {
-    /// The last record ends with the bytes that count.
-    Whole,
-    /// At this place begins a record that isn't whole within the bytes that count, or that says more
-    /// bytes were captured than a record may have.
-    Cut { place: u64 },
-}
-
-/// The greatest number of bytes of a file that count.
-pub const CAPTURE_MAX: usize = 1 << 40;
 
 /// Reads the packets of a capture (draft-ietf-opsawg-pcap). Only the first 2^40 bytes of the file
 /// count. The capture is cut at the first record that isn't whole within them, or whose captured
@@ -44,7 +33,7 @@ pub fn packets(alloc: Global, bytes: &[u8]) -> Result<Capture, CaptureFault>
         → IsRead (counted bytes.now) capture × IsAlone (counted bytes.now) capture }
 
     ensures limits { IfOk result (λ capture. All IsWithinLimits capture.packets) }
-    ensures time { IfOk result (λ capture. HasNetworkTime capture.packets) }
+    ensures time { IfOk result (λ capture. (header : HeaderData) → HasNetworkTime (map (recorded header) capture.packets)) }
 {
     let file = first_bytes(bytes);
     let header = Header::read(file)?;
@@ -93,9 +82,9 @@ fn records<T: ByteOrder>(
 {
     let mut packets = Vec::new(alloc);
     let mut place = HEADER_LEN;
-    while let Some(record) = PacketView::read::<T>(file, place, nano) {
-        packets.push(record.to_packet(alloc)?)?;
-        place = record.end();
+    while let Some(record) = read_record::<T>(file, place, nano) {
+        packets.push(Packet::copy_of(alloc, record)?)?;
+        place = record_end(&record);
     }
     Ok((packets, place))
 }

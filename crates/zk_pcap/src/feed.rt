@@ -7,13 +7,12 @@ ghost use Rattle.zk_pcap.specs.Feed.{FeedsReadCaptures, FrontsBeginCaptures, Hea
 ghost use Rattle.zk_pcap.specs.declared.headers.Header.{Header as HeaderData};
 ghost use Rattle.zk_pcap.specs.declared.records.Packet.{Packet as PacketData};
 
+use crate::Header;
 use crate::headers::HEADER_LEN;
-use crate::held::Held;
-use crate::records::{RECORD_HEADER_LEN, captured_len, is_too_long};
-use crate::{Header, PacketView};
+use crate::records::{RECORD_HEADER_LEN, captured_len, is_too_long, read_record, record_end};
 use byteorder::{BigEndian, ByteOrder, LittleEndian};
 use std::alloc::Global;
-use zk_base::{Got, Mem, Shelf};
+use zk_base::{Got, Held, Mem, PacketView, Shelf};
 
 /// What stands next in a capture that comes in pieces.
 #[derive(Clone, Copy, Debug)]
@@ -49,9 +48,9 @@ pub struct Feed {
 }
 
 impl Feed {
-    ghost use Rattle.zk_pcap.specs.Held.{bytes_of};
+    ghost use Rattle.zk_base.specs.Held.{bytes_of};
     ghost use Rattle.zk_base.specs.Shelf.{is_open};
-    ghost use Rattle.zk_pcap.specs.Fetching.{Fetches};
+    ghost use Rattle.zk_base.specs.Fetching.{Fetches};
     ghost use Rattle.zk_pcap.specs.Standing.{StandsFor, GoesOn, IsNext, NextIsBounded, first_record, is_packet, RestIs};
 
     /// The records of a file with this header, of which no byte behind the header has come yet. No
@@ -132,7 +131,7 @@ impl Feed {
 }
 
 impl Feed {
-    ghost use Rattle.zk_pcap.specs.Held.{bytes_of};
+    ghost use Rattle.zk_base.specs.Held.{bytes_of};
     ghost use Rattle.zk_pcap.specs.Standing.{first_record, IsFirst, NextIsBounded};
 
     /// What stands next where the numbers of the file stand in the order `T`.
@@ -141,7 +140,7 @@ impl Feed {
         ensures limits { NextIsBounded result }
     {
         let held = self.held.as_slice();
-        match PacketView::read::<T>(held, 0, self.nano) {
+        match read_record::<T>(held, 0, self.nano) {
             Some(view) => Next::Packet(PacketView {
                 place: self.place,
                 ..view
@@ -192,8 +191,8 @@ fn records_end<T: ByteOrder>(bytes: &[u8], nano: bool) -> usize
     ensures no_more { record_by T.number_of nano bytes.now result ≡ None }
 {
     let mut place = 0;
-    while let Some(record) = PacketView::read::<T>(bytes, place, nano) {
-        place = record.end();
+    while let Some(record) = read_record::<T>(bytes, place, nano) {
+        place = record_end(&record);
     }
     place
 }

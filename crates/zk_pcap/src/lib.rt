@@ -5,11 +5,11 @@ mod captures;
 mod faults;
 mod feed;
 mod headers;
-mod held;
 mod records;
 
-pub use captures::{CAPTURE_MAX, Capture, CaptureEnding, packets};
+pub use captures::{Capture, packets};
 pub use faults::CaptureFault;
 pub use feed::{Feed, Next, feeds_read_captures};
 pub use headers::{HEADER_LEN, Header};
-pub use records::{Packet, PacketView};
+pub use records::Packet;
+pub use zk_base::{CAPTURE_MAX, CaptureEnding, PacketView};

@@ -1,11 +1,14 @@
 ghost use Rattle.std.specs.Prelude.{◌≡◌, ◌+◌, ◌<◌, ◌≤◌, ◌^◌, ℕ, pos, length, drop, IfOk, IfSome};
 ghost use Rattle.std.specs.Option.{option_map};
-ghost use Rattle.zk_pcap.specs.Record.{IsBounded, end_of, is_too_long_by, moment_of, record_by};
-ghost use Rattle.zk_pcap.specs.View.{packet_of};
+ghost use Rattle.zk_base.specs.Captured.{IsBounded, captured};
+ghost use Rattle.zk_base.specs.Slices.{BeginsAt};
+ghost use Rattle.zk_pcap.specs.Record.{end_of, is_too_long_by, moment_of, record_by};
+ghost use Rattle.zk_pcap.specs.View.{packet_of, recorded};
+ghost use Rattle.zk_pcap.specs.declared.headers.Header.{Header as HeaderData};
 
 use byteorder::ByteOrder;
 use std::alloc::Global;
-use zk_base::{Bytes, Mem, Moment};
+use zk_base::{Bytes, Mem, Moment, PacketView, RECORD_BYTES_MAX};
 
 /// A packet of a capture.
 #[derive(Debug, Drop)]
@@ -20,23 +23,12 @@ pub struct Packet {
     pub place: u64,
 }
 
-/// A packet whose bytes are borrowed.
-#[derive(Clone, Copy, Debug)]
-pub struct PacketView<'a> {
-    /// When it was captured.
-    pub moment: Moment,
-    /// How many bytes it had on the wire.
-    pub orig_len: u32,
-    /// Its captured bytes, the very slice of what holds them.
-    pub bytes: &'a [u8],
-    /// Where its record begins in the file.
-    pub place: u64,
-}
-
 impl Packet {
     /// The packet with its bytes lent. No memory is taken.
     pub fn view(&self) -> PacketView<'_>
-        ensures { packet_of result ≡ self.now }
+        ensures packet { packet_of result ≡ self.now }
+        // It is what its record is under each header.
+        ensures captured { (header : HeaderData) → captured header.link result ≡ recorded header self.now }
     {
         PacketView {
             moment: self.moment,
@@ -44,6 +36,18 @@ impl Packet {
             bytes: self.bytes.as_slice(),
             place: self.place,
         }
+    }
+
+    /// The packet of a view, with a copy of the bytes.
+    pub fn copy_of(alloc: Global, view: PacketView<'_>) -> Result<Packet, Mem>
+        ensures { IfOk result (λ packet. packet ≡ packet_of view.entry) }
+    {
+        Ok(Packet {
+            moment: view.moment,
+            orig_len: view.orig_len,
+            bytes: Bytes::copy_of(alloc, view.bytes)?,
+            place: view.place,
+        })
     }
 }
 
@@ -57,58 +61,42 @@ const CAPTURED: usize = 8;
 
 const ORIGINAL: usize = 12;
 
-/// The most bytes that a record may say were captured: the snaplen that tcpdump sets at most.
-const RECORD_BYTES_MAX: usize = 262_144;
-
-impl<'a> PacketView<'a> {
-    /// The record that begins at a place of a file, if it is whole.
-    pub fn read<T: ByteOrder>(file: &'a [u8], place: usize, nano: bool) -> Option<PacketView<'a>>
-        requires { place ≤ length file.now }
-        ensures record { option_map packet_of result ≡ record_by T.number_of nano file.now place }
-        ensures place { IfSome result (λ view. (packet_of view).place ≡ place) }
-        ensures within { IfSome result (λ view. end_of (packet_of view) ≤ length file.now) }
-        ensures limits { IfSome result (λ view. IsBounded (packet_of view)) }
-    {
-        if file.len() - place < RECORD_HEADER_LEN {
-            return None;
-        }
-        let data = place + RECORD_HEADER_LEN;
-        let captured = number_at::<T>(file, place + CAPTURED) as usize;
-        if file.len() - data < captured {
-            return None;
-        }
-        if captured > RECORD_BYTES_MAX {
-            return None;
-        }
-        let seconds = number_at::<T>(file, place);
-        let fraction = number_at::<T>(file, place + FRACTION);
-        Some(PacketView {
-            moment: moment_of(nano, seconds, fraction),
-            orig_len: number_at::<T>(file, place + ORIGINAL),
-            bytes: &file[data..data + captured],
-            place: place as u64,
-        })
+/// The record that begins at a place of a file, if it is whole.
+pub fn read_record<T: ByteOrder>(file: &[u8], place: usize, nano: bool) -> Option<PacketView<'_>>
+    requires { place ≤ length file.now }
+    ensures record { option_map packet_of result ≡ record_by T.number_of nano file.now place }
+    ensures place { IfSome result (λ view. (packet_of view).place ≡ place) }
+    ensures within { IfSome result (λ view. end_of (packet_of view) ≤ length file.now) }
+    ensures limits { IfSome result (λ view. (link : ℕ) → IsBounded (captured link view)) }
+    ensures lent { IfSome result (λ view. BeginsAt (place + 16) file.entry view.bytes) }
+{
+    if file.len() - place < RECORD_HEADER_LEN {
+        return None;
     }
-
-    /// The place behind the record.
-    pub fn end(&self) -> usize
-        requires { end_of (packet_of self.now) < 2 ^ 64 }
-        ensures { result ≡ end_of (packet_of self.now) }
-    {
-        self.place as usize + RECORD_HEADER_LEN + self.bytes.len()
+    let data = place + RECORD_HEADER_LEN;
+    let captured = number_at::<T>(file, place + CAPTURED) as usize;
+    if file.len() - data < captured {
+        return None;
     }
-
-    /// The packet with a copy of the bytes.
-    pub fn to_packet(self, alloc: Global) -> Result<Packet, Mem>
-        ensures { IfOk result (λ packet. packet ≡ packet_of self.entry) }
-    {
-        Ok(Packet {
-            moment: self.moment,
-            orig_len: self.orig_len,
-            bytes: Bytes::copy_of(alloc, self.bytes)?,
-            place: self.place,
-        })
+    if captured > RECORD_BYTES_MAX {
+        return None;
     }
+    let seconds = number_at::<T>(file, place);
+    let fraction = number_at::<T>(file, place + FRACTION);
+    Some(PacketView {
+        moment: moment_of(nano, seconds, fraction),
+        orig_len: number_at::<T>(file, place + ORIGINAL),
+        bytes: &file[data..data + captured],
+        place: place as u64,
+    })
+}
+
+/// The place behind a record.
+pub fn record_end(record: &PacketView<'_>) -> usize
+    requires { end_of (packet_of record.now) < 2 ^ 64 }
+    ensures { result ≡ end_of (packet_of record.now) }
+{
+    record.place as usize + RECORD_HEADER_LEN + record.bytes.len()
 }
 
 /// The moment of a second and a fraction of it.

@@ -1,7 +1,6 @@
 use Rattle.std.proofs.Common.{ℕ, ◌<◌, ◌≤◌, ◌^◌, length, slice_index, sym, arith}
 use Rattle.std.proofs.lemmas.List.{length-take}
-use Rattle.zk_pcap.proofs.CaptureLemmas.{capture_after-stand, capture_of-read, packets-within, bytes-take}
-use Rattle.zk_pcap.proofs.TimeLemmas.{now_of_file}
+use Rattle.zk_pcap.proofs.CaptureLemmas.{capture_after-stand, capture_of-read, packets-within, recorded_time, bytes-take}
 use Rattle.zk_pcap.proofs.captures.packets.Goals as goal
 
 pub returns-clause-exact : goal.returns-clause-exact
@@ -21,7 +20,7 @@ returns-clause-limits c =
     small short c.in_ok-packets.ensures.stand)
 
 pub returns-clause-time : goal.returns-clause-time
-returns-clause-time c = now_of_file c.from.result (returns-clause-limits c)
+returns-clause-time c header = recorded_time header c.from.result (returns-clause-limits c)
 
 pub returns-in_err-packets-clause-read : goal.returns-in_err-packets-clause-read
 returns-in_err-packets-clause-read c = capture_of-read c.args.bytes.now

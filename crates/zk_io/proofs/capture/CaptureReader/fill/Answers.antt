@@ -1,4 +1,4 @@
-use Rattle.std.proofs.Common.{◌≡◌, ◌⊎◌, ◌↔◌, ℕ, ◌+◌, ◌<◌, ◌≤◌, Bool, true, false, cond, List, [], IsTrue, IsSome, inl, inr, sym, subst, arith}
+use Rattle.std.proofs.Common.{◌≡◌, ◌⊎◌, ◌↔◌, ℕ, ◌+◌, ◌<◌, ◌≤◌, Bool, true, false, cond, List, [], IsTrue, IsSome, Option, inl, inr, sym, subst, ◌∙◌, arith}
 use Rattle.std.proofs.lemmas.Result.{err_from_is_err_and}
 use Rattle.zk_pcap.specs.declared.feed.Next.{Next}
 use Rattle.zk_pcap.specs.declared.feed.Next.TheVariants as next
@@ -6,10 +6,12 @@ use Rattle.zk_pcap.specs.declared.headers.Header.{Header}
 use Rattle.zk_pcap.specs.declared.records.Packet.{Packet}
 use Rattle.zk_pcap.specs.Capture.{end_from}
 use Rattle.zk_pcap.specs.Standing.{StandsFor, IsNext, first_record, is_packet}
+use Rattle.zk_base.specs.Captured.{Captured}
 use Rattle.zk_base.specs.Shelf.{Outside}
 use Rattle.zk_load.proofs.Doing.{does_both_all, does_both_part}
 use Rattle.zk_io.specs.declared.capture.CaptureReader.{CaptureReader}
-use Rattle.zk_io.specs.Reading.{MeetsTooLong, has_next}
+use Rattle.zk_io.specs.Reading.{IsReading, MeetsTooLong, has_next}
+use Rattle.zk_io.proofs.CaptureReading.{through_ended, through_too_long, too_long_is}
 use Rattle.zk_io.proofs.capture.CaptureReader.fill.Goals as goal
 
 smaller : (left less : ℕ) (out after : Bool) → out ≡ false → less ≤ left → (after ≡ true) ⊎ (less < left) → less + cond after 0 1 < left + cond out 0 1
@@ -32,12 +34,20 @@ none_next reader first stands same packet more there =
 none_long : (reader first : CaptureReader) (now : Outside) (stands : Next) → reader ≡ first
     → ((header : Header) (file : List ℕ) (packets : List Packet) → StandsFor reader.feed header file packets → IsNext header file (end_from 24 packets) stands)
     → stands ≡ next.NeedMore → MeetsTooLong first now → ⊥
-none_long reader first now stands same is_next more (whole, header, bytes, packets, reading, long) =
-    let far : IsNext header bytes (end_from 24 packets) next.NeedMore =
-    subst (IsNext header bytes (end_from 24 packets)) more (is_next header bytes packets (subst (λ r. StandsFor r.feed header bytes packets) (sym same) reading.stands)) in
-    let short = far.1 in
+none_long reader first now stands same is_next more (whole, bytes, records, reading, long) =
+    let far : IsNext reading.header bytes (end_from 24 reading.packets) next.NeedMore =
+    subst (IsNext reading.header bytes (end_from 24 reading.packets)) more
+    (is_next reading.header bytes reading.packets (subst (λ r. StandsFor r.feed reading.header bytes reading.packets) (sym same) reading.behind.stands)) in
+    let short = too_long_is whole reading.header bytes reading.packets first now reading.behind ∙ far.1 in
     let never : ⊥ = cc in
     never
+
+-- what stands next in a capture that is being read
+stands_next : (whole : Option (List ℕ)) (bytes : List ℕ) (records : List Captured) (reader : CaptureReader) (now : Outside) (stands one : Next) → stands ≡ one
+    → ((header : Header) (file : List ℕ) (packets : List Packet) → StandsFor reader.feed header file packets → IsNext header file (end_from 24 packets) stands)
+    → (is : IsReading whole bytes records reader now) → IsNext is.header bytes (end_from 24 is.packets) one
+stands_next whole bytes records reader now stands one same is_next is =
+    subst (IsNext is.header bytes (end_from 24 is.packets)) same (is_next is.header bytes is.packets is.behind.stands)
 
 pub pieces-smaller : goal.pieces-smaller
 pieces-smaller g c =
@@ -49,9 +59,9 @@ pieces-preserved g c = record {
   does = does_both_all [] [] [] [] [] [] (g.S.Shelf.outside c.args.shelf.now) (g.S.Shelf.outside c.pieces.shelf) (g.S.Shelf.outside c.read_piece.new.shelf)
       c.pieces.invariant.does c.in_ok-read_piece.ensures.read;
   input = c.in_ok-read_piece.ensures.input;
-  goes_on = λ whole header bytes packets is.
-      let far = c.pieces.invariant.goes_on whole header bytes packets is in
-      c.in_ok-read_piece.ensures.goes_on whole header far.0 packets far.1;
+  goes_on = λ whole bytes records is.
+      let far = c.pieces.invariant.goes_on whole bytes records is in
+      c.in_ok-read_piece.ensures.goes_on whole far.0 records far.1;
   over = λ ended. absurd (still_more c.pieces.self.is_read_out c.if-self.false (c.pieces.invariant.over ended).1);
   there = λ there. absurd (none_next c.pieces.self c.args.self.now c.next.result (c.pieces.invariant.there there).1 c.next.ensures.packet c.in-NeedMore.is there);
   too_long = λ long. absurd (none_long c.pieces.self c.args.self.now (g.S.Shelf.outside c.args.shelf.now) c.next.result (c.pieces.invariant.too_long long).1 c.next.ensures.next c.in-NeedMore.is long);
@@ -114,3 +124,13 @@ returns-in_err-read_piece-clause-stopped g c =
     let new = g.S.Shelf.outside c.read_piece.new.shelf in
     let p = err_from_is_err_and c.from_residual.result c.from_residual.ensures.1 in
     rw (p.1, p.2) (does_both_part [] [] [] [] [] old mid c.in_err-read_piece.field-0.0 new c.pieces.invariant.does.all c.in_err-read_piece.ensures.stopped)
+
+pub returns-in-Bad-clause-through : goal.returns-in-Bad-clause-through
+returns-in-Bad-clause-through g c none whole bytes records is =
+    let now = g.S.Shelf.outside c.pieces.shelf in
+    through_too_long whole bytes records c.pieces.self now _ is (stands_next whole bytes records c.pieces.self now c.next.result _ c.in-Bad.is c.next.ensures.next is)
+
+pub returns-then-self-clause-through : goal.returns-then-self-clause-through
+returns-then-self-clause-through g c none whole bytes records is =
+    let now = g.S.Shelf.outside c.pieces.shelf in
+    through_ended whole bytes records c.pieces.self now is (stands_next whole bytes records c.pieces.self now c.next.result next.NeedMore c.in-NeedMore.is c.next.ensures.next is) c.if-self.true

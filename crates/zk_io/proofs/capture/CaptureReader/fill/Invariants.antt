@@ -1,7 +1,6 @@
 use Rattle.std.proofs.Common.{◌≡◌, ℕ, ◌+◌, List, [], Option, IsTrue, if◌then◌else◌}
 use Rattle.zk_base.specs.Shelf.{is_open}
-use Rattle.zk_pcap.specs.declared.headers.Header.{Header}
-use Rattle.zk_pcap.specs.declared.records.Packet.{Packet}
+use Rattle.zk_base.specs.Captured.{Captured}
 use Rattle.zk_load.specs.Parts.{DoesAll}
 use Rattle.zk_io.specs.Reading.{IsReading, MeetsTooLong, has_ended, has_next}
 use Rattle.zk_io.proofs.capture.CaptureReader.fill.Given as goal
@@ -11,9 +10,9 @@ abbrev pub invariant-pieces : goal.invariant-pieces
 invariant-pieces g l = record {
   does : DoesAll [] [] [] (g.S.Shelf.outside l.initial.shelf) (g.S.Shelf.outside l.shelf);
   input : IsTrue (is_open (g.S.Shelf.outside l.shelf).reading);
-  goes_on : (whole : Option (List ℕ)) (header : Header) (bytes : List ℕ) (packets : List Packet)
-      → IsReading whole header bytes packets l.initial.self (g.S.Shelf.outside l.initial.shelf)
-      → (longer : List ℕ) × IsReading whole header longer packets l.self (g.S.Shelf.outside l.shelf);
+  goes_on : (whole : Option (List ℕ)) (bytes : List ℕ) (records : List Captured)
+      → IsReading whole bytes records l.initial.self (g.S.Shelf.outside l.initial.shelf)
+      → (longer : List ℕ) × IsReading whole longer records l.self (g.S.Shelf.outside l.shelf);
   over : IsTrue (has_ended l.initial.self) → (l.shelf ≡ l.initial.shelf) × IsTrue (has_ended l.self);
   there : IsTrue (has_next l.initial.self) → (l.shelf ≡ l.initial.shelf) × (l.self ≡ l.initial.self);
   too_long : MeetsTooLong l.initial.self (g.S.Shelf.outside l.initial.shelf) → (l.shelf ≡ l.initial.shelf) × (l.self ≡ l.initial.self);

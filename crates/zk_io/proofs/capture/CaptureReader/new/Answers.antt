@@ -3,7 +3,7 @@ use Rattle.std.proofs.lemmas.List.{take-append-drop, take_all}
 use Rattle.zk_pcap.proofs.HeaderLaws.{header_of-found}
 use Rattle.zk_pcap.specs.Header.{HasHeader}
 use Rattle.zk_pcap.specs.Standing.{StandsFor}
-use Rattle.zk_io.proofs.CaptureReading.{reading_begins}
+use Rattle.zk_io.proofs.CaptureReading.{behind_none}
 use Rattle.zk_io.proofs.capture.CaptureReader.new.Goals as goal
 
 pub returns : goal.returns
@@ -16,4 +16,9 @@ returns c whole now read =
     ap (λ rest. take 24 bytes ++ rest) (take_all (length bytes - 24) (drop 24 bytes) (omega (arith, length-drop 24 bytes))) ∙ take-append-drop 24 bytes in
     let short : length (take 24 bytes ++ piece) < 2 ^ 64 = omega (arith, ap length join, c.requires.short) in
     let stands = subst (λ file. StandsFor c.push.new.self c.args.header file []) join (c.in_ok-push.ensures.ok c.args.header (take 24 bytes) [] front short) in
-    reading_begins whole c.args.header bytes _ now c.requires.header refl read stands (omega (arith, c.requires.short)) refl refl
+    record {
+      header = c.args.header;
+      packets = [];
+      behind = behind_none whole c.args.header bytes _ now c.requires.header refl read stands (omega (arith, c.requires.short)) refl refl;
+      are = refl;
+    }

@@ -2,13 +2,16 @@ use Rattle.std.proofs.Common.{[], ◌≡◌, ◌≤◌, ◌<◌, ◌^◌, ◌++�
 use Rattle.std.proofs.lemmas.Result.{err_from_is_err_and}
 use Rattle.zk_load.proofs.Doing.{out_of_memory}
 use Rattle.zk_load.proofs.SoFar.{stopped_by_input}
-use Rattle.zk_io.proofs.CaptureReading.{has_read_more, read_nothing, reading_more, reading_over}
+use Rattle.zk_io.proofs.CaptureReading.{has_read_more, read_nothing, behind_more, behind_over, reads_on}
 use Rattle.zk_io.proofs.capture.CaptureReader.read_piece.Goals as goal
 
 pub returns-then-most-eq0-clause-goes_on : goal.returns-then-most-eq0-clause-goes_on
-returns-then-most-eq0-clause-goes_on g c whole header bytes packets is =
-    let now = g.S.Shelf.outside c.args.shelf.now in
-    (bytes, reading_over whole header bytes packets c.args.self.now _ now now is refl is.stands refl refl refl (inl (omega arith)))
+returns-then-most-eq0-clause-goes_on g c whole bytes records is =
+    let now = g.S.Shelf.outside c.args.shelf.now in (
+      bytes,
+      reads_on whole bytes bytes records c.args.self.now _ now now is
+          (behind_over whole is.header bytes is.packets c.args.self.now _ now now is.behind refl is.behind.stands refl refl refl (inl (omega arith))),
+    )
 
 pub returns-in_err-n-clause-stopped : goal.returns-in_err-n-clause-stopped
 returns-in_err-n-clause-stopped g c =
@@ -23,7 +26,7 @@ returns-in-Failed-clause-stopped g c =
     stopped_by_input old old (g.S.Shelf.outside c.read_from.new.shelf) [] (read_nothing old c.requires.input) failed.reads
 
 pub returns-in-Bytes-clause-goes_on : goal.returns-in-Bytes-clause-goes_on
-returns-in-Bytes-clause-goes_on g c whole header bytes packets is =
+returns-in-Bytes-clause-goes_on g c whole bytes records is =
     let old = g.S.Shelf.outside c.args.shelf.now in
     let new = g.S.Shelf.outside c.read_from.new.shelf in
     let n = c.in-Bytes.n in
@@ -31,8 +34,9 @@ returns-in-Bytes-clause-goes_on g c whole header bytes packets is =
     let piece = take n read.after in
     let few : n ≤ c.args.self.now.left = omega (arith, read.reads.within, read.long, c.min-most.ensures) in
     let size : length piece ≡ n = length-take-le n read.after (omega (arith, read.reads.within, read.long, read.long_after)) in
-    let short : length (bytes ++ piece) < 2 ^ 64 = omega (arith, length-append bytes piece, size, is.counted, few) in (
+    let short : length (bytes ++ piece) < 2 ^ 64 = omega (arith, length-append bytes piece, size, is.behind.counted, few) in (
       bytes ++ piece,
-      reading_more whole header bytes piece packets c.args.self.now _ old new is (has_read_more whole bytes old new read.before read.after n is.read read.reads)
-          (read.brings header bytes packets is.stands short) refl refl (omega (arith, size, few)) (λ out. absurd (let never : ⊥ = cc in never)),
+      reads_on whole bytes (bytes ++ piece) records c.args.self.now _ old new is
+          (behind_more whole is.header bytes piece is.packets c.args.self.now _ old new is.behind (has_read_more whole bytes old new read.before read.after n is.behind.read read.reads)
+          (read.brings is.header bytes is.packets is.behind.stands short) refl refl (omega (arith, size, few)) (λ out. absurd (let never : ⊥ = cc in never))),
     )

@@ -1,6 +1,6 @@
 use Rattle.std.proofs.Common.{◌≡◌, ◌++◌, refl}
 use Rattle.std.proofs.lemmas.Result.{IfOk-weaker}
-use Rattle.zk_pcap.specs.Held.{bytes_of}
+use Rattle.zk_base.specs.Held.{bytes_of}
 use Rattle.zk_pcap.specs.declared.feed.Feed.{Feed}
 use Rattle.zk_pcap.specs.Standing.{GoesOn}
 use Rattle.zk_pcap.proofs.StandingLemmas.{goes_on}

@@ -1,10 +1,10 @@
 use Rattle.std.proofs.Common.{◌≡◌, ◌++◌, List, ℕ, refl}
 use Rattle.std.proofs.lemmas.Result.{IfOk-weaker}
-use Rattle.zk_pcap.specs.Fetching.{Fetches}
-use Rattle.zk_pcap.specs.Held.{bytes_of}
+use Rattle.zk_base.specs.Fetching.{Fetches}
+use Rattle.zk_base.specs.Held.{bytes_of}
 use Rattle.zk_pcap.specs.declared.feed.Feed.{Feed}
 use Rattle.zk_pcap.specs.Standing.{GoesOn}
-use Rattle.zk_pcap.proofs.HeldLemmas.{fetches_also}
+use Rattle.zk_base.proofs.HeldLemmas.{fetches_also}
 use Rattle.zk_pcap.proofs.StandingLemmas.{goes_on}
 use Rattle.zk_pcap.proofs.feed.Feed.read_from.Goals as goal
 

@@ -7,7 +7,7 @@ use Rattle.zk_base.specs.declared.network.Side.{Side}
 use Rattle.zk_base.specs.declared.numbers.ConnNo.{ConnNo}
 use Rattle.zk_base.specs.declared.time.Moment.{Moment}
 use Rattle.zk_conn.specs.declared.facts.Facts.{Facts}
-use Rattle.zk_pcap.specs.NetworkTime.{now}
+use Rattle.zk_base.specs.NetworkTime.{now}
 use Rattle.zk_traffic.specs.declared.item.Item.{Item}
 use Rattle.zk_traffic.specs.declared.item.What.{What}
 use Rattle.zk_traffic.specs.declared.item.What.TheVariants as what
@@ -94,11 +94,11 @@ alone-renamed any limit number own last =
     (segments-renamed any limit number (steps own)) (removal-renamed any number last (conversation_of limit own))
 
 pub items_are_the_same : ItemsAreTheSame
-items_are_the_same options other_options link other_link records other_records number other_number any buffers own lasts =
-    ap (with_number any) (items_are_own options link records number)
-    ∙ alone-renamed any options.buffer number (own_segments options.buffer number (segments options link records)) (now records)
-    ∙ ap (λ limit. items_alone limit any (own_segments options.buffer number (segments options link records)) (now records)) buffers
+items_are_the_same options other_options records other_records number other_number any buffers own lasts =
+    ap (with_number any) (items_are_own options records number)
+    ∙ alone-renamed any options.buffer number (own_segments options.buffer number (segments options records)) (now records)
+    ∙ ap (λ limit. items_alone limit any (own_segments options.buffer number (segments options records)) (now records)) buffers
     ∙ ap (λ l. items_alone other_options.buffer any l (now records)) own
-    ∙ ap (items_alone other_options.buffer any (own_segments other_options.buffer other_number (segments other_options other_link other_records))) lasts
-    ∙ sym (alone-renamed any other_options.buffer other_number (own_segments other_options.buffer other_number (segments other_options other_link other_records)) (now other_records))
-    ∙ sym (ap (with_number any) (items_are_own other_options other_link other_records other_number))
+    ∙ ap (items_alone other_options.buffer any (own_segments other_options.buffer other_number (segments other_options other_records))) lasts
+    ∙ sym (alone-renamed any other_options.buffer other_number (own_segments other_options.buffer other_number (segments other_options other_records)) (now other_records))
+    ∙ sym (ap (with_number any) (items_are_own other_options other_records other_number))

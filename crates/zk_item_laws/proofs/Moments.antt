@@ -110,11 +110,11 @@ between from to (i ∷ rest) = by_live (is_over_by from i.conversation) refl (be
 -- Records --------------------------------------------------------------------------------------------------------------
 
 -- the segment that stands at a record is at its network time
-in-moment : (options : Options) (t : Moment) (datagram : Datagram) (s : Segment) → segment_in options t datagram ≡ Some s → s.moment ≡ t
-in-moment options t datagram s is =
+in-moment : (t : Moment) (datagram : Datagram) (s : Segment) → segment_in t datagram ≡ Some s → s.moment ≡ t
+in-moment t datagram s is =
     by_protocol (datagram.protocol == tcp.protocol) (datagram.protocol == udp.protocol)
-    (is_none (tcp.tcp_fault datagram.source datagram.destination datagram.payload datagram.full_len options.check))
-    (is_none (udp.udp_fault datagram.source datagram.destination datagram.payload datagram.full_len options.check)) is
+    (is_none (tcp.tcp_fault datagram.source datagram.destination datagram.payload datagram.full_len datagram.judged))
+    (is_none (udp.udp_fault datagram.source datagram.destination datagram.payload datagram.full_len datagram.judged)) is
   where
     same : (x : Segment) → x.moment ≡ t → Some x ≡ Some s → s.moment ≡ t
     same x at e = sym (ap (λ (o : Option Segment). option_map_or (λ (y : Segment). y.moment) o t) e) ∙ at
@@ -136,12 +136,12 @@ pub segment-moment : (options : Options) (step : Step Captured) (s : Segment) �
 unfolding segment_at
 segment-moment options step s is = by_datagram (datagram_at options step) is
   where
-    by_datagram : (o : Option Datagram) → option_and_then (segment_in options (time_at step)) o ≡ Some s → s.moment ≡ time_at step
+    by_datagram : (o : Option Datagram) → option_and_then (segment_in (time_at step)) o ≡ Some s → s.moment ≡ time_at step
     by_datagram None is = absurd (none_some is)
       where
         none_some : None ≡ Some s → ⊥
         none_some e = cc
-    by_datagram (Some datagram) is = in-moment options (time_at step) datagram s is
+    by_datagram (Some datagram) is = in-moment (time_at step) datagram s is
 
 seen-at : (options : Options) (step : Step Captured) → AllAt (time_at step) (seen options step)
 seen-at options step =

@@ -6,12 +6,13 @@ use Rattle.std.proofs.lemmas.List.{map-append}
 use Rattle.zk_base.specs.declared.network.Side.{Side}
 use Rattle.zk_base.specs.declared.numbers.ConnNo.{ConnNo}
 use Rattle.zk_base.specs.declared.time.Moment.{Moment}
+use Rattle.zk_base.specs.Sides.{other}
 use Rattle.zk_conn.specs.declared.facts.Facts.{Facts}
 use Rattle.zk_base.specs.NetworkTime.{now}
 use Rattle.zk_traffic.specs.declared.item.Item.{Item}
 use Rattle.zk_traffic.specs.declared.item.What.{What}
 use Rattle.zk_traffic.specs.declared.item.What.TheVariants as what
-use Rattle.zk_traffic.specs.Conversation.{Conversation, gives_up, other, resets, sender_in, with_segment}
+use Rattle.zk_traffic.specs.Conversation.{Conversation, gives_up, resets, sender_in, with_segment}
 use Rattle.zk_traffic.specs.Items.{ends, establishes, facts, gaps, item, items_with, numbered, unit_item, units_with, when}
 use Rattle.zk_traffic.specs.Own.{item_of, with_number}
 use Rattle.zk_traffic.specs.Places.{Gap}

@@ -6,7 +6,7 @@ use Rattle.std.proofs.lemmas.List.Elements.{filter-append}
 use Rattle.zk_base.specs.declared.time.Moment.{Moment}
 use Rattle.zk_conn.specs.declared.key.Key.{Key}
 use Rattle.zk_conn.specs.Segment.{key_of, same_key}
-use Rattle.zk_pcap.specs.NetworkTime.{now}
+use Rattle.zk_base.specs.NetworkTime.{now}
 use Rattle.zk_traffic.specs.declared.item.Item.{Item}
 use Rattle.zk_traffic.specs.declared.item.What.TheVariants as what
 use Rattle.zk_traffic.specs.Conversation.{Conversation, with_segment}
@@ -65,13 +65,13 @@ same-place (x ∷ a) (y ∷ b) k l c d same place = same-place a b k l c d (tail
     tail e = cc
 
 pub each_is_connection : EachIsConnection
-each_is_connection options link records before key rest keys = by_stands (stands-behind options link records number)
+each_is_connection options records before key rest keys = by_stands (stands-behind options records number)
   where
     limit : ℕ
     limit = options.buffer
 
     all : List Segment
-    all = segments options link records
+    all = segments options records
 
     number : ℕ
     number = length before + 1
@@ -83,7 +83,7 @@ each_is_connection options link records before key rest keys = by_stands (stands
     all_cut used true again = used.all_after again
     all_cut used false last = after-none limit number used.key used.c (steps all) (used.none_behind last)
 
-    by_stands : Stands limit all (now records) number → IsConnection options link records number key (own_segments limit number all)
+    by_stands : Stands limit all (now records) number → IsConnection options records number key (own_segments limit number all)
     by_stands (inl unused) = absurd (by_beyond unused.beyond)
       where
         by_beyond : (length before + 1 ≡ 0) ⊎ (length (begun limit all) < length before + 1) → ⊥
@@ -99,7 +99,7 @@ each_is_connection options link records before key rest keys = by_stands (stands
           of_key = ap (λ k. list_all (λ (s : Segment). same_key (key_of s.view) k) (own_segments limit number all)) (sym key_is) ∙ used.of_key;
           in_time = used.in_time;
           cut = ap (λ k. list_all (comes_after limit number k used.c) (steps all)) (sym key_is) ∙ all_cut used (list_any (λ k. same_key k used.key) used.rest) refl;
-          removed = ap removals (items_are_own options link records number) ∙ alone-removed limit number (own_segments limit number all) (now records) used.c used.is;
+          removed = ap removals (items_are_own options records number) ∙ alone-removed limit number (own_segments limit number all) (now records) used.c used.is;
         }
 
 none-alone : (limit number : ℕ) (last : Moment) → items_alone limit number [] last ≡ []
@@ -107,17 +107,17 @@ unfolding items_alone conversation_of
 none-alone limit number last = refl
 
 pub no_others : NoOthers
-no_others options link records number beyond = by_stands (stands-behind options link records number)
+no_others options records number beyond = by_stands (stands-behind options records number)
   where
     limit : ℕ
     limit = options.buffer
 
     all : List Segment
-    all = segments options link records
+    all = segments options records
 
-    by_stands : Stands limit all (now records) number → items_about number (items_of options link records true) ≡ []
+    by_stands : Stands limit all (now records) number → items_about number (items_of options records true) ≡ []
     by_stands (inl unused) =
-        items_are_own options link records number ∙ ap (λ own. items_alone limit number own (now records)) unused.own_are ∙ none-alone limit number (now records)
+        items_are_own options records number ∙ ap (λ own. items_alone limit number own (now records)) unused.own_are ∙ none-alone limit number (now records)
     by_stands (inr used) = absurd (by_beyond beyond)
       where
         by_beyond : (number ≡ 0) ⊎ (length (begun limit all) < number) → ⊥

@@ -4,10 +4,11 @@ use Rattle.std.specs.List.{flat_map}
 use Rattle.std.specs.Prelude.{◌==◌, is_none}
 use Rattle.zk_base.specs.declared.network.Side.{Side}
 use Rattle.zk_base.specs.declared.time.Moment.{Moment}
+use Rattle.zk_base.specs.Sides.{other}
 use Rattle.zk_conn.specs.declared.facts.Facts.{Facts}
 use Rattle.zk_traffic.specs.declared.item.Item.{Item}
 use Rattle.zk_traffic.specs.declared.item.What.TheVariants as what
-use Rattle.zk_traffic.specs.Conversation.{Conversation, gives_up, other, resets, sender_in}
+use Rattle.zk_traffic.specs.Conversation.{Conversation, gives_up, resets, sender_in}
 use Rattle.zk_traffic.specs.Items.{ends, establishes, gaps, item, items_with, numbered, unit_item, units_with, when}
 use Rattle.zk_traffic.specs.Places.{Gap}
 use Rattle.zk_traffic.specs.Segments.{Segment}

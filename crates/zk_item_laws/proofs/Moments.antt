@@ -7,11 +7,11 @@ use Rattle.std.proofs.lemmas.Bool.Decides.{nat_tests}
 use Rattle.std.proofs.lemmas.Int.{ints}
 use Rattle.std.proofs.lemmas.List.{append-nil}
 use Rattle.zk_base.specs.declared.time.Moment.{Moment}
-use Rattle.zk_pcap.specs.declared.records.Packet.{Packet}
+use Rattle.zk_base.specs.Captured.{Captured}
 use Rattle.zk_conn.specs.Segment.{key_of}
 use Rattle.zk_l4.specs.Tcp as tcp
 use Rattle.zk_l4.specs.Udp as udp
-use Rattle.zk_pcap.specs.NetworkTime.{now}
+use Rattle.zk_base.specs.NetworkTime.{now}
 use Rattle.zk_traffic.specs.declared.item.Item.{Item}
 use Rattle.zk_traffic.specs.declared.item.What.TheVariants as what
 use Rattle.zk_traffic.specs.declared.options.Options.{Options}
@@ -110,11 +110,11 @@ between from to (i ∷ rest) = by_live (is_over_by from i.conversation) refl (be
 -- Records --------------------------------------------------------------------------------------------------------------
 
 -- the segment that stands at a record is at its network time
-in-moment : (options : Options) (t : Moment) (datagram : Datagram) (s : Segment) → segment_in options t datagram ≡ Some s → s.moment ≡ t
-in-moment options t datagram s is =
+in-moment : (t : Moment) (datagram : Datagram) (s : Segment) → segment_in t datagram ≡ Some s → s.moment ≡ t
+in-moment t datagram s is =
     by_protocol (datagram.protocol == tcp.protocol) (datagram.protocol == udp.protocol)
-    (is_none (tcp.tcp_fault datagram.source datagram.destination datagram.payload datagram.full_len options.check))
-    (is_none (udp.udp_fault datagram.source datagram.destination datagram.payload datagram.full_len options.check)) is
+    (is_none (tcp.tcp_fault datagram.source datagram.destination datagram.payload datagram.full_len datagram.judged))
+    (is_none (udp.udp_fault datagram.source datagram.destination datagram.payload datagram.full_len datagram.judged)) is
   where
     same : (x : Segment) → x.moment ≡ t → Some x ≡ Some s → s.moment ≡ t
     same x at e = sym (ap (λ (o : Option Segment). option_map_or (λ (y : Segment). y.moment) o t) e) ∙ at
@@ -132,68 +132,68 @@ in-moment options t datagram s is =
     by_protocol false true c false is = none is
     by_protocol false false c d is = none is
 
-pub segment-moment : (options : Options) (link : ℕ) (step : Step Packet) (s : Segment) → segment_at options link step ≡ Some s → s.moment ≡ time_at step
+pub segment-moment : (options : Options) (step : Step Captured) (s : Segment) → segment_at options step ≡ Some s → s.moment ≡ time_at step
 unfolding segment_at
-segment-moment options link step s is = by_datagram (datagram_at options link step) is
+segment-moment options step s is = by_datagram (datagram_at options step) is
   where
-    by_datagram : (o : Option Datagram) → option_and_then (segment_in options (time_at step)) o ≡ Some s → s.moment ≡ time_at step
+    by_datagram : (o : Option Datagram) → option_and_then (segment_in (time_at step)) o ≡ Some s → s.moment ≡ time_at step
     by_datagram None is = absurd (none_some is)
       where
         none_some : None ≡ Some s → ⊥
         none_some e = cc
-    by_datagram (Some datagram) is = in-moment options (time_at step) datagram s is
+    by_datagram (Some datagram) is = in-moment (time_at step) datagram s is
 
-seen-at : (options : Options) (step : Step Packet) → AllAt (time_at step) (seen options step)
+seen-at : (options : Options) (step : Step Captured) → AllAt (time_at step) (seen options step)
 seen-at options step =
     each-when (λ (i : Item). i.moment ≡ time_at step) options.packets (item (time_at step) (what.Seen step.last.moment (length step.last.bytes) step.last.orig_len)) refl
 
-brought-at : (options : Options) (link : ℕ) (step : Step Packet) (o : Option Segment) → segment_at options link step ≡ o
-    → AllAt (time_at step) (option_map_or (segment_items options.buffer (segments options link step.before)) o [])
+brought-at : (options : Options) (step : Step Captured) (o : Option Segment) → segment_at options step ≡ o
+    → AllAt (time_at step) (option_map_or (segment_items options.buffer (segments options step.before)) o [])
 unfolding segment_items
-brought-at options link step None is = tt
-brought-at options link step (Some s) is =
-    let before = segments options link step.before in
-    subst (λ t. AllAt t (segment_items options.buffer before s)) (segment-moment options link step s is)
+brought-at options step None is = tt
+brought-at options step (Some s) is =
+    let before = segments options step.before in
+    subst (λ t. AllAt t (segment_items options.buffer before s)) (segment-moment options step s is)
     (segment-at options.buffer (number_of options.buffer (key_of s.view) (before ++ s ∷ [])) (latest options.buffer (key_of s.view) before) s)
 
-record-rises : (options : Options) (link : ℕ) (step : Step Packet) → AreInOrder (now step.before) (items_at options link step) (time_at step)
+record-rises : (options : Options) (step : Step Captured) → AreInOrder (now step.before) (items_at options step) (time_at step)
 unfolding items_at
-record-rises options link step =
+record-rises options step =
     let t = time_at step in
-    let before = segments options link step.before in
+    let before = segments options step.before in
     let gone = over_between options.buffer before (now step.before) t in
-    join (now step.before) t t (map removed (in_order gone) ++ seen options step) (option_map_or (segment_items options.buffer before) (segment_at options link step) [])
+    join (now step.before) t t (map removed (in_order gone) ++ seen options step) (option_map_or (segment_items options.buffer before) (segment_at options step) [])
     (join (now step.before) t t (map removed (in_order gone)) (seen options step)
     (in_order-rises (now step.before) t gone (not_before step.before step.last) (between (now step.before) t (instances options.buffer before)))
     (at-rises t (seen options step) (seen-at options step)))
-    (at-rises t _ (brought-at options link step (segment_at options link step) refl))
+    (at-rises t _ (brought-at options step (segment_at options step) refl))
 
 -- records behind others
-behind-rises : (options : Options) (link : ℕ) (before rest : List Packet) → AreInOrder (now before) (flat_map (items_at options link) (steps_behind before rest)) (now (before ++ rest))
-behind-rises options link before [] = subst (λ l. (now before).0 ≤ℤ (now l).0) (sym (append-nil before)) (le-refl (now before).0)
-behind-rises options link before (p ∷ rest) =
-    let step : Step Packet = record { before = before; last = p } in
-    subst (λ l. AreInOrder (now before) (items_at options link step ++ flat_map (items_at options link) (steps_behind (before ++ p ∷ []) rest)) (now l)) (append_assoc before (p ∷ []) rest)
-    (join (now before) (now (before ++ p ∷ [])) (now ((before ++ p ∷ []) ++ rest)) (items_at options link step) (flat_map (items_at options link) (steps_behind (before ++ p ∷ []) rest))
-    (record-rises options link step) (behind-rises options link (before ++ p ∷ []) rest))
+behind-rises : (options : Options) (before rest : List Captured) → AreInOrder (now before) (flat_map (items_at options) (steps_behind before rest)) (now (before ++ rest))
+behind-rises options before [] = subst (λ l. (now before).0 ≤ℤ (now l).0) (sym (append-nil before)) (le-refl (now before).0)
+behind-rises options before (p ∷ rest) =
+    let step : Step Captured = record { before = before; last = p } in
+    subst (λ l. AreInOrder (now before) (items_at options step ++ flat_map (items_at options) (steps_behind (before ++ p ∷ []) rest)) (now l)) (append_assoc before (p ∷ []) rest)
+    (join (now before) (now (before ++ p ∷ [])) (now ((before ++ p ∷ []) ++ rest)) (items_at options step) (flat_map (items_at options) (steps_behind (before ++ p ∷ []) rest))
+    (record-rises options step) (behind-rises options (before ++ p ∷ []) rest))
 
-so_far-rises : (options : Options) (link : ℕ) (records : List Packet) → AreInOrder (record { 0 = pos 0 }) (items_so_far options link records) (now records)
+so_far-rises : (options : Options) (records : List Captured) → AreInOrder (record { 0 = pos 0 }) (items_so_far options records) (now records)
 unfolding items_so_far
-so_far-rises options link records = behind-rises options link [] records
+so_far-rises options records = behind-rises options [] records
 
-end-rises : (options : Options) (link : ℕ) (records : List Packet) → AreInOrder (now records) (items_at_end options link records) (now records)
+end-rises : (options : Options) (records : List Captured) → AreInOrder (now records) (items_at_end options records) (now records)
 unfolding items_at_end
-end-rises options link records =
-    at-rises (now records) _ (each-map (λ (i : Item). i.moment ≡ now records) (removed_at (now records)) (live_at options.buffer (segments options link records) (now records)) (λ i. refl))
+end-rises options records =
+    at-rises (now records) _ (each-map (λ (i : Item). i.moment ≡ now records) (removed_at (now records)) (live_at options.buffer (segments options records) (now records)) (λ i. refl))
 
 -- an ended capture, or one that has come so far
-by_end : (options : Options) (link : ℕ) (records : List Packet) (ended : Bool) → AreInOrder (record { 0 = pos 0 }) (items_of options link records ended) (now records)
+by_end : (options : Options) (records : List Captured) (ended : Bool) → AreInOrder (record { 0 = pos 0 }) (items_of options records ended) (now records)
 unfolding items_of
-by_end options link records true =
-    join (record { 0 = pos 0 }) (now records) (now records) (items_so_far options link records) (items_at_end options link records)
-    (so_far-rises options link records) (end-rises options link records)
-by_end options link records false =
-    subst (λ l. AreInOrder (record { 0 = pos 0 }) l (now records)) (sym (append-nil (items_so_far options link records))) (so_far-rises options link records)
+by_end options records true =
+    join (record { 0 = pos 0 }) (now records) (now records) (items_so_far options records) (items_at_end options records)
+    (so_far-rises options records) (end-rises options records)
+by_end options records false =
+    subst (λ l. AreInOrder (record { 0 = pos 0 }) l (now records)) (sym (append-nil (items_so_far options records))) (so_far-rises options records)
 
 pub moments_rise : MomentsRise
 moments_rise = by_end

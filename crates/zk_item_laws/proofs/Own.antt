@@ -8,8 +8,8 @@ use Rattle.std.proofs.lemmas.List.Elements.{filter-append}
 use Rattle.zk_base.specs.declared.time.Moment.{Moment}
 use Rattle.zk_conn.specs.declared.key.Key.{Key}
 use Rattle.zk_conn.specs.Segment.{same_key}
-use Rattle.zk_pcap.specs.declared.records.Packet.{Packet}
-use Rattle.zk_pcap.specs.NetworkTime.{now}
+use Rattle.zk_base.specs.Captured.{Captured}
+use Rattle.zk_base.specs.NetworkTime.{now}
 use Rattle.zk_traffic.specs.declared.item.Item.{Item}
 use Rattle.zk_traffic.specs.declared.item.What.TheVariants as what
 use Rattle.zk_traffic.specs.declared.options.Options.{Options}
@@ -117,7 +117,7 @@ ending limit segments last number (inr used) =
 about-both : (number : ℕ) (l m : List Item) → items_about number (l ++ m) ≡ items_about number l ++ items_about number m
 about-both number l m = filter-append (λ (i : Item). is_about number i.what) l m
 
-about-seen : (options : Options) (step : Step Packet) (number : ℕ) → items_about number (seen options step) ≡ []
+about-seen : (options : Options) (step : Step Captured) (number : ℕ) → items_about number (seen options step) ≡ []
 about-seen options step number = by_packets options.packets
   where
     by_packets : (b : Bool) → items_about number (when b (item (time_at step) (what.Seen step.last.moment (length step.last.bytes) step.last.orig_len))) ≡ []
@@ -125,33 +125,33 @@ about-seen options step number = by_packets options.packets
     by_packets false = refl
 
 -- what stands of a connection behind a record, and what that brings
-record Goes (options : Options) (link : ℕ) (before after : List Packet) (number : ℕ) (more : List Item) : Type 0 where
-  stands : Stands options.buffer (segments options link after) (now after) number
-  brings : brought options.buffer number (own_segments options.buffer number (segments options link before)) (now before) ++ items_about number more
-      ≡ brought options.buffer number (own_segments options.buffer number (segments options link after)) (now after)
+record Goes (options : Options) (before after : List Captured) (number : ℕ) (more : List Item) : Type 0 where
+  stands : Stands options.buffer (segments options after) (now after) number
+  brings : brought options.buffer number (own_segments options.buffer number (segments options before)) (now before) ++ items_about number more
+      ≡ brought options.buffer number (own_segments options.buffer number (segments options after)) (now after)
 
-record-goes : (options : Options) (link : ℕ) (step : Step Packet) (number : ℕ) → Stands options.buffer (segments options link step.before) (now step.before) number
-    → Goes options link step.before (so_far step) number (items_at options link step)
+record-goes : (options : Options) (step : Step Captured) (number : ℕ) → Stands options.buffer (segments options step.before) (now step.before) number
+    → Goes options step.before (so_far step) number (items_at options step)
 unfolding items_at
-record-goes options link step number stands = by_segment (segment_at options link step) refl
+record-goes options step number stands = by_segment (segment_at options step) refl
   where
     limit : ℕ
     limit = options.buffer
 
     before : List Segment
-    before = segments options link step.before
+    before = segments options step.before
 
     own : List Segment
-    own = own_segments options.buffer number (segments options link step.before)
+    own = own_segments options.buffer number (segments options step.before)
 
     t : Moment
     t = time_at step
 
     gone_now : List Item
-    gone_now = map removed (in_order (over_between options.buffer (segments options link step.before) (now step.before) (time_at step)))
+    gone_now = map removed (in_order (over_between options.buffer (segments options step.before) (now step.before) (time_at step)))
 
-    later : Stands options.buffer (segments options link step.before) (time_at step) number
-    later = stands-later options.buffer (segments options link step.before) (now step.before) (time_at step) number (not_before step.before step.last) stands
+    later : Stands options.buffer (segments options step.before) (time_at step) number
+    later = stands-later options.buffer (segments options step.before) (now step.before) (time_at step) number (not_before step.before step.last) stands
 
     -- the removals of the record, and then what else it brings
     first : (l : List Item) → brought limit number own (now step.before) ++ items_about number ((gone_now ++ seen options step) ++ l) ≡ brought limit number own t ++ items_about number l
@@ -164,78 +164,78 @@ record-goes options link step number stands = by_segment (segment_at options lin
         (append_assoc (told limit number own) (gone number (now step.before) (conversation_of limit own)) (items_about number gone_now)
         ∙ ap (λ x. told limit number own ++ x) (removals limit before (now step.before) t number (not_before step.before step.last) stands))
 
-    by_segment : (o : Option Segment) → segment_at options link step ≡ o → Goes options link step.before (so_far step) number ((gone_now ++ seen options step) ++ option_map_or (segment_items limit before) (segment_at options link step) [])
+    by_segment : (o : Option Segment) → segment_at options step ≡ o → Goes options step.before (so_far step) number ((gone_now ++ seen options step) ++ option_map_or (segment_items limit before) (segment_at options step) [])
     by_segment None is =
-        let same : segments options link (so_far step) ≡ before = segments-more options link step ∙ ap (λ o. before ++ list_of o) is ∙ append-nil before in
+        let same : segments options (so_far step) ≡ before = segments-more options step ∙ ap (λ o. before ++ list_of o) is ∙ append-nil before in
         record {
           stands = subst (λ l. Stands limit l t number) (sym same) later;
-          brings = first (option_map_or (segment_items limit before) (segment_at options link step) [])
+          brings = first (option_map_or (segment_items limit before) (segment_at options step) [])
               ∙ ap (λ o. brought limit number own t ++ items_about number (option_map_or (segment_items limit before) o [])) is
               ∙ append-nil (brought limit number own t)
               ∙ ap (λ l. brought limit number (own_segments limit number l) t) (sym same);
         }
     by_segment (Some s) is =
-        let more : segments options link (so_far step) ≡ before ++ s ∷ [] = segments-more options link step ∙ ap (λ o. before ++ list_of o) is in
-        let moment = segment-moment options link step s is in
+        let more : segments options (so_far step) ≡ before ++ s ∷ [] = segments-more options step ∙ ap (λ o. before ++ list_of o) is in
+        let moment = segment-moment options step s is in
         let taken = takes limit before s number (subst (λ m. Stands limit before m number) (sym moment) later) in
         record {
           stands = subst (λ l. Stands limit l t number) (sym more) (subst (λ m. Stands limit (before ++ s ∷ []) m number) moment taken.stands);
-          brings = first (option_map_or (segment_items limit before) (segment_at options link step) [])
+          brings = first (option_map_or (segment_items limit before) (segment_at options step) [])
               ∙ ap (λ o. brought limit number own t ++ items_about number (option_map_or (segment_items limit before) o [])) is
               ∙ subst (λ m. brought limit number own m ++ items_about number (segment_items limit before s) ≡ brought limit number (own_segments limit number (before ++ s ∷ [])) m) moment taken.brings
               ∙ ap (λ l. brought limit number (own_segments limit number l) t) (sym more);
         }
 
 -- records behind others
-records-go : (options : Options) (link : ℕ) (before rest : List Packet) (number : ℕ) → Stands options.buffer (segments options link before) (now before) number
-    → Goes options link before (before ++ rest) number (flat_map (items_at options link) (steps_behind before rest))
-records-go options link before [] number stands =
-    subst (λ l. Goes options link before l number []) (sym (append-nil before))
-    (record { stands = stands; brings = append-nil (brought options.buffer number (own_segments options.buffer number (segments options link before)) (now before)) })
-records-go options link before (p ∷ rest) number stands =
-    let step : Step Packet = record { before = before; last = p } in
-    let first = record-goes options link step number stands in
-    let more = records-go options link (before ++ p ∷ []) rest number first.stands in
-    let behind = flat_map (items_at options link) (steps_behind (before ++ p ∷ []) rest) in
-    let so_far_brought = brought options.buffer number (own_segments options.buffer number (segments options link before)) (now before) in
-    subst (λ l. Goes options link before l number (items_at options link step ++ behind)) (append_assoc before (p ∷ []) rest)
+records-go : (options : Options) (before rest : List Captured) (number : ℕ) → Stands options.buffer (segments options before) (now before) number
+    → Goes options before (before ++ rest) number (flat_map (items_at options) (steps_behind before rest))
+records-go options before [] number stands =
+    subst (λ l. Goes options before l number []) (sym (append-nil before))
+    (record { stands = stands; brings = append-nil (brought options.buffer number (own_segments options.buffer number (segments options before)) (now before)) })
+records-go options before (p ∷ rest) number stands =
+    let step : Step Captured = record { before = before; last = p } in
+    let first = record-goes options step number stands in
+    let more = records-go options (before ++ p ∷ []) rest number first.stands in
+    let behind = flat_map (items_at options) (steps_behind (before ++ p ∷ []) rest) in
+    let so_far_brought = brought options.buffer number (own_segments options.buffer number (segments options before)) (now before) in
+    subst (λ l. Goes options before l number (items_at options step ++ behind)) (append_assoc before (p ∷ []) rest)
     (record {
       stands = more.stands;
-      brings = ap (λ l. so_far_brought ++ l) (about-both number (items_at options link step) behind)
-          ∙ sym (append_assoc so_far_brought (items_about number (items_at options link step)) (items_about number behind))
+      brings = ap (λ l. so_far_brought ++ l) (about-both number (items_at options step) behind)
+          ∙ sym (append_assoc so_far_brought (items_about number (items_at options step)) (items_about number behind))
           ∙ ap (λ l. l ++ items_about number behind) first.brings
           ∙ more.brings;
     })
 
-no-segments : (options : Options) (link : ℕ) → segments options link [] ≡ []
+no-segments : (options : Options) → segments options [] ≡ []
 unfolding segments
-no-segments options link = refl
+no-segments options = refl
 
-none-brought : (options : Options) (link number : ℕ) → brought options.buffer number (own_segments options.buffer number (segments options link [])) (now []) ≡ []
+none-brought : (options : Options) (number : ℕ) → brought options.buffer number (own_segments options.buffer number (segments options [])) (now []) ≡ []
 unfolding segments own_segments conversation_of
-none-brought options link number = refl
+none-brought options number = refl
 
-all-go : (options : Options) (link : ℕ) (records : List Packet) (number : ℕ) → Goes options link [] records number (items_so_far options link records)
+all-go : (options : Options) (records : List Captured) (number : ℕ) → Goes options [] records number (items_so_far options records)
 unfolding items_so_far
-all-go options link records number =
-    records-go options link [] records number
-    (subst (λ l. Stands options.buffer l (now []) number) (sym (no-segments options link)) (stands-none options.buffer (now []) number))
+all-go options records number =
+    records-go options [] records number
+    (subst (λ l. Stands options.buffer l (now []) number) (sym (no-segments options)) (stands-none options.buffer (now []) number))
 
 -- what stands of a connection behind the records of a capture
-pub stands-behind : (options : Options) (link : ℕ) (records : List Packet) (number : ℕ) → Stands options.buffer (segments options link records) (now records) number
-stands-behind options link records number = (all-go options link records number).stands
+pub stands-behind : (options : Options) (records : List Captured) (number : ℕ) → Stands options.buffer (segments options records) (now records) number
+stands-behind options records number = (all-go options records number).stands
 
 pub items_are_own : ItemsAreOwn
 unfolding items_of items_at_end items_alone
-items_are_own options link records number =
+items_are_own options records number =
     let limit = options.buffer in
-    let all = segments options link records in
+    let all = segments options records in
     let own = own_segments limit number all in
     let last = now records in
-    let goes = all-go options link records number in
+    let goes = all-go options records number in
     let ends = map (removed_at last) (live_at limit all last) in
-    about-both number (items_so_far options link records) ends
+    about-both number (items_so_far options records) ends
     ∙ ap (λ l. l ++ items_about number ends)
-    (ap (λ l. l ++ items_about number (items_so_far options link records)) (sym (none-brought options link number)) ∙ goes.brings)
+    (ap (λ l. l ++ items_about number (items_so_far options records)) (sym (none-brought options number)) ∙ goes.brings)
     ∙ append_assoc (told limit number own) (gone number last (conversation_of limit own)) (items_about number ends)
     ∙ ap (λ l. told limit number own ++ l) (ending limit all last number goes.stands)

@@ -6,12 +6,13 @@ use Rattle.std.proofs.lemmas.List.{map-append}
 use Rattle.zk_base.specs.declared.network.Side.{Side}
 use Rattle.zk_base.specs.declared.numbers.ConnNo.{ConnNo}
 use Rattle.zk_base.specs.declared.time.Moment.{Moment}
+use Rattle.zk_base.specs.Sides.{other}
 use Rattle.zk_conn.specs.declared.facts.Facts.{Facts}
-use Rattle.zk_pcap.specs.NetworkTime.{now}
+use Rattle.zk_base.specs.NetworkTime.{now}
 use Rattle.zk_traffic.specs.declared.item.Item.{Item}
 use Rattle.zk_traffic.specs.declared.item.What.{What}
 use Rattle.zk_traffic.specs.declared.item.What.TheVariants as what
-use Rattle.zk_traffic.specs.Conversation.{Conversation, gives_up, other, resets, sender_in, with_segment}
+use Rattle.zk_traffic.specs.Conversation.{Conversation, gives_up, resets, sender_in, with_segment}
 use Rattle.zk_traffic.specs.Items.{ends, establishes, facts, gaps, item, items_with, numbered, unit_item, units_with, when}
 use Rattle.zk_traffic.specs.Own.{item_of, with_number}
 use Rattle.zk_traffic.specs.Places.{Gap}
@@ -94,11 +95,11 @@ alone-renamed any limit number own last =
     (segments-renamed any limit number (steps own)) (removal-renamed any number last (conversation_of limit own))
 
 pub items_are_the_same : ItemsAreTheSame
-items_are_the_same options other_options link other_link records other_records number other_number any buffers own lasts =
-    ap (with_number any) (items_are_own options link records number)
-    ∙ alone-renamed any options.buffer number (own_segments options.buffer number (segments options link records)) (now records)
-    ∙ ap (λ limit. items_alone limit any (own_segments options.buffer number (segments options link records)) (now records)) buffers
+items_are_the_same options other_options records other_records number other_number any buffers own lasts =
+    ap (with_number any) (items_are_own options records number)
+    ∙ alone-renamed any options.buffer number (own_segments options.buffer number (segments options records)) (now records)
+    ∙ ap (λ limit. items_alone limit any (own_segments options.buffer number (segments options records)) (now records)) buffers
     ∙ ap (λ l. items_alone other_options.buffer any l (now records)) own
-    ∙ ap (items_alone other_options.buffer any (own_segments other_options.buffer other_number (segments other_options other_link other_records))) lasts
-    ∙ sym (alone-renamed any other_options.buffer other_number (own_segments other_options.buffer other_number (segments other_options other_link other_records)) (now other_records))
-    ∙ sym (ap (with_number any) (items_are_own other_options other_link other_records other_number))
+    ∙ ap (items_alone other_options.buffer any (own_segments other_options.buffer other_number (segments other_options other_records))) lasts
+    ∙ sym (alone-renamed any other_options.buffer other_number (own_segments other_options.buffer other_number (segments other_options other_records)) (now other_records))
+    ∙ sym (ap (with_number any) (items_are_own other_options other_records other_number))

@@ -4,7 +4,7 @@ use Rattle.std.specs.Prelude.{codes}
 use Rattle.zk_base.specs.declared.time.Moment.{Moment}
 use Rattle.zk_base.specs.declared.network.TheConstants.{LINKTYPE_RAW}
 use Rattle.zk_l4.specs.Udp as udp
-use Rattle.zk_pcap.specs.declared.records.Packet.{Packet}
+use Rattle.zk_base.specs.Captured.{Captured}
 use Rattle.zk_traffic.specs.declared.item.Item.{Item}
 use Rattle.zk_traffic.specs.declared.item.What.{What}
 use Rattle.zk_traffic.specs.declared.item.What.TheVariants as what
@@ -25,17 +25,17 @@ at milliseconds = record { 0 = pos (1000 * milliseconds) }
 abbrev options : Options
 options = record { check = false; buffer = 2 ^ 20; packets = false }
 
--- an empty datagram of UDP from 10.0.0.A to 10.0.0.B, in a frame that is its packet
-abbrev datagram : ℕ → ℕ → ℕ → ℕ → ℕ → Packet
+-- an empty datagram of UDP from 10.0.0.A to 10.0.0.B, in a raw frame
+abbrev datagram : ℕ → ℕ → ℕ → ℕ → ℕ → Captured
 datagram milliseconds source destination sport dport = record {
   moment = at milliseconds;
   orig_len = 28;
   bytes = 0x45 ∷ 0 ∷ 0 ∷ 28 ∷ 0 ∷ 0 ∷ 0 ∷ 0 ∷ 64 ∷ 17 ∷ 0 ∷ 0 ∷ 10 ∷ 0 ∷ 0 ∷ source ∷ 10 ∷ 0 ∷ 0 ∷ destination ∷ []
       ++ 0 ∷ sport ∷ 0 ∷ dport ∷ 0 ∷ 8 ∷ 0 ∷ 0 ∷ [];
-  place = 0;
+  link = LINKTYPE_RAW;
 }
 
-capture : List Packet
+capture : List Captured
 capture = datagram 0 1 80 99 9 ∷ datagram 10 2 80 99 9 ∷ datagram 20 80 1 9 99 ∷ datagram 61000 1 80 99 9 ∷ []
 
 record Shown : Type 0 where
@@ -52,7 +52,7 @@ abbrev shown : List Item → List Shown
 shown items = map (λ (i : Item). shown_as i.moment i.what) items
 
 -- its items
-capture-items : shown (items_of options LINKTYPE_RAW capture true)
+capture-items : shown (items_of options capture true)
     ≡ record { moment = at 0; word = codes "Opened"; number = 1 } ∷ record { moment = at 10; word = codes "Opened"; number = 2 }
     ∷ record { moment = at 60010; word = codes "Removed"; number = 2 } ∷ record { moment = at 60020; word = codes "Removed"; number = 1 }
     ∷ record { moment = at 61000; word = codes "Opened"; number = 3 } ∷ record { moment = at 61000; word = codes "Removed"; number = 3 } ∷ []
@@ -60,12 +60,12 @@ unfolding capture items_of items_so_far items_at items_at_end segments segment_a
 capture-items = refl
 
 -- the segments of the first
-first-segments : map (λ (s : Segment). s.moment) (own_segments options.buffer 1 (segments options LINKTYPE_RAW capture)) ≡ at 0 ∷ at 20 ∷ []
+first-segments : map (λ (s : Segment). s.moment) (own_segments options.buffer 1 (segments options capture)) ≡ at 0 ∷ at 20 ∷ []
 unfolding capture own_segments segments segment_at datagram_at fragments latest begun with_segment freed_with datagram_units units_freed next_unit protocol_at udp.source_port udp.destination_port udp.length_field udp.checksum_field udp.udp_fault
 first-segments = refl
 
 -- and what they give alone
-first-alone : shown (items_alone options.buffer 1 (own_segments options.buffer 1 (segments options LINKTYPE_RAW capture)) (at 61000))
+first-alone : shown (items_alone options.buffer 1 (own_segments options.buffer 1 (segments options capture)) (at 61000))
     ≡ record { moment = at 0; word = codes "Opened"; number = 1 } ∷ record { moment = at 60020; word = codes "Removed"; number = 1 } ∷ []
 unfolding capture own_segments items_alone conversation_of segments segment_at datagram_at fragments latest begun with_segment freed_with datagram_units units_freed next_unit protocol_at udp.source_port udp.destination_port udp.length_field udp.checksum_field udp.udp_fault
 first-alone = refl

@@ -6,8 +6,8 @@ use Rattle.std.specs.Prelude.{is_none}
 use Rattle.std.proofs.lemmas.List.{append-nil}
 use Rattle.std.proofs.lemmas.List.Elements.{filter-append}
 use Rattle.zk_conn.specs.Segment.{key_of}
-use Rattle.zk_pcap.specs.declared.records.Packet.{Packet}
-use Rattle.zk_pcap.specs.NetworkTime.{now}
+use Rattle.zk_base.specs.Captured.{Captured}
+use Rattle.zk_base.specs.NetworkTime.{now}
 use Rattle.zk_traffic.specs.declared.item.Item.{Item}
 use Rattle.zk_traffic.specs.declared.item.What.TheVariants as what
 use Rattle.zk_traffic.specs.declared.options.Options.{Options}
@@ -44,7 +44,7 @@ brought-happens : (limit : ℕ) (before : List Segment) (o : Option Segment) →
 brought-happens limit before None = tt
 brought-happens limit before (Some s) = segment-happens limit before s
 
-seen-seen : (options : Options) (step : Step Packet) → packets (seen options step) ≡ seen options step
+seen-seen : (options : Options) (step : Step Captured) → packets (seen options step) ≡ seen options step
 seen-seen options step = by_packets options.packets
   where
     by_packets : (b : Bool) → packets (when b (item (time_at step) (what.Seen step.last.moment (length step.last.bytes) step.last.orig_len)))
@@ -53,35 +53,35 @@ seen-seen options step = by_packets options.packets
     by_packets false = refl
 
 -- of a record its packet alone
-record-seen : (options : Options) (link : ℕ) (step : Step Packet) → packets (items_at options link step) ≡ seen options step
+record-seen : (options : Options) (step : Step Captured) → packets (items_at options step) ≡ seen options step
 unfolding items_at
-record-seen options link step =
-    let before = segments options link step.before in
+record-seen options step =
+    let before = segments options step.before in
     let gone = map removed (in_order (over_between options.buffer before (now step.before) (time_at step))) in
-    let brought = option_map_or (segment_items options.buffer before) (segment_at options link step) [] in
+    let brought = option_map_or (segment_items options.buffer before) (segment_at options step) [] in
     let test : Item → Bool = λ (i : Item). is_none (conn_of i.what) in
     filter-append test (gone ++ seen options step) brought
-    ∙ ap (λ l. packets (gone ++ seen options step) ++ l) (no-packets brought (brought-happens options.buffer before (segment_at options link step)))
+    ∙ ap (λ l. packets (gone ++ seen options step) ++ l) (no-packets brought (brought-happens options.buffer before (segment_at options step)))
     ∙ append-nil (packets (gone ++ seen options step))
     ∙ filter-append test gone (seen options step)
     ∙ ap (λ l. l ++ packets (seen options step)) (no-packets gone (each-map Happens removed (in_order (over_between options.buffer before (now step.before) (time_at step))) (λ i. refl)))
     ∙ seen-seen options step
 
-records-seen : (options : Options) (link : ℕ) (l : List (Step Packet)) → packets (flat_map (items_at options link) l) ≡ flat_map (seen options) l
-records-seen options link [] = refl
-records-seen options link (step ∷ l) =
-    filter-append (λ (i : Item). is_none (conn_of i.what)) (items_at options link step) (flat_map (items_at options link) l)
-    ∙ ap (λ x. x ++ packets (flat_map (items_at options link) l)) (record-seen options link step)
-    ∙ ap (λ x. seen options step ++ x) (records-seen options link l)
+records-seen : (options : Options) (l : List (Step Captured)) → packets (flat_map (items_at options) l) ≡ flat_map (seen options) l
+records-seen options [] = refl
+records-seen options (step ∷ l) =
+    filter-append (λ (i : Item). is_none (conn_of i.what)) (items_at options step) (flat_map (items_at options) l)
+    ∙ ap (λ x. x ++ packets (flat_map (items_at options) l)) (record-seen options step)
+    ∙ ap (λ x. seen options step ++ x) (records-seen options l)
 
 pub packets_are_seen : PacketsAreSeen
 unfolding items_of items_so_far items_at_end
-packets_are_seen options link records ended =
-    filter-append (λ (i : Item). is_none (conn_of i.what)) (items_so_far options link records) (cond ended (items_at_end options link records) [])
-    ∙ ap (λ l. packets (items_so_far options link records) ++ l) (at_end ended)
-    ∙ append-nil (packets (items_so_far options link records))
-    ∙ records-seen options link (steps records)
+packets_are_seen options records ended =
+    filter-append (λ (i : Item). is_none (conn_of i.what)) (items_so_far options records) (cond ended (items_at_end options records) [])
+    ∙ ap (λ l. packets (items_so_far options records) ++ l) (at_end ended)
+    ∙ append-nil (packets (items_so_far options records))
+    ∙ records-seen options (steps records)
   where
-    at_end : (b : Bool) → packets (cond b (map (removed_at (now records)) (live_at options.buffer (segments options link records) (now records))) []) ≡ []
-    at_end true = no-packets _ (each-map Happens (removed_at (now records)) (live_at options.buffer (segments options link records) (now records)) (λ i. refl))
+    at_end : (b : Bool) → packets (cond b (map (removed_at (now records)) (live_at options.buffer (segments options records) (now records))) []) ≡ []
+    at_end true = no-packets _ (each-map Happens (removed_at (now records)) (live_at options.buffer (segments options records) (now records)) (λ i. refl))
     at_end false = refl

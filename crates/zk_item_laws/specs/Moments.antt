@@ -1,8 +1,8 @@
 -- The order of items in time.
 use Rattle.std.specs.Prelude.{◌≤ℤ◌, ℕ, pos, Bool, List, [], ◌∷◌}
 use Rattle.zk_base.specs.declared.time.Moment.{Moment}
-use Rattle.zk_pcap.specs.declared.records.Packet.{Packet}
-use Rattle.zk_pcap.specs.NetworkTime.{now}
+use Rattle.zk_base.specs.Captured.{Captured}
+use Rattle.zk_base.specs.NetworkTime.{now}
 use Rattle.zk_traffic.specs.declared.item.Item.{Item}
 use Rattle.zk_traffic.specs.declared.options.Options.{Options}
 use Rattle.zk_traffic.specs.Items.{items_of}
@@ -14,5 +14,5 @@ AreInOrder start (item ∷ items) last = (start.0 ≤ℤ item.moment.0) × AreIn
 
 -- The moments of a capture's items rise from 0 on up to its network time, whatever the moments of its records are.
 abbrev pub MomentsRise : Type 0
-MomentsRise = (options : Options) (link : ℕ) (records : List Packet) (ended : Bool)
-    → AreInOrder (record { 0 = pos 0 }) (items_of options link records ended) (now records)
+MomentsRise = (options : Options) (records : List Captured) (ended : Bool)
+    → AreInOrder (record { 0 = pos 0 }) (items_of options records ended) (now records)

@@ -5,8 +5,8 @@ use Rattle.zk_base.specs.declared.numbers.ConnNo.{ConnNo}
 use Rattle.zk_base.specs.declared.time.Moment.{Moment}
 use Rattle.zk_conn.specs.declared.key.Key.{Key}
 use Rattle.zk_conn.specs.Segment.{key_of, same_key}
-use Rattle.zk_pcap.specs.declared.records.Packet.{Packet}
-use Rattle.zk_pcap.specs.NetworkTime.{now}
+use Rattle.zk_base.specs.Captured.{Captured}
+use Rattle.zk_base.specs.NetworkTime.{now}
 use Rattle.zk_traffic.specs.declared.item.Item.{Item}
 use Rattle.zk_traffic.specs.declared.item.What.{What}
 use Rattle.zk_traffic.specs.declared.item.What.TheVariants.{Seen, Opened, Established, Gap, Http, Dns, DnsBad, Ended, GaveUp, Reset, Removed}
@@ -112,44 +112,44 @@ comes_after limit number key c step = not (is_behind limit number key step) || i
 
 -- The items of each connection of a capture are those of its own segments alone, whatever stands between them.
 abbrev pub ItemsAreOwn : Type 0
-ItemsAreOwn = (options : Options) (link : ℕ) (records : List Packet) (number : ℕ)
-    → items_about number (items_of options link records true)
-    ≡ items_alone options.buffer number (own_segments options.buffer number (segments options link records)) (now records)
+ItemsAreOwn = (options : Options) (records : List Captured) (number : ℕ)
+    → items_about number (items_of options records true)
+    ≡ items_alone options.buffer number (own_segments options.buffer number (segments options records)) (now records)
 
 -- So two captures with the same segments of a connection, each at the same network time, and with the same last network
 -- time have the same items of it, but for its number.
 abbrev pub ItemsAreTheSame : Type 0
-ItemsAreTheSame = (options other_options : Options) (link other_link : ℕ) (records other_records : List Packet) (number other_number any : ℕ)
+ItemsAreTheSame = (options other_options : Options) (records other_records : List Captured) (number other_number any : ℕ)
     → options.buffer ≡ other_options.buffer
-    → own_segments options.buffer number (segments options link records) ≡ own_segments other_options.buffer other_number (segments other_options other_link other_records)
+    → own_segments options.buffer number (segments options records) ≡ own_segments other_options.buffer other_number (segments other_options other_records)
     → now records ≡ now other_records
-    → with_number any (items_about number (items_of options link records true)) ≡ with_number any (items_about other_number (items_of other_options other_link other_records true))
+    → with_number any (items_about number (items_of options records true)) ≡ with_number any (items_about other_number (items_of other_options other_records true))
 
 -- A connection that begins in a capture has segments, all of its key; each behind the first comes before the moment at which
 -- the connection is over by those before it, and those of later connections of its key at or after the moment at which it is
 -- over; and it is removed once.
-pub record IsConnection (options : Options) (link : ℕ) (records : List Packet) (number : ℕ) (key : Key) (own : List Segment) : Type 0 where
+pub record IsConnection (options : Options) (records : List Captured) (number : ℕ) (key : Key) (own : List Segment) : Type 0 where
   pub c : Conversation
   pub comes_to : conversation_of options.buffer own ≡ Some c
   pub some : own ≢ []
   pub of_key : list_all (λ (s : Segment). same_key (key_of s.view) key) own ≡ true
   pub in_time : list_all (λ (step : Step Segment). comes_in_time (conversation_of options.buffer step.before) step.last) (steps own) ≡ true
-  pub cut : list_all (comes_after options.buffer number key c) (steps (segments options link records)) ≡ true
-  pub removed : removals (items_about number (items_of options link records true))
+  pub cut : list_all (comes_after options.buffer number key c) (steps (segments options records)) ≡ true
+  pub removed : removals (items_about number (items_of options records true))
       ≡ item (end_of (now records) c) (Removed (numbered number) (facts c)) ∷ []
 
 abbrev pub EachIsConnection : Type 0
-EachIsConnection = (options : Options) (link : ℕ) (records : List Packet) (before : List Key) (key : Key) (rest : List Key)
-    → begun options.buffer (segments options link records) ≡ before ++ key ∷ rest
-    → IsConnection options link records (length before + 1) key (own_segments options.buffer (length before + 1) (segments options link records))
+EachIsConnection = (options : Options) (records : List Captured) (before : List Key) (key : Key) (rest : List Key)
+    → begun options.buffer (segments options records) ≡ before ++ key ∷ rest
+    → IsConnection options records (length before + 1) key (own_segments options.buffer (length before + 1) (segments options records))
 
 -- Nothing happens to a connection of another number than those that begin: these are counted from 1 on.
 abbrev pub NoOthers : Type 0
-NoOthers = (options : Options) (link : ℕ) (records : List Packet) (number : ℕ)
-    → (number ≡ 0) ⊎ (length (begun options.buffer (segments options link records)) < number)
-    → items_about number (items_of options link records true) ≡ []
+NoOthers = (options : Options) (records : List Captured) (number : ℕ)
+    → (number ≡ 0) ⊎ (length (begun options.buffer (segments options records)) < number)
+    → items_about number (items_of options records true) ≡ []
 
 -- What is about no connection is that each packet is seen, where that is asked for, at its network time.
 abbrev pub PacketsAreSeen : Type 0
-PacketsAreSeen = (options : Options) (link : ℕ) (records : List Packet) (ended : Bool)
-    → filter (λ i. is_none (conn_of i.what)) (items_of options link records ended) ≡ flat_map (seen options) (steps records)
+PacketsAreSeen = (options : Options) (records : List Captured) (ended : Bool)
+    → filter (λ i. is_none (conn_of i.what)) (items_of options records ended) ≡ flat_map (seen options) (steps records)

@@ -1,6 +1,6 @@
 -- A value before the first packet, and behind the end.
 use Rattle.std.proofs.Common.{◌≡◌, ℕ, true, false, [], ◌++◌, map, OnOk, Result, Ok, Err, refl, sym, ap, subst, ◌∙◌, append_assoc}
-use Rattle.zk_frag.specs.Standing as frags
+use Rattle.zk_frag.specs.Ip4Fragments as frags
 use Rattle.zk_base.specs.NetworkTime.{now}
 use Rattle.zk_traffic.specs.declared.options.Options.{Options}
 use Rattle.zk_traffic.specs.declared.traffic.Traffic.{Traffic}

@@ -8,10 +8,9 @@ use Rattle.std.proofs.lemmas.Grind.{common_steps, flat_map-append}
 use Rattle.std.proofs.lemmas.List.{append-nil, same_from_push}
 use Rattle.std.proofs.lemmas.List.Elements.{filter_map-append}
 use Rattle.zk_base.specs.declared.time.Moment.{Moment}
-use Rattle.zk_frag.specs.Standing as frags
-use Rattle.zk_frag.specs.declared.frags.Joined.{Joined}
-use Rattle.zk_frag.specs.Fragment.{Fragment, fragment_of}
-use Rattle.zk_frag.specs.Histories.{datagram_of, joined_of}
+use Rattle.zk_frag.specs.Ip4Fragments as frags
+use Rattle.zk_frag.specs.declared.joined.Joined.{Joined}
+use Rattle.zk_frag.specs.Ip4Fragments.{Ip4Fragment, datagram_of, fragment_of, joined_of}
 use Rattle.zk_base.specs.Captured.{Captured}
 use Rattle.zk_base.specs.NetworkTime.{later, now, now-append}
 use Rattle.zk_traffic.specs.declared.connections.Connections.{Connections}
@@ -167,8 +166,8 @@ took_some old new options step code ready takes =
 -- a fragment was taken, and the segment in what it made whole
 pub took_fragment : (old new : Traffic) (options : Options) (step : Step Captured) (packet : List ℕ) (joined : Joined) (o : Option Segment) → IsReady old options step
     → packet_at options step ≡ Some packet → is_fragment packet ≡ true → new.options ≡ old.options → new.link ≡ old.link → new.time ≡ old.time
-    → ((given : List Fragment) → frags.StandsFor old.frags given → joined ≡ joined_of given (fragment_of old.time packet))
-    → ((given : List Fragment) → frags.StandsFor old.frags given → frags.StandsFor new.frags (given ++ fragment_of old.time packet ∷ []))
+    → ((given : List Ip4Fragment) → frags.StandsFor old.frags given → joined ≡ joined_of given (fragment_of old.time packet))
+    → ((given : List Ip4Fragment) → frags.StandsFor old.frags given → frags.StandsFor new.frags (given ++ fragment_of old.time packet ∷ []))
     → cond (is_whole joined) (segment_in (time_at step) (put_together options packet (datagram_of (fragments options step.before) (fragment_of (time_at step) packet)))) None ≡ o
     → TakesSome options.buffer (segments options step.before) o (time_at step) old.connections new.connections → HasTaken old new options step
 took_fragment old new options step packet joined o ready is part options_are link_is time_is answer taken o_is takes =

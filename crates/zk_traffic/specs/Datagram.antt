@@ -7,10 +7,9 @@ use Rattle.zk_base.specs.Captured.{Captured}
 use Rattle.zk_base.specs.NetworkTime.{now}
 use Rattle.zk_link_ip.specs.Frame.{ip_part_of}
 use Rattle.zk_link_ip.specs.Ip4 as ip4
-use Rattle.zk_frag.specs.declared.frags.Joined.{Joined}
-use Rattle.zk_frag.specs.declared.frags.Joined.TheVariants.{Held, Ignored, Whole}
-use Rattle.zk_frag.specs.Fragment.{Fragment, fragment_of}
-use Rattle.zk_frag.specs.Histories.{joined_of, datagram_of}
+use Rattle.zk_frag.specs.declared.joined.Joined.{Joined}
+use Rattle.zk_frag.specs.declared.joined.Joined.TheVariants.{Held, Ignored, Whole}
+use Rattle.zk_frag.specs.Ip4Fragments.{Ip4Fragment, datagram_of, fragment_of, joined_of}
 use Rattle.zk_traffic.specs.declared.options.Options.{Options}
 use Rattle.zk_traffic.specs.Steps.{Step, so_far, steps}
 
@@ -44,14 +43,14 @@ packet_at options step = packet_in options step.last.link step.last.bytes
 abbrev pub is_fragment : List ℕ → Bool
 is_fragment packet = ip4.more packet || not (ip4.offset packet == 0)
 
-abbrev pub fragment_in : Moment → List ℕ → Option Fragment
+abbrev pub fragment_in : Moment → List ℕ → Option Ip4Fragment
 fragment_in moment packet = if is_fragment packet then Some (fragment_of moment packet) else None
 
-abbrev pub fragment_at : Options → Step Captured → Option Fragment
+abbrev pub fragment_at : Options → Step Captured → Option Ip4Fragment
 fragment_at options step = option_and_then (fragment_in (time_at step)) (packet_at options step)
 
 -- the fragments among some records
-unfoldable pub fragments : Options → List Captured → List Fragment
+unfoldable pub fragments : Options → List Captured → List Ip4Fragment
 fragments options records = filter_map (fragment_at options) (steps records)
 
 abbrev pub is_whole : Joined → Bool
@@ -80,7 +79,7 @@ abbrev pub put_together : Options → List ℕ → List ℕ → Datagram
 put_together options packet payload = carrying options packet payload (length payload)
 
 -- the datagram that a packet is, or that it makes whole behind other fragments
-abbrev pub datagram_with : Options → List Fragment → Moment → List ℕ → Option Datagram
+abbrev pub datagram_with : Options → List Ip4Fragment → Moment → List ℕ → Option Datagram
 datagram_with options before moment packet =
     if not (is_fragment packet) then Some (unfragmented options packet)
     else if is_whole (joined_of before (fragment_of moment packet)) then Some (put_together options packet (datagram_of before (fragment_of moment packet)))

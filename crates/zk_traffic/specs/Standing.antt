@@ -1,7 +1,7 @@
 -- What a value of `Traffic` stands for.
 use Rattle.std.specs.Prelude.{◌≡◌, ℕ, Bool, true, false, List, [], ◌++◌, length}
 use Rattle.zk_base.specs.declared.time.Moment.{Moment}
-use Rattle.zk_frag.specs.Standing as frags
+use Rattle.zk_frag.specs.Ip4Fragments as frags
 use Rattle.zk_base.specs.Captured.{Captured}
 use Rattle.zk_base.specs.NetworkTime.{now}
 use Rattle.zk_traffic.specs.declared.table.Table.{Table}

@@ -2,7 +2,7 @@
 use Rattle.std.specs.Prelude.{◌≡◌, ℕ, List, [], ◌∷◌, ◌++◌, Option, Some, None}
 use Rattle.std.specs.Option.{option_map_or}
 use Rattle.zk_base.specs.declared.time.Moment.{Moment}
-use Rattle.zk_frag.specs.Standing as frags
+use Rattle.zk_frag.specs.Ip4Fragments as frags
 use Rattle.zk_base.specs.Captured.{Captured}
 use Rattle.zk_traffic.specs.declared.connections.Connections.{Connections}
 use Rattle.zk_traffic.specs.declared.options.Options.{Options}

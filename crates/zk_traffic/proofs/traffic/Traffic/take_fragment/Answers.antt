@@ -1,8 +1,7 @@
 use Rattle.std.proofs.Common.{◌≡◌, ◌++◌, ◌∷◌, [], cond, None, refl, sym, ap, subst, ◌∙◌, ⊎_elim}
 use Rattle.std.specs.Option.{option_map}
-use Rattle.zk_frag.specs.Standing as frags
-use Rattle.zk_frag.specs.Fragment.{fragment_of}
-use Rattle.zk_frag.specs.Histories.{datagram_of, joined_of}
+use Rattle.zk_frag.specs.Ip4Fragments as frags
+use Rattle.zk_frag.specs.Ip4Fragments.{datagram_of, fragment_of, joined_of}
 use Rattle.zk_link_ip.specs.Views.{packet}
 use Rattle.zk_traffic.specs.Datagram.{fragments, is_whole, put_together, time_at}
 use Rattle.zk_traffic.specs.Segments.{segment_in, segments}

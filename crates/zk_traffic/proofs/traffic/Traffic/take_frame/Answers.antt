@@ -1,6 +1,6 @@
 use Rattle.std.proofs.Common.{◌++◌, refl, sym, ap, subst, ◌∙◌}
 use Rattle.std.proofs.lemmas.List.{append-nil}
-use Rattle.zk_frag.specs.Standing as frags
+use Rattle.zk_frag.specs.Ip4Fragments as frags
 use Rattle.zk_traffic.specs.Datagram.{fragments, packet_in, time_at}
 use Rattle.zk_traffic.specs.Segments.{segments}
 use Rattle.zk_traffic.specs.Taking.{list_of}

@@ -1,7 +1,7 @@
 use Rattle.std.proofs.Common.{◌++◌, refl, sym, ap, subst, ◌∙◌}
 use Rattle.std.proofs.lemmas.List.{append-nil}
 use Rattle.std.specs.Option.{option_map}
-use Rattle.zk_frag.specs.Standing as frags
+use Rattle.zk_frag.specs.Ip4Fragments as frags
 use Rattle.zk_link_ip.specs.Ip4 as ip4
 use Rattle.zk_link_ip.specs.Views.{packet}
 use Rattle.zk_traffic.specs.Datagram.{carrying, fragments, time_at}

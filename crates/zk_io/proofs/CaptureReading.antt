@@ -21,8 +21,8 @@ use Rattle.zk_pcap.specs.Record.{record_at, is_too_long, end_of}
 use Rattle.zk_pcap.specs.declared.feed.Next.TheVariants as next
 use Rattle.zk_pcap.specs.Standing.{StandsFor, IsNext, RestIs}
 use Rattle.zk_io.specs.declared.capture.CaptureReader.{CaptureReader}
-use Rattle.zk_load.specs.declared.stop.Stop.{Stop}
-use Rattle.zk_load.specs.Parts.{DoesPart}
+use Rattle.zk_outcome.specs.declared.stop.Stop.{Stop}
+use Rattle.zk_outcome.specs.Parts.{DoesPart}
 use Rattle.zk_pcap.specs.View.{packet_of, recorded}
 use Rattle.zk_io.specs.Opened.{recording_after}
 use Rattle.zk_io.specs.Reading.{HasRead, SameInput, IsBehind, IsReading, IsReadThrough, IsCapture, SaysPart, OverCapture, is_next_too_long, link_of, next_in, next_place, next_record}
@@ -32,7 +32,7 @@ use Rattle.zk_pcap.proofs.HeaderLemmas.{header_of_counted}
 use Rattle.zk_pcap.proofs.FrontLemmas.{header_stays, fronts_begin}
 use Rattle.zk_pcap.proofs.RecordLemmas.{end_from-stand, stand_more}
 use Rattle.zk_pcap.proofs.StandingLemmas.{stand_along}
-use Rattle.zk_load.proofs.SoFar.{IsReadSoFar, read_more}
+use Rattle.zk_outcome.proofs.SoFar.{IsReadSoFar, read_more}
 
 -- ---- pieces
 

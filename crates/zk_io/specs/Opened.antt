@@ -12,8 +12,8 @@ use Rattle.zk_pcap.specs.CaptureFault.{place_of}
 use Rattle.zk_pcap.specs.Header.{header_of}
 use Rattle.zk_pcap.specs.Capture.{capture_of}
 use Rattle.zk_pcap.specs.View.{recorded}
-use Rattle.zk_load.specs.declared.found.Found.{Found}
-use Rattle.zk_load.specs.declared.found.Found.TheVariants.{Accepted, Refused}
+use Rattle.zk_outcome.specs.declared.found.Found.{Found}
+use Rattle.zk_outcome.specs.declared.found.Found.TheVariants.{Accepted, Refused}
 
 -- The packets that were captured in a file, each with its link type, and how the file ends.
 pub record Recording : Type 0 where

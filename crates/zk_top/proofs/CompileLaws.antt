@@ -14,13 +14,13 @@ use Rattle.zk_scope.specs.Lent.{files_of}
 use Rattle.zk_check.specs.declared.fault.CheckFault.{CheckFault}
 use Rattle.zk_check.specs.declared.fault.CheckFault.TheVariants as fault
 use Rattle.zk_check.specs.Faults.{IsFirst, fault_of}
-use Rattle.zk_load.specs.declared.found.Found.{Found}
-use Rattle.zk_load.specs.declared.found.Found.TheVariants.{Accepted, Refused}
-use Rattle.zk_load.specs.declared.stop.Stop.TheVariants.{NoMemory}
+use Rattle.zk_outcome.specs.declared.found.Found.{Found}
+use Rattle.zk_outcome.specs.declared.found.Found.TheVariants.{Accepted, Refused}
+use Rattle.zk_outcome.specs.declared.stop.Stop.TheVariants.{NoMemory}
 use Rattle.zk_load.specs.Loading.{Loading, Scripts}
 use Rattle.zk_load.specs.Loads.{LoadsAll, LoadsPart}
-use Rattle.zk_load.specs.Parts.{IsPrefix}
-use Rattle.zk_load.proofs.Doing.{prefix_all}
+use Rattle.zk_outcome.specs.Prefix.{IsPrefix}
+use Rattle.zk_outcome.proofs.Doing.{prefix_all}
 use Rattle.zk_top.specs.declared.runnable.Refusal.{Refusal}
 use Rattle.zk_top.specs.declared.runnable.Runnable.{Runnable}
 use Rattle.zk_top.specs.Compiling.{IsCodeOf, Runs, refusal_in}

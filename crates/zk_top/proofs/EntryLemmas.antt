@@ -5,28 +5,28 @@ use Rattle.std.proofs.lemmas.List.{append-nil}
 use Rattle.zk_base.specs.declared.endings.Ending.{Ending}
 use Rattle.zk_base.specs.declared.endings.Ending.TheVariants.{Done, Usage}
 use Rattle.zk_base.specs.Shelf.{Files, Outside, HasRisen, appended}
-use Rattle.zk_pcap.specs.declared.captures.Capture.{Capture}
 use Rattle.zk_typed.specs.Program.{Program}
 use Rattle.zk_load.specs.Loading.{Scripts, loading}
-use Rattle.zk_load.specs.declared.found.Found.{Found}
-use Rattle.zk_load.specs.declared.found.Found.TheVariants.{Accepted, Refused}
-use Rattle.zk_load.specs.declared.stop.Stop.{Stop}
+use Rattle.zk_outcome.specs.declared.found.Found.{Found}
+use Rattle.zk_outcome.specs.declared.found.Found.TheVariants.{Accepted, Refused}
+use Rattle.zk_outcome.specs.declared.stop.Stop.{Stop}
 use Rattle.zk_command.specs.Command.{Command, ListItems, RunScripts, Generate, Help, Version, understand}
 use Rattle.zk_top.specs.Compiling.{program_by}
 use Rattle.zk_command.specs.Complaint.{complaint_of}
 use Rattle.zk_command.specs.declared.command.Settings.{Settings}
-use Rattle.zk_io.specs.Opened.{opened, link_in}
+use Rattle.zk_io.specs.Opened.{Recording, opened}
 use Rattle.zk_top.specs.Outcome.{Report, no_files, ending_so, over_capture, list_report, run_report, running, run_behind, run_of, generated, generated_name, summary_report, summing_up, outcome_of, outcome}
 use Rattle.zk_top.specs.Script.{default_scripts, program_of, scripts_before}
-use Rattle.zk_load.specs.Parts.{DoesAll, DoesPart, IsPrefix}
+use Rattle.zk_outcome.specs.Parts.{DoesAll, DoesPart}
+use Rattle.zk_outcome.specs.Prefix.{IsPrefix}
 use Rattle.zk_top.specs.Parts.{Fulfils, BreaksOff, but_outputs}
 use Rattle.zk_top.specs.Run.{IsDone, StaysWithin}
 use Rattle.zk_top.proofs.Giving.{does_beside, without_fault_beside, no_file_begun, no_file_written, whole_begun}
-use Rattle.zk_load.proofs.Doing.{prefix_of_none, prefix_all, does_nothing_without_fault, does_both, without_fault_both, cause_since}
+use Rattle.zk_outcome.proofs.Doing.{prefix_of_none, prefix_all, does_nothing_without_fault, does_both, without_fault_both, cause_since}
 
 -- Of what is wanted: the complaint is that of the ending -----------------------------------------------------------
 
-plain_over : (report : Capture → Report) (names : List (List ℕ)) (found : Found Capture)
+plain_over : (report : Recording → Report) (names : List (List ℕ)) (found : Found Recording)
     → (over_capture report names found).complained ≡ complaint_of (over_capture report names found).ending
 plain_over report names (Accepted capture) = refl
 plain_over report names (Refused e) = refl
@@ -34,7 +34,7 @@ plain_over report names (Refused e) = refl
 plain_running : (file : List ℕ) (settings : Settings) (asked : List (List ℕ)) (found : Found Program) (input : Option (List ℕ))
     → (running file settings asked found input).complained ≡ complaint_of (running file settings asked found input).ending
 plain_running file settings asked (Accepted program) input =
-    plain_over (run_report file settings program (link_in input)) (asked ++ file ∷ []) (opened file input)
+    plain_over (run_report file settings program) (asked ++ file ∷ []) (opened file input)
 plain_running file settings asked (Refused e) input = refl
 
 plain_scripts : (file : List ℕ) (settings : Settings) (asked : List (List ℕ)) (found : Found Scripts) (input : Option (List ℕ))
@@ -54,7 +54,7 @@ plain_summary bytes (Accepted program) = plain_over (summary_report program byte
 
 plain_of : (asked : Result Command ℕ) (inputs : Files) → (outcome_of asked inputs).complained ≡ complaint_of (outcome_of asked inputs).ending
 plain_of (Err word) inputs = refl
-plain_of (Ok (ListItems file)) inputs = plain_over (list_report file (link_in (inputs file))) (file ∷ []) (opened file (inputs file))
+plain_of (Ok (ListItems file)) inputs = plain_over (list_report file) (file ∷ []) (opened file (inputs file))
 plain_of (Ok (RunScripts settings file scripts)) inputs =
     plain_behind file settings scripts inputs (scripts_before settings.bare)
 plain_of (Ok (Generate start count)) inputs = plain_summary (generated start count) (program_by default_scripts)

@@ -13,10 +13,11 @@ use Rattle.zk_logs.specs.Written.{HasWritten, pieces_of}
 use Rattle.zk_value.specs.declared.cell.Cell.{Cell}
 use Rattle.zk_value.specs.declared.cell.Column.{Column}
 use Rattle.zk_value.specs.declared.out.Out.TheVariants as out
-use Rattle.zk_load.specs.declared.stop.Stop.{Stop}
-use Rattle.zk_load.specs.declared.stop.Stop.TheVariants.{ReadFault, WriteFault, NoMemory}
-use Rattle.zk_load.specs.Parts.{Does, DoesAll, DoesPart, DoesWithoutFault, HasCause, IsPrefix}
-use Rattle.zk_load.proofs.Doing.{none_appended, out_of_memory, prefix_all, prefix_none, prefix_trans, does_part_of}
+use Rattle.zk_outcome.specs.declared.stop.Stop.{Stop}
+use Rattle.zk_outcome.specs.declared.stop.Stop.TheVariants.{ReadFault, WriteFault, NoMemory}
+use Rattle.zk_outcome.specs.Parts.{Does, DoesAll, DoesPart, DoesWithoutFault, HasCause}
+use Rattle.zk_outcome.specs.Prefix.{IsPrefix}
+use Rattle.zk_outcome.proofs.Doing.{none_appended, out_of_memory, prefix_all, prefix_none, prefix_trans, does_part_of}
 use Rattle.zk_top.specs.declared.writer.Writer.{Writer}
 use Rattle.zk_io.specs.Said.{line_end, HasSaid, HandsOver}
 use Rattle.zk_top.specs.Outcome.{no_files}

@@ -5,16 +5,17 @@ use Rattle.zk_base.specs.declared.endings.Ending.{Ending}
 use Rattle.zk_base.specs.declared.endings.Ending.TheVariants as ending
 use Rattle.zk_base.specs.declared.time.Moment.{Moment}
 use Rattle.zk_base.specs.Shelf.{Files, Outside}
-use Rattle.zk_pcap.specs.declared.captures.Capture.{Capture}
-use Rattle.zk_pcap.specs.declared.captures.CaptureEnding.{CaptureEnding}
-use Rattle.zk_pcap.specs.declared.captures.CaptureEnding.TheVariants.{Whole, Cut}
-use Rattle.zk_load.specs.declared.found.Found.{Found}
-use Rattle.zk_load.specs.declared.found.Found.TheVariants.{Accepted, Refused}
-use Rattle.zk_load.specs.declared.stop.Stop.{Stop}
-use Rattle.zk_load.specs.Parts.{IsPrefix, IsRefusal, DoesWithoutFault, DoesAll, DoesPart, Finds}
-use Rattle.zk_load.proofs.Doing.{prefix_none, prefix_of_none, prefix_trans, without_fault_both, does_both_part}
+use Rattle.zk_base.specs.declared.capture.CaptureEnding.{CaptureEnding}
+use Rattle.zk_base.specs.declared.capture.CaptureEnding.TheVariants.{Whole, Cut}
+use Rattle.zk_outcome.specs.declared.found.Found.{Found}
+use Rattle.zk_outcome.specs.declared.found.Found.TheVariants.{Accepted, Refused}
+use Rattle.zk_outcome.specs.declared.stop.Stop.{Stop}
+use Rattle.zk_outcome.specs.Found.{IsRefusal, Finds}
+use Rattle.zk_outcome.specs.Parts.{DoesWithoutFault, DoesAll, DoesPart}
+use Rattle.zk_outcome.specs.Prefix.{IsPrefix}
+use Rattle.zk_outcome.proofs.Doing.{prefix_none, prefix_of_none, prefix_trans, without_fault_both, does_both_part}
 use Rattle.zk_logs.specs.Outputs.{files_over, OutputsBegun}
-use Rattle.zk_io.specs.Opened.{opened, end_of_capture}
+use Rattle.zk_io.specs.Opened.{Recording, opened, end_of_capture}
 use Rattle.zk_top.specs.Outcome.{Report, no_files, over_capture}
 use Rattle.zk_top.specs.Parts.{IsOfCommand, Fulfils, BreaksOff, but_outputs}
 use Rattle.zk_top.specs.Run.{IsNotStopped}
@@ -57,13 +58,13 @@ not_absent file (Cut place) name same = let never : ⊥ = cc in never
 
 -- What is wanted over a capture -----------------------------------------------------------------------------------
 
-asked : (report : Capture → Report) (names : List (List ℕ)) (found : Found Capture) → (over_capture report names found).asked ≡ names
+asked : (report : Recording → Report) (names : List (List ℕ)) (found : Found Recording) → (over_capture report names found).asked ≡ names
 asked report names (Accepted capture) = refl
 asked report names (Refused e) = refl
 
 -- stopped before its capture was found
-pub broken_before : (report : Option (List ℕ) → Capture → Report) (file : List ℕ) (old : Outside) (stop : Stop) (new : Outside) → DoesPart (file ∷ []) [] [] old stop new
-    → BreaksOff (λ inputs. over_capture (report (inputs file)) (file ∷ []) (opened file (inputs file))) old stop new
+pub broken_before : (report : Recording → Report) (file : List ℕ) (old : Outside) (stop : Stop) (new : Outside) → DoesPart (file ∷ []) [] [] old stop new
+    → BreaksOff (λ inputs. over_capture report (file ∷ []) (opened file (inputs file))) old stop new
 broken_before report file old stop new part = record {
   names = part.names_part;
   said = part.said_part;
@@ -71,11 +72,11 @@ broken_before report file old stop new part = record {
   does = does_beside part.names_part part.said_part part.complained_part old old new part.does;
   cause = part.cause;
   quiet = part.quiet;
-  files_begun = λ inputs told. no_file_begun (over_capture (report (inputs file)) (file ∷ []) (opened file (inputs file))).files old.outputs new.outputs part.does.outputs_stay;
-  names_prefix = λ inputs told. subst (λ names. IsPrefix part.names_part names) (sym (asked (report (inputs file)) (file ∷ []) (opened file (inputs file)))) part.names_prefix;
-  said_prefix = λ inputs told. let whole : List ℕ = (over_capture (report (inputs file)) (file ∷ []) (opened file (inputs file))).said in
+  files_begun = λ inputs told. no_file_begun (over_capture report (file ∷ []) (opened file (inputs file))).files old.outputs new.outputs part.does.outputs_stay;
+  names_prefix = λ inputs told. subst (λ names. IsPrefix part.names_part names) (sym (asked report (file ∷ []) (opened file (inputs file)))) part.names_prefix;
+  said_prefix = λ inputs told. let whole : List ℕ = (over_capture report (file ∷ []) (opened file (inputs file))).said in
       prefix_trans part.said_part [] whole part.said_prefix (prefix_none whole);
-  complained_prefix = λ inputs told. let whole : List ℕ = (over_capture (report (inputs file)) (file ∷ []) (opened file (inputs file))).complained in
+  complained_prefix = λ inputs told. let whole : List ℕ = (over_capture report (file ∷ []) (opened file (inputs file))).complained in
       prefix_trans part.complained_part [] whole part.complained_prefix (prefix_none whole);
   complaint_last = λ inputs told. inl (prefix_of_none part.complained_part part.complained_prefix);
 }
@@ -90,9 +91,9 @@ pub beside_from : (old mid new : Outside) → mid.outputs ≡ old.outputs → bu
 beside_from old mid new same = ap (λ outputs. record new { outputs = outputs }) same
 
 -- stopped while it was given out
-pub broken_within : (report : Option (List ℕ) → Capture → Report) (file : List ℕ) (capture : Capture) (said : List ℕ) (files : Files) (old mid : Outside) (stop : Stop) (new : Outside)
-    → Finds file (opened file) old (Accepted capture) mid → ((inputs : Files) → old.inputs ≡ Some inputs → IsReport said files (report (inputs file) capture))
-    → GivesPart said files mid stop new → BreaksOff (λ inputs. over_capture (report (inputs file)) (file ∷ []) (opened file (inputs file))) old stop new
+pub broken_within : (report : Recording → Report) (file : List ℕ) (capture : Recording) (said : List ℕ) (files : Files) (old mid : Outside) (stop : Stop) (new : Outside)
+    → Finds file (opened file) old (Accepted capture) mid → ((inputs : Files) → old.inputs ≡ Some inputs → IsReport said files (report capture))
+    → GivesPart said files mid stop new → BreaksOff (λ inputs. over_capture report (file ∷ []) (opened file (inputs file))) old stop new
 broken_within report file capture said files old mid stop new found reported gives =
     let same : mid.outputs ≡ old.outputs = found.does.does.outputs_stay in
     let part : DoesPart (file ∷ []) said [] old stop (but_outputs old new) = subst (λ now. DoesPart (file ∷ []) said [] old stop now) (beside_from old mid new same)
@@ -104,13 +105,13 @@ broken_within report file capture said files old mid stop new found reported giv
       does = part.does;
       cause = cause_of_beside old old stop new part.cause;
       quiet = part.quiet;
-      names_prefix = λ inputs told. subst (λ names. IsPrefix part.names_part names) (sym (asked (report (inputs file)) (file ∷ []) (opened file (inputs file)))) part.names_prefix;
+      names_prefix = λ inputs told. subst (λ names. IsPrefix part.names_part names) (sym (asked report (file ∷ []) (opened file (inputs file)))) part.names_prefix;
       said_prefix = λ inputs told. subst (λ text. IsPrefix part.said_part text)
-          ((reported inputs told).said ∙ ap (λ r. (over_capture (report (inputs file)) (file ∷ []) r).said) (found.told inputs told)) part.said_prefix;
+          ((reported inputs told).said ∙ ap (λ r. (over_capture report (file ∷ []) r).said) (found.told inputs told)) part.said_prefix;
       files_begun = λ inputs told. subst (λ written. OutputsBegun written old.outputs new.outputs)
-          ((reported inputs told).files ∙ ap (λ r. (over_capture (report (inputs file)) (file ∷ []) r).files) (found.told inputs told))
+          ((reported inputs told).files ∙ ap (λ r. (over_capture report (file ∷ []) r).files) (found.told inputs told))
           (subst (λ before. OutputsBegun files before new.outputs) same gives.begun);
-      complained_prefix = λ inputs told. let whole : List ℕ = (over_capture (report (inputs file)) (file ∷ []) (opened file (inputs file))).complained in
+      complained_prefix = λ inputs told. let whole : List ℕ = (over_capture report (file ∷ []) (opened file (inputs file))).complained in
           prefix_trans part.complained_part [] whole part.complained_prefix (prefix_none whole);
       complaint_last = λ inputs told. inl (prefix_of_none part.complained_part part.complained_prefix);
     }
@@ -130,10 +131,10 @@ pub flood_ends : (moment : Moment) → EndsItself (ending.Flood moment)
 flood_ends moment = record { whole = tt; there = λ name same. let never : ⊥ = cc in never }
 
 -- all was given out
-pub fulfilled : (report : Option (List ℕ) → Capture → Report) (file : List ℕ) (capture : Capture) (said : List ℕ) (files : Files) (old mid : Outside) (e : Ending) (new : Outside)
+pub fulfilled : (report : Recording → Report) (file : List ℕ) (capture : Recording) (said : List ℕ) (files : Files) (old mid : Outside) (e : Ending) (new : Outside)
     → Finds file (opened file) old (Accepted capture) mid → EndsItself e
-    → ((inputs : Files) → old.inputs ≡ Some inputs → (IsReport said files (report (inputs file) capture)) × (e ≡ (report (inputs file) capture).ending))
-    → GivesAll said files mid new → Fulfils (λ inputs. over_capture (report (inputs file)) (file ∷ []) (opened file (inputs file))) [] old e new
+    → ((inputs : Files) → old.inputs ≡ Some inputs → (IsReport said files (report capture)) × (e ≡ (report capture).ending))
+    → GivesAll said files mid new → Fulfils (λ inputs. over_capture report (file ∷ []) (opened file (inputs file))) [] old e new
 fulfilled report file capture said files old mid e new found ends reported gives =
     let same : mid.outputs ≡ old.outputs = found.does.does.outputs_stay in
     record {
@@ -144,12 +145,12 @@ fulfilled report file capture said files old mid e new found ends reported gives
       whole = ends.whole;
       absent = λ name is. absurd (ends.there name is);
       present = λ other. gives.says.present ∙ found.present (λ name is. let never : ⊥ = cc in never);
-      ends = λ inputs told. (reported inputs told).1 ∙ ap (λ r. (over_capture (report (inputs file)) (file ∷ []) r).ending) (found.told inputs told);
-      names_are = λ inputs told. sym (asked (report (inputs file)) (file ∷ []) (opened file (inputs file)));
-      said_is = λ inputs told. (reported inputs told).0.said ∙ ap (λ r. (over_capture (report (inputs file)) (file ∷ []) r).said) (found.told inputs told);
+      ends = λ inputs told. (reported inputs told).1 ∙ ap (λ r. (over_capture report (file ∷ []) r).ending) (found.told inputs told);
+      names_are = λ inputs told. sym (asked report (file ∷ []) (opened file (inputs file)));
+      said_is = λ inputs told. (reported inputs told).0.said ∙ ap (λ r. (over_capture report (file ∷ []) r).said) (found.told inputs told);
       files_are = λ inputs told.
-          let written : files ≡ (over_capture (report (inputs file)) (file ∷ []) (opened file (inputs file))).files =
-          (reported inputs told).0.files ∙ ap (λ r. (over_capture (report (inputs file)) (file ∷ []) r).files) (found.told inputs told) in
+          let written : files ≡ (over_capture report (file ∷ []) (opened file (inputs file))).files =
+          (reported inputs told).0.files ∙ ap (λ r. (over_capture report (file ∷ []) r).files) (found.told inputs told) in
           gives.outputs ∙ ap (λ before. option_map (files_over files) before) same ∙ ap (λ w. option_map (files_over w) old.outputs) written;
     }
 
@@ -167,8 +168,8 @@ said_part_alone said old stop new part = record {
 }
 
 -- there is no capture
-pub fulfilled_refused : (report : Option (List ℕ) → Capture → Report) (file : List ℕ) (old : Outside) (e : Ending) (new : Outside) → Finds file (opened file) old (Refused e) new
-    → Fulfils (λ inputs. over_capture (report (inputs file)) (file ∷ []) (opened file (inputs file))) [] old e new
+pub fulfilled_refused : (report : Recording → Report) (file : List ℕ) (old : Outside) (e : Ending) (new : Outside) → Finds file (opened file) old (Refused e) new
+    → Fulfils (λ inputs. over_capture report (file ∷ []) (opened file (inputs file))) [] old e new
 fulfilled_refused report file old e new found = record {
   names = file ∷ [];
   said = [];
@@ -176,9 +177,9 @@ fulfilled_refused report file old e new found = record {
   whole = whole_refusal e (found.refusal e refl);
   absent = λ name same. found.absent name (ap Refused same);
   present = λ other. found.present (λ name same. other name (let is : e ≡ ending.NoInput name = cc in is));
-  ends = λ inputs told. ap (λ r. (over_capture (report (inputs file)) (file ∷ []) r).ending) (found.told inputs told);
-  names_are = λ inputs told. sym (asked (report (inputs file)) (file ∷ []) (opened file (inputs file)));
-  said_is = λ inputs told. ap (λ r. (over_capture (report (inputs file)) (file ∷ []) r).said) (found.told inputs told);
-  files_are = λ inputs told. no_file_written (over_capture (report (inputs file)) (file ∷ []) (opened file (inputs file))).files old.outputs new.outputs
-      (sym (ap (λ r. (over_capture (report (inputs file)) (file ∷ []) r).files) (found.told inputs told))) found.does.does.outputs_stay;
+  ends = λ inputs told. ap (λ r. (over_capture report (file ∷ []) r).ending) (found.told inputs told);
+  names_are = λ inputs told. sym (asked report (file ∷ []) (opened file (inputs file)));
+  said_is = λ inputs told. ap (λ r. (over_capture report (file ∷ []) r).said) (found.told inputs told);
+  files_are = λ inputs told. no_file_written (over_capture report (file ∷ []) (opened file (inputs file))).files old.outputs new.outputs
+      (sym (ap (λ r. (over_capture report (file ∷ []) r).files) (found.told inputs told))) found.does.does.outputs_stay;
 }

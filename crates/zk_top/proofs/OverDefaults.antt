@@ -5,12 +5,12 @@ use Rattle.zk_base.specs.declared.endings.Ending.TheVariants.{ScriptRefused}
 use Rattle.zk_base.specs.declared.endings.ScriptKind.{ScriptKind}
 use Rattle.zk_base.specs.Shelf.{Files, Outside}
 use Rattle.zk_tree.specs.declared.decl.Tree.{Tree}
-use Rattle.zk_load.specs.declared.found.Found.{Found}
-use Rattle.zk_load.specs.declared.found.Found.TheVariants.{Accepted, Refused}
-use Rattle.zk_load.specs.declared.stop.Stop.TheVariants.{NoMemory}
+use Rattle.zk_outcome.specs.declared.found.Found.{Found}
+use Rattle.zk_outcome.specs.declared.found.Found.TheVariants.{Accepted, Refused}
+use Rattle.zk_outcome.specs.declared.stop.Stop.TheVariants.{NoMemory}
 use Rattle.zk_load.specs.Loading.{Scripts, before_others, scripts_in}
 use Rattle.zk_load.specs.Script.{Refusal, accepted, script_of}
-use Rattle.zk_load.proofs.Doing.{does_nothing, does_nothing_without_fault, prefix_none, same_faults}
+use Rattle.zk_outcome.proofs.Doing.{does_nothing, does_nothing_without_fault, prefix_none, same_faults}
 use Rattle.zk_scripts.specs.Texts.{default_texts}
 use Rattle.zk_command.specs.declared.command.Settings.{Settings}
 use Rattle.zk_top.specs.Outcome.{Outcome, run_behind, run_scripts}

@@ -5,21 +5,20 @@ use Rattle.zk_base.specs.declared.endings.Ending.TheVariants as ending
 use Rattle.zk_base.specs.declared.time.Moment.{Moment}
 use Rattle.zk_base.specs.Shelf.{Files, Outside, lies_under}
 use Rattle.zk_gen.specs.Capture as gen
-use Rattle.zk_pcap.specs.declared.captures.Capture.{Capture}
-use Rattle.zk_pcap.specs.declared.captures.CaptureEnding.{CaptureEnding}
-use Rattle.zk_pcap.specs.declared.captures.CaptureEnding.TheVariants.{Whole, Cut}
+use Rattle.zk_base.specs.declared.capture.CaptureEnding.{CaptureEnding}
+use Rattle.zk_base.specs.declared.capture.CaptureEnding.TheVariants.{Whole, Cut}
 use Rattle.zk_pcap.specs.declared.faults.CaptureFault.{CaptureFault}
-use Rattle.zk_pcap.specs.declared.records.Packet.{Packet}
-use Rattle.zk_pcap.specs.Capture.{capture_of}
+use Rattle.zk_base.specs.Captured.{Captured}
 use Rattle.zk_pcap.specs.CaptureFault.{place_of}
 use Rattle.zk_typed.specs.Program.{Program}
 use Rattle.zk_typed.specs.Running.{Progress, Goes, Floods, world_in}
-use Rattle.zk_load.specs.declared.found.Found.{Found}
-use Rattle.zk_load.specs.declared.found.Found.TheVariants.{Accepted, Refused}
-use Rattle.zk_load.specs.declared.stop.Stop.{Stop}
+use Rattle.zk_outcome.specs.declared.found.Found.{Found}
+use Rattle.zk_outcome.specs.declared.found.Found.TheVariants.{Accepted, Refused}
+use Rattle.zk_outcome.specs.declared.stop.Stop.{Stop}
 use Rattle.zk_load.specs.Loading.{Scripts}
-use Rattle.zk_load.specs.Parts.{DoesAll, DoesPart, Finds, IsRefusal}
-use Rattle.zk_load.proofs.Doing.{prefix_none, prefix_of_none, prefix_trans}
+use Rattle.zk_outcome.specs.Found.{Finds, IsRefusal}
+use Rattle.zk_outcome.specs.Parts.{DoesAll, DoesPart}
+use Rattle.zk_outcome.proofs.Doing.{prefix_none, prefix_of_none, prefix_trans}
 use Rattle.zk_io.specs.declared.capture.CaptureReader.{CaptureReader}
 use Rattle.zk_command.specs.declared.command.Settings.{Settings}
 use Rattle.zk_top.specs.declared.generated.Report.{Report}
@@ -30,7 +29,7 @@ use Rattle.zk_command.specs.Command.{no_options, settings_of}
 use Rattle.zk_top.specs.Compiling.{IsCodeOf, Runs, program_by}
 use Rattle.zk_top.specs.Generated.{IsOf}
 use Rattle.zk_top.specs.Logged.{shown_row}
-use Rattle.zk_io.specs.Opened.{end_of_capture, judged, link_in, opened}
+use Rattle.zk_io.specs.Opened.{Recording, end_of_capture, judged, opened, recording_of}
 use Rattle.zk_top.specs.Outcome.{Outcome, end_of_run, generated, generated_name, generating, no_files, over_capture, summary_report, summing_up}
 use Rattle.zk_top.specs.Parts.{BreaksOff, Fulfils, IsOfCommand}
 use Rattle.zk_top.specs.Printed.{progress_of}
@@ -100,7 +99,7 @@ record IsSummary (wanted : Outcome) : Type 0 where
   asked : wanted.asked ≡ []
   ends : EndsCommand wanted.ending
 
-summary_over : (program : Program) (bytes : List ℕ) (read : Result Capture CaptureFault) → IsSummary (over_capture (summary_report program bytes) [] (judged generated_name read))
+summary_over : (program : Program) (bytes : List ℕ) (read : Result Recording CaptureFault) → IsSummary (over_capture (summary_report program bytes) [] (judged generated_name read))
 summary_over program bytes (Err fault) = record {
   files = refl;
   asked = refl;
@@ -109,12 +108,12 @@ summary_over program bytes (Err fault) = record {
 summary_over program bytes (Ok capture) = record {
   files = refl;
   asked = refl;
-  ends = run_ends capture.ending (progress_of (settings_of no_options) program (link_in (Some bytes)) capture.packets);
+  ends = run_ends capture.ending (progress_of (settings_of no_options) program capture.records);
 }
 
 summary_by : (bytes : List ℕ) (found : Found Program) → ((e : Ending) → found ≡ Refused e → EndsCommand e) → IsSummary (summing_up bytes found)
 summary_by bytes (Refused e) refusals = record { files = refl; asked = refl; ends = refusals e refl }
-summary_by bytes (Accepted program) refusals = summary_over program bytes (capture_of bytes)
+summary_by bytes (Accepted program) refusals = summary_over program bytes (recording_of bytes)
 
 text_ends : (e : Ending) → IsTextRefusal e → EndsCommand e
 text_ends e refusal = subst EndsCommand (sym refusal.is) (refusal_ends (ending.ScriptRefused refusal.file refusal.place refusal.kind) tt (λ name same. let never : ⊥ = cc in never))
@@ -167,7 +166,7 @@ reported_refusal bytes (Refused other) e report code ends says = record { ends =
 
 -- there is no capture in the input
 pub refused_summary : (program : Program) (inputs : Files) (whole : List ℕ) (report : Report) (old new : Outside) (e : Ending) → old.inputs ≡ Some inputs → inputs generated_name ≡ Some whole
-    → Finds {X = Capture} generated_name (opened generated_name) old (Refused e) new → report.ending ≡ e → report.said.items ≡ [] → IsOf report (summing_up whole (Accepted program))
+    → Finds {X = Recording} generated_name (opened generated_name) old (Refused e) new → report.ending ≡ e → report.said.items ≡ [] → IsOf report (summing_up whole (Accepted program))
 refused_summary program inputs whole report old new e told there found ends says =
     let is : Refused e ≡ opened generated_name (Some whole) = found.told inputs told ∙ ap (opened generated_name) there in
     record {
@@ -176,25 +175,25 @@ refused_summary program inputs whole report old new e told there found ends says
     }
 
 -- the capture in the input was played
-pub played_summary : (program : Program) (runnable : Runnable) (inputs : Files) (whole : List ℕ) (report : Report) (old mid : Outside) (reader : CaptureReader) (packets : List Packet) (ending : CaptureEnding)
+pub played_summary : (program : Program) (runnable : Runnable) (inputs : Files) (whole : List ℕ) (report : Report) (old mid : Outside) (reader : CaptureReader) (packets : List Captured) (ending : CaptureEnding)
     → old.inputs ≡ Some inputs → inputs generated_name ≡ Some whole → Runs runnable program → (opens : OpensCapture generated_name old reader mid) → IsCapture (lies_under old.inputs generated_name) packets ending
-    → ((progress : Progress) → progress_over (plan_of (settings_of no_options) program opens.header.link runnable.packets) packets ≡ progress
+    → ((progress : Progress) → progress_over (plan_of (settings_of no_options) program runnable.packets) packets ≡ progress
     → (report.ending ≡ end_of_run generated_name ending progress) × (report.said.items ≡ summary_of (length packets) (length whole) progress))
     → IsOf report (summing_up whole (Accepted program))
 played_summary program runnable inputs whole report old mid reader packets ending told there runs opens is reported =
     let settings : Settings = settings_of no_options in
     let found = capture_found generated_name old reader mid packets ending opens is in
-    let judges : Accepted (record { packets = packets; ending = ending }) ≡ opened generated_name (Some whole) = found.told inputs told ∙ ap (opened generated_name) there in
-    let far : progress_over (plan_of settings program opens.header.link runnable.packets) packets ≡ progress_of settings program (link_in (Some whole)) packets =
-    replayed_progress generated_name settings program runnable old reader mid packets runs opens inputs told ∙ ap (λ input. progress_of settings program (link_in input) packets) there in
-    let (ends, says) = reported (progress_of settings program (link_in (Some whole)) packets) far in
+    let judges : Accepted (record { records = packets; ending = ending }) ≡ opened generated_name (Some whole) = found.told inputs told ∙ ap (opened generated_name) there in
+    let far : progress_over (plan_of settings program runnable.packets) packets ≡ progress_of settings program packets =
+    replayed_progress generated_name settings program runnable old reader mid packets runs opens inputs told in
+    let (ends, says) = reported (progress_of settings program packets) far in
     record {
       ends = ends ∙ ap (λ r. (over_capture (summary_report program whole) [] r).ending) judges;
       says = says ∙ ap (λ r. (over_capture (summary_report program whole) [] r).said) judges;
     }
 
 -- to its end
-pub through_summary : (packets : List Packet) (bytes passed : ℕ) (whole : List ℕ) (rows : RowCounts) (end : CaptureEnding) (e : Ending) (text : List ℕ) (time last : Moment) (ran progress : Progress)
+pub through_summary : (packets : List Captured) (bytes passed : ℕ) (whole : List ℕ) (rows : RowCounts) (end : CaptureEnding) (e : Ending) (text : List ℕ) (time last : Moment) (ran progress : Progress)
     → Through last ≡ came_of time ran → ran ≡ progress → passed ≡ length packets → bytes ≡ length whole → rows ≡ counts_of (map shown_row (world_in ran).rows)
     → e ≡ end_of_capture generated_name end → text ≡ summary_text passed bytes rows
     → (e ≡ end_of_run generated_name end progress) × (text ≡ summary_of (length packets) (length whole) progress)
@@ -206,7 +205,7 @@ through_summary packets bytes passed whole rows end e text time last (Goes world
 )
 
 -- to a flood
-pub flooded_summary : (packets : List Packet) (whole : List ℕ) (end : CaptureEnding) (time moment : Moment) (ran progress : Progress) → Flooded moment ≡ came_of time ran → ran ≡ progress
+pub flooded_summary : (packets : List Captured) (whole : List ℕ) (end : CaptureEnding) (time moment : Moment) (ran progress : Progress) → Flooded moment ≡ came_of time ran → ran ≡ progress
     → (ending.Flood moment ≡ end_of_run generated_name end progress) × ([] ≡ summary_of (length packets) (length whole) progress)
 flooded_summary packets whole end time moment (Goes world left) progress came same = absurd (let never : ⊥ = cc in never)
 flooded_summary packets whole end time moment (Floods world) progress came same =

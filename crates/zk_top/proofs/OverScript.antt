@@ -4,22 +4,23 @@ use Rattle.std.specs.Option.{option_map}
 use Rattle.zk_base.specs.declared.endings.Ending.{Ending}
 use Rattle.zk_base.specs.declared.endings.Ending.TheVariants.{NoInput, ScriptRefused}
 use Rattle.zk_base.specs.Shelf.{Files, Outside, HasRisen}
-use Rattle.zk_pcap.specs.declared.captures.Capture.{Capture}
 use Rattle.zk_scope.specs.Lent.{files_of}
 use Rattle.zk_typed.specs.declared.refusal.Broken.{Broken}
 use Rattle.zk_typed.specs.Errors.{errors}
 use Rattle.zk_typed.specs.Program.{Program}
-use Rattle.zk_load.specs.declared.found.Found.{Found}
-use Rattle.zk_load.specs.declared.found.Found.TheVariants.{Accepted, Refused}
-use Rattle.zk_load.specs.declared.stop.Stop.{Stop}
+use Rattle.zk_outcome.specs.declared.found.Found.{Found}
+use Rattle.zk_outcome.specs.declared.found.Found.TheVariants.{Accepted, Refused}
+use Rattle.zk_outcome.specs.declared.stop.Stop.{Stop}
 use Rattle.zk_load.specs.Loading.{Loading, Scripts, loading}
 use Rattle.zk_load.specs.Loads.{LoadsAll, LoadsPart}
-use Rattle.zk_load.specs.Parts.{Does, DoesWithoutFault, IsPrefix, IsRefusal, SameAbsences}
-use Rattle.zk_load.proofs.Doing.{quiet_none, prefix_none, prefix_trans, prefix_behind, cause_since, does_both, without_fault_both}
+use Rattle.zk_outcome.specs.Found.{IsRefusal}
+use Rattle.zk_outcome.specs.Parts.{Does, DoesWithoutFault, SameAbsences}
+use Rattle.zk_outcome.specs.Prefix.{IsPrefix}
+use Rattle.zk_outcome.proofs.Doing.{quiet_none, prefix_none, prefix_trans, prefix_behind, cause_since, does_both, without_fault_both}
 use Rattle.zk_command.specs.declared.command.Settings.{Settings}
 use Rattle.zk_top.specs.declared.runnable.Runnable.{Runnable}
 use Rattle.zk_top.specs.Compiling.{FindsCode, IsCodeOf, Runs, program_by}
-use Rattle.zk_io.specs.Opened.{opened, link_in}
+use Rattle.zk_io.specs.Opened.{Recording, opened}
 use Rattle.zk_top.specs.Outcome.{Outcome, Report, ending_so, over_capture, run_report, running, run_behind, run_of}
 use Rattle.zk_logs.specs.Outputs.{files_over, OutputsBegun}
 use Rattle.zk_top.specs.Parts.{Fulfils, BreaksOff, but_outputs}
@@ -36,12 +37,12 @@ record SameBut (before : List (List ℕ)) (inner outer : Outcome) : Type 0 where
   complained : inner.complained ≡ outer.complained
   asked : before ++ inner.asked ≡ outer.asked
 
-same_over : (report : Capture → Report) (before : List (List ℕ)) (file : List ℕ) (found : Found Capture) → SameBut before (over_capture report (file ∷ []) found) (over_capture report (before ++ file ∷ []) found)
+same_over : (report : Recording → Report) (before : List (List ℕ)) (file : List ℕ) (found : Found Recording) → SameBut before (over_capture report (file ∷ []) found) (over_capture report (before ++ file ∷ []) found)
 same_over report before file (Accepted capture) = record { ending = refl; said = refl; files = refl; complained = refl; asked = refl }
 same_over report before file (Refused e) = record { ending = refl; said = refl; files = refl; complained = refl; asked = refl }
 
 abbrev over : List ℕ → Settings → Program → Files → Outcome
-over file settings program inputs = over_capture (run_report file settings program (link_in (inputs file))) (file ∷ []) (opened file (inputs file))
+over file settings program inputs = over_capture (run_report file settings program) (file ∷ []) (opened file (inputs file))
 
 -- The program of scripts that were read.
 pub record IsProgram (before : Scripts) (names : List (List ℕ)) (program : Program) (old mid : Outside) : Type 0 where
@@ -53,10 +54,10 @@ same_run : (file : List ℕ) (settings : Settings) (before : Scripts) (names : L
     → SameBut found.loads.asked (over file settings program inputs) (run_behind file settings names inputs (Accepted before))
 same_run file settings before names program old mid found inputs t =
     let asked : List (List ℕ) = found.loads.asked in
-    let is : run_behind file settings names inputs (Accepted before) ≡ over_capture (run_report file settings program (link_in (inputs file))) (asked ++ file ∷ []) (opened file (inputs file)) =
+    let is : run_behind file settings names inputs (Accepted before) ≡ over_capture (run_report file settings program) (asked ++ file ∷ []) (opened file (inputs file)) =
     ap (λ (l : Loading). run_of file settings l.asked l.found (inputs file)) (found.loads.told inputs t)
     ∙ ap (λ p. running file settings asked p (inputs file)) found.is in
-    subst (SameBut asked (over file settings program inputs)) (sym is) (same_over (run_report file settings program (link_in (inputs file))) asked file (opened file (inputs file)))
+    subst (SameBut asked (over file settings program inputs)) (sym is) (same_over (run_report file settings program) asked file (opened file (inputs file)))
 
 -- the inputs that are told stay
 told_still : (before : Scripts) (names : List (List ℕ)) (program : Program) (old mid : Outside) (found : IsProgram before names program old mid) (inputs : Files) → old.inputs ≡ Some inputs → mid.inputs ≡ Some inputs
@@ -168,13 +169,13 @@ asks_them : (file : List ℕ) (settings : Settings) (asked : List (List ℕ)) (f
 asks_them file settings asked (Refused e) input = record { rest = []; joined = sym (append-nil asked) }
 asks_them file settings asked (Accepted scripts) input = by (program_of scripts)
   where
-    over_asks : (report : Capture → Report) (found : Found Capture) → IsPrefix asked (over_capture report (asked ++ file ∷ []) found).asked
+    over_asks : (report : Recording → Report) (found : Found Recording) → IsPrefix asked (over_capture report (asked ++ file ∷ []) found).asked
     over_asks report (Accepted capture) = record { rest = file ∷ []; joined = refl }
     over_asks report (Refused e) = record { rest = file ∷ []; joined = refl }
 
     by : (program : Found Program) → IsPrefix asked (running file settings asked program input).asked
     by (Refused e) = record { rest = []; joined = sym (append-nil asked) }
-    by (Accepted program) = over_asks (run_report file settings program (link_in input)) (opened file input)
+    by (Accepted program) = over_asks (run_report file settings program) (opened file input)
 
 -- stopped before the program was found
 pub stopped_scripts : (file : List ℕ) (settings : Settings) (before : Scripts) (names : List (List ℕ)) (old : Outside) (stop : Stop) (new : Outside) → LoadsPart before names old stop new

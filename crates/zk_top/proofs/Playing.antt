@@ -20,8 +20,8 @@ use Rattle.zk_value.specs.declared.cell.Cell.TheVariants as cell
 use Rattle.zk_value.specs.declared.cell.Column.{Column}
 use Rattle.zk_value.specs.declared.out.Out.{Out}
 use Rattle.zk_value.specs.declared.out.Out.TheVariants as out
-use Rattle.zk_load.specs.declared.stop.Stop.TheVariants.{NoMemory}
-use Rattle.zk_load.proofs.Doing.{prefix_none}
+use Rattle.zk_outcome.specs.declared.stop.Stop.TheVariants.{NoMemory}
+use Rattle.zk_outcome.proofs.Doing.{prefix_none}
 use Rattle.zk_top.specs.declared.player.Player.{Player}
 use Rattle.zk_io.specs.Said.{line_end}
 use Rattle.zk_top.specs.Logged.{dated, shown_atom, shown_cell, shown_column, shown_row}

@@ -8,18 +8,18 @@ use Rattle.zk_events.specs.declared.engine.ItemEnd.TheVariants.{Done, Flood}
 use Rattle.zk_events.specs.Laws.{EndKeeps, ItemsKeep}
 use Rattle.zk_events.specs.Run.{SoFar, Stage, New, Begun, Ended, taken, so_far, progress_at, run}
 use Rattle.zk_events.specs.Standing.{end_of}
-use Rattle.zk_pcap.specs.declared.records.Packet.{Packet}
+use Rattle.zk_base.specs.Captured.{Captured}
 use Rattle.zk_traffic.specs.declared.item.Item.{Item}
 use Rattle.zk_typed.specs.Program.{Program}
 use Rattle.zk_typed.specs.Running.{Progress, Goes, Floods, world_in}
 use Rattle.zk_typed.specs.State.{World}
 use Rattle.zk_logs.specs.Logs.{log_files}
-use Rattle.zk_load.specs.declared.stop.Stop.{Stop}
-use Rattle.zk_load.specs.Parts.{DoesAll, IsPrefix}
-use Rattle.zk_load.proofs.Doing.{prefix_all, prefix_trans}
-use Rattle.zk_pcap.specs.declared.headers.Header.{Header}
-use Rattle.zk_pcap.specs.declared.captures.CaptureEnding.{CaptureEnding}
-use Rattle.zk_pcap.specs.NetworkTime.{now as network_time}
+use Rattle.zk_outcome.specs.declared.stop.Stop.{Stop}
+use Rattle.zk_outcome.specs.Parts.{DoesAll}
+use Rattle.zk_outcome.specs.Prefix.{IsPrefix}
+use Rattle.zk_outcome.proofs.Doing.{prefix_all, prefix_trans}
+use Rattle.zk_base.specs.declared.capture.CaptureEnding.{CaptureEnding}
+use Rattle.zk_base.specs.NetworkTime.{now as network_time}
 use Rattle.zk_io.specs.declared.capture.CaptureReader.{CaptureReader}
 use Rattle.zk_top.specs.declared.player.Player.{Player}
 use Rattle.zk_top.specs.declared.replay.Came.{Came}
@@ -103,7 +103,7 @@ flood_lasts program budget far world (item ∷ items) is =
     stays (Floods before) same = same
 
 -- the run that came to a flood is over
-pub flood_over : (first : Beginning) (plan : Plan) (packets : List Packet) (moment last : Moment) (replay : Replay) (now : Outside) → HasFlooded first plan packets true moment replay now
+pub flood_over : (first : Beginning) (plan : Plan) (packets : List Captured) (moment last : Moment) (replay : Replay) (now : Outside) → HasFlooded first plan packets true moment replay now
     → IsOver first plan packets last (Flooded moment) replay now
 flood_over first plan packets moment last replay now far =
     let program : Program = plan.program in
@@ -123,7 +123,7 @@ flood_over first plan packets moment last replay now far =
     ended program budget items last world is = rw is refl
 
 -- a flood over the first items of more
-pub flood_further : (first : Beginning) (plan : Plan) (packets all : List Packet) (ended more : Bool) (moment : Moment) (replay : Replay) (now : Outside)
+pub flood_further : (first : Beginning) (plan : Plan) (packets all : List Captured) (ended more : Bool) (moment : Moment) (replay : Replay) (now : Outside)
     → HasFlooded first plan packets ended moment replay now → IsPrefix (items_in plan packets ended) (items_in plan all more) → HasFlooded first plan all more moment replay now
 flood_further first plan packets all ended more moment replay now far prefix = record {
   given = far.given;
@@ -134,9 +134,10 @@ flood_further first plan packets all ended more moment replay now far prefix = r
 
 -- Playing on -------------------------------------------------------------------------------------------------------
 
-pub plays_on : (first : Beginning) (plan : Plan) (packets : List Packet) (given : List Item) (ended : Bool) (stage : Stage) (replay : Replay) (old new : Outside)
+pub plays_on : (first : Beginning) (plan : Plan) (packets : List Captured) (given : List Item) (ended : Bool) (stage : Stage) (replay : Replay) (old new : Outside)
     → Comes first plan packets given ended stage replay old → DoesAll [] [] [] old new → Comes first plan packets given ended stage replay new
 plays_on first plan packets given ended stage replay old new comes does = record {
+  link = comes.link;
   traffic = comes.traffic;
   begins = comes.begins;
   plays = record {
@@ -150,14 +151,14 @@ plays_on first plan packets given ended stage replay old new comes does = record
 }
 
 -- what has been given out of a replay
-pub comes_given : (first : Beginning) (plan : Plan) (packets : List Packet) (given : List Item) (ended : Bool) (replay : Replay) (now : Outside) → Comes first plan packets given ended (Begun given) replay now
+pub comes_given : (first : Beginning) (plan : Plan) (packets : List Captured) (given : List Item) (ended : Bool) (replay : Replay) (now : Outside) → Comes first plan packets given ended (Begun given) replay now
     → HasTaken first (output_at plan.program plan.budget (Begun given)) replay.player.sink now
 comes_given first plan packets given ended replay now comes = plays_given first plan.program plan.budget (Begun given) replay.player now comes.plays
 
 -- Steps of a replay ------------------------------------------------------------------------------------------------
 
 -- a part of the run ended so: the items so far were played, or there was a flood
-pub after_end : (first : Beginning) (plan : Plan) (packets : List Packet) (ended : Bool) (end : ItemEnd) (replay : Replay) (now : Outside)
+pub after_end : (first : Beginning) (plan : Plan) (packets : List Captured) (ended : Bool) (end : ItemEnd) (replay : Replay) (now : Outside)
     → Comes first plan packets (items_in plan packets ended) ended (Begun (items_in plan packets ended)) replay now
     → end ≡ end_of (progress_at plan.program plan.budget (Begun (items_in plan packets ended))) → After first plan packets ended end replay now
 after_end first plan packets ended Done replay now comes is = comes
@@ -178,14 +179,14 @@ begun_after (Ok end) replay player old new ends plays = λ first plan comes.
     let program : Program = plan.program in
     let budget : ℕ = plan.budget in
     let after : Replay = record replay { player = player } in
-    let none : items_in plan [] false ≡ [] = no_items plan.options plan.link in
-    let here : Comes first plan [] [] false (Begun []) after new = record { traffic = comes.traffic; begins = comes.begins; plays = plays first program budget comes.plays } in
+    let none : items_in plan [] false ≡ [] = no_items plan.options in
+    let here : Comes first plan [] [] false (Begun []) after new = record { link = comes.link; traffic = comes.traffic; begins = comes.begins; plays = plays first program budget comes.plays } in
     after_end first plan [] false end after new
     (subst (λ items. Comes first plan [] items false (Begun items) after new) (sym none) here)
     (ends first program budget comes.plays ∙ ap (λ items. end_of (progress_at program budget (Begun items))) (sym none))
 
 -- the run was ended
-pub finished_over : (first : Beginning) (plan : Plan) (packets : List Packet) (last : Moment) (end : ItemEnd) (came : Came) (replay : Replay) (now : Outside)
+pub finished_over : (first : Beginning) (plan : Plan) (packets : List Captured) (last : Moment) (end : ItemEnd) (came : Came) (replay : Replay) (now : Outside)
     → Plays first plan.program plan.budget (Ended (items_in plan packets true) last) replay.player now
     → end ≡ end_of (run plan.program plan.budget (items_in plan packets true) last) → came ≡ came_by last end → IsOver first plan packets last came replay now
 finished_over first plan packets last end came replay now plays ends is = record {
@@ -196,27 +197,27 @@ finished_over first plan packets last end came replay now plays ends is = record
 -- The whole run ------------------------------------------------------------------------------------------------------
 
 -- what was read stays where nothing is read
-pub read_on : (came : Came) (whole : Option (List ℕ)) (header : Header) (packets : List Packet) (reader : CaptureReader) (old new : Outside) → SameInput old new
-    → IsRead came whole header packets reader old → IsRead came whole header packets reader new
-read_on (Through last) whole header packets reader old new same (bytes, reading, through) = (bytes, reading_on whole header bytes packets reader old new reading same, through)
-read_on (Flooded moment) whole header packets reader old new same read = tt
+pub read_on : (came : Came) (whole : Option (List ℕ)) (packets : List Captured) (reader : CaptureReader) (old new : Outside) → SameInput old new
+    → IsRead came whole packets reader old → IsRead came whole packets reader new
+read_on (Through last) whole packets reader old new same (bytes, reading, through) = (bytes, reading_on whole bytes packets reader old new reading same, through)
+read_on (Flooded moment) whole packets reader old new same read = tt
 
 -- of a capture that was read to its end
-read_to_end : (came : Came) (whole : Option (List ℕ)) (header : Header) (bytes : List ℕ) (packets : List Packet) (reader : CaptureReader) (now : Outside)
-    → IsReading whole header bytes packets reader now → IsReadThrough header bytes packets reader → IsRead came whole header packets reader now
-read_to_end (Through last) whole header bytes packets reader now reading through = (bytes, reading, through)
-read_to_end (Flooded moment) whole header bytes packets reader now reading through = tt
+read_to_end : (came : Came) (whole : Option (List ℕ)) (bytes : List ℕ) (packets : List Captured) (reader : CaptureReader) (now : Outside)
+    → IsReading whole bytes packets reader now → IsReadThrough bytes reader → IsRead came whole packets reader now
+read_to_end (Through last) whole bytes packets reader now reading through = (bytes, reading, through)
+read_to_end (Flooded moment) whole bytes packets reader now reading through = tt
 
 -- the capture was read to its end, and the run ended
-pub run_through : (first : Beginning) (plan : Plan) (whole : Option (List ℕ)) (header : Header) (last : Moment) (before after : Replay) (reader : CaptureReader) (mid : Outside) (came : Came) (new : Outside)
-    → IsThrough first plan whole header last before reader mid → ((packets : List Packet) → HasPlayed first plan packets false before mid → IsOver first plan packets last came after new)
-    → SameInput mid new → HasRun first plan whole header came after reader new
-run_through first plan whole header last before after reader mid came new far over same = record {
-  packets = far.packets;
+pub run_through : (first : Beginning) (plan : Plan) (whole : Option (List ℕ)) (last : Moment) (before after : Replay) (reader : CaptureReader) (mid : Outside) (came : Came) (new : Outside)
+    → IsThrough first plan whole last before reader mid → ((packets : List Captured) → HasPlayed first plan packets false before mid → IsOver first plan packets last came after new)
+    → SameInput mid new → HasRun first plan whole came after reader new
+run_through first plan whole last before after reader mid came new far over same = record {
+  records = far.records;
   ending = _;
-  all = read_capture whole header far.bytes far.packets reader mid far.reading far.through;
-  over = subst (λ t. IsOver first plan far.packets t came after new) far.last_is (over far.packets far.played);
-  read = read_on came whole header far.packets reader mid new same (read_to_end came whole header far.bytes far.packets reader mid far.reading far.through);
+  all = read_capture whole far.bytes far.records reader mid far.reading far.through;
+  over = subst (λ t. IsOver first plan far.records t came after new) far.last_is (over far.records far.played);
+  read = read_on came whole far.records reader mid new same (read_to_end came whole far.bytes far.records reader mid far.reading far.through);
 }
 
 -- where there was no flood
@@ -225,18 +226,18 @@ no_flood Done none = refl
 no_flood (Flood moment) none = absurd (none moment refl)
 
 pub run_finished : (result : Result Came Stop) (before after : Replay) (reader : CaptureReader) (last : Moment) (mid new : Outside)
-    → IfOk result (λ came. (first : Beginning) (plan : Plan) (packets : List Packet) → HasPlayed first plan packets false before mid → IsOver first plan packets last came after new)
+    → IfOk result (λ came. (first : Beginning) (plan : Plan) (packets : List Captured) → HasPlayed first plan packets false before mid → IsOver first plan packets last came after new)
     → OnOk result (SameInput mid new)
-    → IfOk result (λ came. (first : Beginning) (plan : Plan) (whole : Option (List ℕ)) (header : Header) → IsThrough first plan whole header last before reader mid → HasRun first plan whole header came after reader new)
+    → IfOk result (λ came. (first : Beginning) (plan : Plan) (whole : Option (List ℕ)) → IsThrough first plan whole last before reader mid → HasRun first plan whole came after reader new)
 run_finished (Err stop) before after reader last mid new over same = tt
-run_finished (Ok came) before after reader last mid new over same = λ first plan whole header far.
-    run_through first plan whole header last before after reader mid came new far (over first plan) same
+run_finished (Ok came) before after reader last mid new over same = λ first plan whole far.
+    run_through first plan whole last before after reader mid came new far (over first plan) same
 
 -- the run was ended by a flood
-pub flooded_run : (first : Beginning) (plan : Plan) (whole : Option (List ℕ)) (header : Header) (packets : List Packet) (ending : CaptureEnding) (moment : Moment) (replay : Replay) (reader : CaptureReader) (now : Outside)
-    → IsCapture whole packets ending → HasFlooded first plan packets true moment replay now → HasRun first plan whole header (Flooded moment) replay reader now
-flooded_run first plan whole header packets ending moment replay reader now all far = record {
-  packets = packets;
+pub flooded_run : (first : Beginning) (plan : Plan) (whole : Option (List ℕ)) (packets : List Captured) (ending : CaptureEnding) (moment : Moment) (replay : Replay) (reader : CaptureReader) (now : Outside)
+    → IsCapture whole packets ending → HasFlooded first plan packets true moment replay now → HasRun first plan whole (Flooded moment) replay reader now
+flooded_run first plan whole packets ending moment replay reader now all far = record {
+  records = packets;
   ending = ending;
   all = all;
   over = flood_over first plan packets moment (network_time packets) replay now far;
@@ -244,73 +245,73 @@ flooded_run first plan whole header packets ending moment replay reader now all 
 }
 
 -- stopped at the end of the run
-pub part_through : (first : Beginning) (plan : Plan) (whole : Option (List ℕ)) (header : Header) (last : Moment) (replay : Replay) (reader : CaptureReader) (mid : Outside) (stop : Stop) (new : Outside)
-    → IsThrough first plan whole header last replay reader mid
-    → ((packets : List Packet) → HasPlayed first plan packets false replay mid → TakesSome (output_of (told_by (world_in (run plan.program plan.budget (items_in plan packets true) last)))) first stop new)
+pub part_through : (first : Beginning) (plan : Plan) (whole : Option (List ℕ)) (last : Moment) (replay : Replay) (reader : CaptureReader) (mid : Outside) (stop : Stop) (new : Outside)
+    → IsThrough first plan whole last replay reader mid
+    → ((packets : List Captured) → HasPlayed first plan packets false replay mid → TakesSome (output_of (told_by (world_in (run plan.program plan.budget (items_in plan packets true) last)))) first stop new)
     → StopsOver whole plan first stop new
-part_through first plan whole header last replay reader mid stop new far stopped = record {
-  packets = far.packets;
+part_through first plan whole last replay reader mid stop new far stopped = record {
+  records = far.records;
   ending = _;
-  all = read_capture whole header far.bytes far.packets reader mid far.reading far.through;
-  there = subst (λ t. TakesSome (output_of (told_by (world_in (run plan.program plan.budget (items_in plan far.packets true) t)))) first stop new) far.last_is (stopped far.packets far.played);
+  all = read_capture whole far.bytes far.records reader mid far.reading far.through;
+  there = subst (λ t. TakesSome (output_of (told_by (world_in (run plan.program plan.budget (items_in plan far.records true) t)))) first stop new) far.last_is (stopped far.records far.played);
 }
 
 -- The logs are closed --------------------------------------------------------------------------------------------------
 
 -- the files of a run, closed when it ended
-closed_files : (plan : Plan) (packets : List Packet) (came : Came) → came ≡ came_of (network_time packets) (progress_over plan packets)
+closed_files : (plan : Plan) (packets : List Captured) (came : Came) → came ≡ came_of (network_time packets) (progress_over plan packets)
     → log_files (output_over plan packets).rows (dated (time_of came)) ≡ files_of plan packets
 closed_files plan packets came is =
     ap (λ end. log_files (output_over plan packets).rows (dated end)) (came_when (network_time packets) came (progress_over plan packets) is)
 
 -- all was said and written
-pub replayed_all : (first : Beginning) (plan : Plan) (whole : Option (List ℕ)) (header : Header) (came : Came) (replay : Replay) (reader : CaptureReader) (mid new : Outside)
-    → HasRun first plan whole header came replay reader mid
+pub replayed_all : (first : Beginning) (plan : Plan) (whole : Option (List ℕ)) (came : Came) (replay : Replay) (reader : CaptureReader) (mid new : Outside)
+    → HasRun first plan whole came replay reader mid
     → ((output : Output) → HasTaken first output replay.player.sink mid → GivesAll output.text (log_files output.rows (dated (time_of came))) first.outside new) → SameInput mid new
-    → Replays plan whole header first.outside came reader new
-replayed_all first plan whole header came replay reader mid new ran closes same = record {
-  packets = ran.packets;
+    → Replays plan whole first.outside came reader new
+replayed_all first plan whole came replay reader mid new ran closes same = record {
+  records = ran.records;
   ending = ran.ending;
   all = ran.all;
   ends = ran.over.ends;
-  gives = subst (λ files. GivesAll (output_over plan ran.packets).text files first.outside new) (closed_files plan ran.packets came ran.over.ends) (closes (output_over plan ran.packets) ran.over.gives);
-  read = read_on came whole header ran.packets reader mid new same ran.read;
+  gives = subst (λ files. GivesAll (output_over plan ran.records).text files first.outside new) (closed_files plan ran.records came ran.over.ends) (closes (output_over plan ran.records) ran.over.gives);
+  read = read_on came whole ran.records reader mid new same ran.read;
 }
 
 -- stopped while the logs were closed
-pub replayed_part : (first : Beginning) (plan : Plan) (whole : Option (List ℕ)) (header : Header) (came : Came) (replay : Replay) (reader : CaptureReader) (mid : Outside) (stop : Stop) (new : Outside)
-    → HasRun first plan whole header came replay reader mid
+pub replayed_part : (first : Beginning) (plan : Plan) (whole : Option (List ℕ)) (came : Came) (replay : Replay) (reader : CaptureReader) (mid : Outside) (stop : Stop) (new : Outside)
+    → HasRun first plan whole came replay reader mid
     → ((output : Output) → HasTaken first output replay.player.sink mid → GivesPart output.text (log_files output.rows (dated (time_of came))) first.outside stop new)
     → ReplaysPart whole plan first.outside stop new
-replayed_part first plan whole header came replay reader mid stop new ran closes = record {
-  packets = ran.packets;
+replayed_part first plan whole came replay reader mid stop new ran closes = record {
+  records = ran.records;
   ending = ran.ending;
   all = ran.all;
-  there = subst (λ files. GivesPart (output_over plan ran.packets).text files first.outside stop new) (closed_files plan ran.packets came ran.over.ends) (closes (output_over plan ran.packets) ran.over.gives);
+  there = subst (λ files. GivesPart (output_over plan ran.records).text files first.outside stop new) (closed_files plan ran.records came ran.over.ends) (closes (output_over plan ran.records) ran.over.gives);
 }
 
 -- stopped before
 pub some_replayed : (whole : Option (List ℕ)) (plan : Plan) (first : Beginning) (stop : Stop) (new : Outside) → StopsOver whole plan first stop new → ReplaysPart whole plan first.outside stop new
 some_replayed whole plan first stop new some = record {
-  packets = some.packets;
+  records = some.records;
   ending = some.ending;
   all = some.all;
   there = record {
     says = some.there.says;
-    begun = begun_to_end (output_over plan some.packets).rows first.outside.outputs new.outputs _ some.there.begun;
+    begun = begun_to_end (output_over plan some.records).rows first.outside.outputs new.outputs _ some.there.begun;
   };
 }
 
 -- Or rows were counted -------------------------------------------------------------------------------------------------
 
-pub counted_all : (first : Beginning) (plan : Plan) (whole : Option (List ℕ)) (header : Header) (came : Came) (replay : Replay) (reader : CaptureReader) (now : Outside) (rows : RowCounts)
-    → HasRun first plan whole header came replay reader now → ((output : Output) → HasTaken first output replay.player.sink now → rows ≡ counts_of output.rows)
-    → Counts plan whole header came rows reader now
-counted_all first plan whole header came replay reader now rows ran counts = record {
-  packets = ran.packets;
+pub counted_all : (first : Beginning) (plan : Plan) (whole : Option (List ℕ)) (came : Came) (replay : Replay) (reader : CaptureReader) (now : Outside) (rows : RowCounts)
+    → HasRun first plan whole came replay reader now → ((output : Output) → HasTaken first output replay.player.sink now → rows ≡ counts_of output.rows)
+    → Counts plan whole came rows reader now
+counted_all first plan whole came replay reader now rows ran counts = record {
+  records = ran.records;
   ending = ran.ending;
   all = ran.all;
   ends = ran.over.ends;
-  rows_are = counts (output_over plan ran.packets) ran.over.gives;
+  rows_are = counts (output_over plan ran.records) ran.over.gives;
   read = ran.read;
 }

@@ -3,47 +3,44 @@ use Rattle.std.proofs.Common.{◌≡◌, ℕ, Bool, List, Some, refl, sym, ap, �
 use Rattle.zk_base.specs.declared.endings.Ending.TheVariants as ending
 use Rattle.zk_base.specs.declared.time.Moment.{Moment}
 use Rattle.zk_base.specs.Shelf.{Files, Outside}
-use Rattle.zk_pcap.specs.declared.captures.CaptureEnding.{CaptureEnding}
-use Rattle.zk_pcap.specs.declared.records.Packet.{Packet}
-use Rattle.zk_pcap.specs.NetworkTime.{now as network_time}
+use Rattle.zk_base.specs.declared.capture.CaptureEnding.{CaptureEnding}
+use Rattle.zk_base.specs.Captured.{Captured}
+use Rattle.zk_base.specs.NetworkTime.{now as network_time}
 use Rattle.zk_typed.specs.Program.{Program}
 use Rattle.zk_typed.specs.Running.{Progress, Goes, Floods, world_in}
 use Rattle.zk_io.specs.declared.capture.CaptureReader.{CaptureReader}
 use Rattle.zk_command.specs.declared.command.Settings.{Settings}
 use Rattle.zk_top.specs.declared.runnable.Runnable.{Runnable}
 use Rattle.zk_top.specs.Compiling.{Runs}
-use Rattle.zk_io.specs.Opened.{end_of_capture, link_in}
+use Rattle.zk_io.specs.Opened.{end_of_capture}
 use Rattle.zk_top.specs.Outcome.{end_of_run, run_report}
 use Rattle.zk_top.specs.declared.replay.Came.TheVariants.{Through, Flooded}
 use Rattle.zk_top.specs.Logged.{files_of_run}
 use Rattle.zk_top.specs.Printed.{progress_of, with_line_ends}
 use Rattle.zk_io.specs.Reading.{OpensCapture}
 use Rattle.zk_top.specs.Replay.{Plan, came_of, files_of, output_over, progress_over}
-use Rattle.zk_io.proofs.OpenCapture.{opened_link}
 use Rattle.zk_top.proofs.OverCapture.{IsReport}
 
 -- the plan of a run
-abbrev pub plan_of : Settings → Program → ℕ → Bool → Plan
-plan_of settings program link packets = record {
+abbrev pub plan_of : Settings → Program → Bool → Plan
+plan_of settings program packets = record {
   options = record { check = settings.check; buffer = settings.buffer; packets = packets };
-  link = link;
   program = program;
   budget = settings.budget;
 }
 
 -- what is replayed of a capture that was opened is what is reported
-pub replayed_progress : (file : List ℕ) (settings : Settings) (program : Program) (runnable : Runnable) (old : Outside) (reader : CaptureReader) (now : Outside) (packets : List Packet)
+pub replayed_progress : (file : List ℕ) (settings : Settings) (program : Program) (runnable : Runnable) (old : Outside) (reader : CaptureReader) (now : Outside) (packets : List Captured)
     → Runs runnable program → (opens : OpensCapture file old reader now) → (inputs : Files) → old.inputs ≡ Some inputs
-    → progress_over (plan_of settings program opens.header.link runnable.packets) packets ≡ progress_of settings program (link_in (inputs file)) packets
+    → progress_over (plan_of settings program runnable.packets) packets ≡ progress_of settings program packets
 replayed_progress file settings program runnable old reader now packets runs opens inputs told =
-    ap (λ flag. progress_over (plan_of settings program opens.header.link flag) packets) runs.packets
-    ∙ ap (λ link. progress_of settings program link packets) (sym (opened_link file old reader now opens inputs told))
+    ap (λ flag. progress_over (plan_of settings program flag) packets) runs.packets
 
 -- what is given out is what is reported
-pub replayed_report : (file : List ℕ) (settings : Settings) (program : Program) (runnable : Runnable) (old : Outside) (reader : CaptureReader) (now : Outside) (packets : List Packet) (ending : CaptureEnding)
+pub replayed_report : (file : List ℕ) (settings : Settings) (program : Program) (runnable : Runnable) (old : Outside) (reader : CaptureReader) (now : Outside) (packets : List Captured) (ending : CaptureEnding)
     → Runs runnable program → (opens : OpensCapture file old reader now) → (inputs : Files) → old.inputs ≡ Some inputs
-    → let plan = plan_of settings program opens.header.link runnable.packets in
-    IsReport (output_over plan packets).text (files_of plan packets) (run_report file settings program (link_in (inputs file)) (record { packets = packets; ending = ending }))
+    → let plan = plan_of settings program runnable.packets in
+    IsReport (output_over plan packets).text (files_of plan packets) (run_report file settings program (record { records = packets; ending = ending }))
 replayed_report file settings program runnable old reader now packets ending runs opens inputs told =
     let is = replayed_progress file settings program runnable old reader now packets runs opens inputs told in
     record {

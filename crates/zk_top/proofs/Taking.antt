@@ -4,10 +4,10 @@ use Rattle.std.proofs.lemmas.List.Elements.{filter-append}
 use Rattle.std.specs.Str.{bytes_eq}
 use Rattle.zk_base.specs.Shelf.{Outside}
 use Rattle.zk_logs.specs.Logs.{Row, log_files}
-use Rattle.zk_load.specs.declared.stop.Stop.{Stop}
-use Rattle.zk_load.specs.declared.stop.Stop.TheVariants.{NoMemory}
-use Rattle.zk_load.specs.Parts.{DoesAll, DoesPart}
-use Rattle.zk_load.proofs.Doing.{does_both_all, out_of_memory, prefix_none}
+use Rattle.zk_outcome.specs.declared.stop.Stop.{Stop}
+use Rattle.zk_outcome.specs.declared.stop.Stop.TheVariants.{NoMemory}
+use Rattle.zk_outcome.specs.Parts.{DoesAll, DoesPart}
+use Rattle.zk_outcome.proofs.Doing.{does_both_all, out_of_memory, prefix_none}
 use Rattle.zk_top.specs.declared.sink.Sink.{Sink}
 use Rattle.zk_top.specs.declared.sink.Sink.TheVariants as sink
 use Rattle.zk_top.specs.Sink.{Beginning, CanTake, HasTaken, TakesSome}

@@ -8,8 +8,8 @@ use Rattle.zk_typed.specs.Predefined.{packet_seen}
 use Rattle.zk_typed.specs.Program.{Program}
 use Rattle.zk_check.specs.declared.fault.CheckFault.{CheckFault}
 use Rattle.zk_check.specs.declared.fault.CheckFault.TheVariants as fault
-use Rattle.zk_load.specs.declared.found.Found.{Found}
-use Rattle.zk_load.specs.declared.found.Found.TheVariants.{Accepted, Refused}
+use Rattle.zk_outcome.specs.declared.found.Found.{Found}
+use Rattle.zk_outcome.specs.declared.found.Found.TheVariants.{Accepted, Refused}
 use Rattle.zk_load.specs.Loading.{Scripts}
 use Rattle.zk_load.specs.Loads.{LoadsAll}
 use Rattle.zk_top.specs.declared.runnable.Runnable.{Runnable}

@@ -10,7 +10,7 @@ use Rattle.zk_events.specs.Http.{reason_number}
 use Rattle.zk_http.specs.declared.units.UnitKind.{UnitKind}
 use Rattle.zk_http.specs.declared.units.UnitKind.TheVariants as unit
 use Rattle.zk_io.specs.Said.{line_end}
-use Rattle.zk_pcap.specs.declared.records.Packet.{Packet}
+use Rattle.zk_base.specs.Captured.{Captured}
 use Rattle.zk_text.specs.Address.{addr_text}
 use Rattle.zk_text.specs.Port.{proto_name}
 use Rattle.zk_text.specs.Span.{span_decimal}
@@ -73,6 +73,6 @@ lines_of items = flat_map line_of items
 abbrev pub list_options : Options
 list_options = record { check = true; buffer = 1_048_576; packets = true }
 
--- the lines of a capture with frames of a link type
-abbrev pub capture_lines : ℕ → List Packet → List ℕ
-capture_lines link packets = lines_of (items_of list_options link packets true)
+-- the lines of a capture
+abbrev pub capture_lines : List Captured → List ℕ
+capture_lines packets = lines_of (items_of list_options packets true)

@@ -3,18 +3,17 @@ use Rattle.std.specs.Prelude.{ℕ, List, [], ◌∷◌, ◌++◌, codes, length,
 use Rattle.zk_base.specs.declared.endings.Ending.{Ending}
 use Rattle.zk_base.specs.declared.endings.Ending.TheVariants.{Done, Usage, Flood}
 use Rattle.zk_base.specs.Shelf.{Files}
-use Rattle.zk_pcap.specs.declared.captures.Capture.{Capture}
-use Rattle.zk_pcap.specs.declared.captures.CaptureEnding.{CaptureEnding}
+use Rattle.zk_base.specs.declared.capture.CaptureEnding.{CaptureEnding}
 use Rattle.zk_typed.specs.Program.{Program}
 use Rattle.zk_typed.specs.Running.{Progress, Goes, Floods}
-use Rattle.zk_load.specs.declared.found.Found.{Found}
-use Rattle.zk_load.specs.declared.found.Found.TheVariants.{Accepted, Refused}
+use Rattle.zk_outcome.specs.declared.found.Found.{Found}
+use Rattle.zk_outcome.specs.declared.found.Found.TheVariants.{Accepted, Refused}
 use Rattle.zk_command.specs.About.{help_text, version_text}
 use Rattle.zk_gen.specs.Capture as gen
 use Rattle.zk_command.specs.Command.{Command, ListItems, RunScripts, Generate, Help, Version, no_options, settings_of, understand}
 use Rattle.zk_top.specs.Compiling.{program_by}
 use Rattle.zk_command.specs.Complaint.{complaint_of}
-use Rattle.zk_io.specs.Opened.{end_of_capture, link_in, opened}
+use Rattle.zk_io.specs.Opened.{Recording, end_of_capture, opened}
 use Rattle.zk_top.specs.Line.{capture_lines}
 use Rattle.zk_top.specs.Printed.{logged, progress_of, printed}
 use Rattle.zk_load.specs.Loading.{Scripts, loading}
@@ -63,34 +62,34 @@ end_of_run file ending (Goes world left) = end_of_capture file ending
 end_of_run file ending (Floods world) = Flood world.time
 
 -- the report over a capture, or none, after these names were asked for
-abbrev pub over_capture : (Capture → Report) → List (List ℕ) → Found Capture → Outcome
+abbrev pub over_capture : (Recording → Report) → List (List ℕ) → Found Recording → Outcome
 over_capture report asked (Refused ending) = ending_so ending [] asked
 over_capture report asked (Accepted capture) = reporting (report capture) asked
 
--- what a listing reports over a capture with frames of a link type
-abbrev pub list_report : List ℕ → ℕ → Capture → Report
-list_report file link capture = record {
+-- what a listing reports over a capture
+abbrev pub list_report : List ℕ → Recording → Report
+list_report file capture = record {
   ending = end_of_capture file capture.ending;
-  said = capture_lines link capture.packets;
+  said = capture_lines capture.records;
   files = no_files;
 }
 
 -- a listing of a file with these bytes, or of none
 abbrev pub listing : List ℕ → Option (List ℕ) → Outcome
-listing file found = over_capture (list_report file (link_in found)) (file ∷ []) (opened file found)
+listing file found = over_capture (list_report file) (file ∷ []) (opened file found)
 
--- what a run of a program reports over a capture with frames of a link type
-abbrev pub run_report : List ℕ → Settings → Program → ℕ → Capture → Report
-run_report file settings program link capture = record {
-  ending = end_of_run file capture.ending (progress_of settings program link capture.packets);
-  said = printed settings program link capture.packets;
-  files = logged settings program link capture.packets;
+-- what a run of a program reports over a capture
+abbrev pub run_report : List ℕ → Settings → Program → Recording → Report
+run_report file settings program capture = record {
+  ending = end_of_run file capture.ending (progress_of settings program capture.records);
+  said = printed settings program capture.records;
+  files = logged settings program capture.records;
 }
 
 -- a run of a program over the capture in a file, after these names were asked for
 abbrev pub running : List ℕ → Settings → List (List ℕ) → Found Program → Option (List ℕ) → Outcome
 running file settings asked (Refused ending) input = ending_so ending [] asked
-running file settings asked (Accepted program) input = over_capture (run_report file settings program (link_in input)) (asked ++ file ∷ []) (opened file input)
+running file settings asked (Accepted program) input = over_capture (run_report file settings program) (asked ++ file ∷ []) (opened file input)
 
 -- a run of scripts, of which these names were asked for
 abbrev pub run_of : List ℕ → Settings → List (List ℕ) → Found Scripts → Option (List ℕ) → Outcome
@@ -115,10 +114,10 @@ abbrev pub generated_name : List ℕ
 generated_name = codes "the generated capture"
 
 -- what a run of a program reports over a capture with these bytes: a summary in place of its output
-abbrev pub summary_report : Program → List ℕ → Capture → Report
+abbrev pub summary_report : Program → List ℕ → Recording → Report
 summary_report program bytes capture =
-    let progress = progress_of (settings_of no_options) program (link_in (Some bytes)) capture.packets in
-    record { ending = end_of_run generated_name capture.ending progress; said = summary_of (length capture.packets) (length bytes) progress; files = no_files }
+    let progress = progress_of (settings_of no_options) program capture.records in
+    record { ending = end_of_run generated_name capture.ending progress; said = summary_of (length capture.records) (length bytes) progress; files = no_files }
 
 -- a run of a program over the capture with these bytes, which lies in no file
 abbrev pub summing_up : List ℕ → Found Program → Outcome

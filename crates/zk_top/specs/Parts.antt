@@ -4,8 +4,9 @@ use Rattle.std.specs.Option.{option_map}
 use Rattle.zk_base.specs.declared.endings.Ending.{Ending}
 use Rattle.zk_base.specs.declared.endings.Ending.TheVariants.{Done, Usage, ScriptRefused, NoInput, CaptureRefused, CutShort, ReadFault, WriteFault, NoMemory, Flood}
 use Rattle.zk_base.specs.Shelf.{Files, Outside, HasRisen}
-use Rattle.zk_load.specs.declared.stop.Stop.{Stop}
-use Rattle.zk_load.specs.Parts.{HasCause, IsQuiet, Does, DoesWithoutFault, IsPrefix, SameAbsences}
+use Rattle.zk_outcome.specs.declared.stop.Stop.{Stop}
+use Rattle.zk_outcome.specs.Parts.{HasCause, IsQuiet, Does, DoesWithoutFault, SameAbsences}
+use Rattle.zk_outcome.specs.Prefix.{IsPrefix}
 use Rattle.zk_logs.specs.Outputs.{files_over, OutputsBegun}
 use Rattle.zk_top.specs.Outcome.{Outcome}
 use Rattle.zk_top.specs.Run.{IsNotStopped}

@@ -3,8 +3,8 @@ use Rattle.std.specs.Prelude.{ℕ, Bool, true, ◌++◌, ◌==◌, List}
 use Rattle.std.specs.List.{flat_map, list_any}
 use Rattle.zk_base.specs.declared.numbers.EventNo.{EventNo}
 use Rattle.zk_base.specs.Shelf.{Files}
-use Rattle.zk_pcap.specs.declared.records.Packet.{Packet}
-use Rattle.zk_pcap.specs.NetworkTime.{now}
+use Rattle.zk_base.specs.Captured.{Captured}
+use Rattle.zk_base.specs.NetworkTime.{now}
 use Rattle.zk_traffic.specs.declared.options.Options.{Options}
 use Rattle.zk_traffic.specs.Items.{items_of}
 use Rattle.zk_typed.specs.Predefined.{packet_seen}
@@ -27,14 +27,14 @@ handles event program = list_any (λ handler. handler.event.0 == event.0) progra
 abbrev pub options_of : Settings → Program → Options
 options_of settings program = record { check = settings.check; buffer = settings.buffer; packets = handles packet_seen program }
 
--- how far a program comes over the packets of a capture with frames of a link type
-abbrev pub progress_of : Settings → Program → ℕ → List Packet → Progress
-progress_of settings program link packets = run program settings.budget (items_of (options_of settings program) link packets true) (now packets)
+-- how far a program comes over the packets of a capture
+abbrev pub progress_of : Settings → Program → List Captured → Progress
+progress_of settings program packets = run program settings.budget (items_of (options_of settings program) packets true) (now packets)
 
 -- the lines that it prints
-abbrev pub printed : Settings → Program → ℕ → List Packet → List ℕ
-printed settings program link packets = with_line_ends (world_in (progress_of settings program link packets)).lines
+abbrev pub printed : Settings → Program → List Captured → List ℕ
+printed settings program packets = with_line_ends (world_in (progress_of settings program packets)).lines
 
 -- the log files that it writes
-abbrev pub logged : Settings → Program → ℕ → List Packet → Files
-logged settings program link packets = files_of_run (now packets) (progress_of settings program link packets)
+abbrev pub logged : Settings → Program → List Captured → Files
+logged settings program packets = files_of_run (now packets) (progress_of settings program packets)

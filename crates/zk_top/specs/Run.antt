@@ -4,7 +4,7 @@ use Rattle.std.specs.Option.{option_map}
 use Rattle.zk_base.specs.declared.endings.Ending.{Ending}
 use Rattle.zk_base.specs.declared.endings.Ending.TheVariants.{Done, Usage, ScriptRefused, NoInput, CaptureRefused, CutShort, ReadFault, WriteFault, NoMemory, Flood}
 use Rattle.zk_base.specs.Shelf.{Outside, appended}
-use Rattle.zk_load.specs.Parts.{IsPrefix}
+use Rattle.zk_outcome.specs.Prefix.{IsPrefix}
 use Rattle.zk_logs.specs.Outputs.{files_over, OutputsBegun}
 use Rattle.zk_top.specs.Outcome.{Outcome}
 

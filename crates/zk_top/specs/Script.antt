@@ -5,8 +5,8 @@ use Rattle.zk_base.specs.declared.endings.Ending.{Ending}
 use Rattle.zk_base.specs.declared.endings.Ending.TheVariants.{ScriptRefused}
 use Rattle.zk_base.specs.declared.endings.ScriptKind.{ScriptKind}
 use Rattle.zk_base.specs.declared.endings.ScriptKind.TheVariants as kind
-use Rattle.zk_load.specs.declared.found.Found.{Found}
-use Rattle.zk_load.specs.declared.found.Found.TheVariants.{Accepted, Refused}
+use Rattle.zk_outcome.specs.declared.found.Found.{Found}
+use Rattle.zk_outcome.specs.declared.found.Found.TheVariants.{Accepted, Refused}
 use Rattle.zk_load.specs.Loading.{Scripts, scripts_in}
 use Rattle.zk_scripts.specs.Texts.{default_texts}
 use Rattle.zk_scope.specs.Lent.{files_of}

@@ -1,8 +1,8 @@
 -- Where what a run gives out goes: to standard output and log files, or into counts alone.
 use Rattle.std.specs.Prelude.{◌≡◌, []}
 use Rattle.zk_base.specs.Shelf.{Outside}
-use Rattle.zk_load.specs.declared.stop.Stop.{Stop}
-use Rattle.zk_load.specs.Parts.{DoesAll}
+use Rattle.zk_outcome.specs.declared.stop.Stop.{Stop}
+use Rattle.zk_outcome.specs.Parts.{DoesAll}
 use Rattle.zk_top.specs.declared.sink.Sink.{Sink}
 use Rattle.zk_top.specs.declared.sink.Sink.TheVariants as sink
 use Rattle.zk_top.specs.declared.summary.RowCounts.{RowCounts}

@@ -12,9 +12,10 @@ use Rattle.zk_lower.specs.Told.{Told}
 use Rattle.zk_typed.specs.State.{World}
 use Rattle.zk_value.specs.declared.out.Out.{Out}
 use Rattle.zk_value.specs.declared.out.Out.TheVariants as out
-use Rattle.zk_load.specs.declared.stop.Stop.{Stop}
-use Rattle.zk_load.specs.declared.stop.Stop.TheVariants as stop
-use Rattle.zk_load.specs.Parts.{DoesAll, DoesPart, IsPrefix}
+use Rattle.zk_outcome.specs.declared.stop.Stop.{Stop}
+use Rattle.zk_outcome.specs.declared.stop.Stop.TheVariants as stop
+use Rattle.zk_outcome.specs.Parts.{DoesAll, DoesPart}
+use Rattle.zk_outcome.specs.Prefix.{IsPrefix}
 use Rattle.zk_top.specs.declared.writer.Writer.{Writer}
 use Rattle.zk_io.specs.Said.{line_end, HasSaid}
 use Rattle.zk_top.specs.Logged.{dated, shown_row}

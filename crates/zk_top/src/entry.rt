@@ -5,17 +5,17 @@ ghost use Rattle.zk_command.specs.Command.{IsUnderstood, understand, command_see
 ghost use Rattle.zk_command.specs.Complaint.{complaint_of};
 ghost use Rattle.zk_top.specs.Outcome.{ending_so, outcome, outcome_of};
 ghost use Rattle.zk_top.specs.Parts.{IsOfCommand, Fulfils, BreaksOff};
-ghost use Rattle.zk_load.specs.Parts.{DoesAll, DoesPart, SameFaults, SameAbsences};
+ghost use Rattle.zk_outcome.specs.Parts.{DoesAll, DoesPart, SameFaults, SameAbsences};
 ghost use Rattle.zk_top.specs.Run.{IsNotStopped, IsDone, StaysWithin, SameComplaints};
 
 use crate::generated::generate;
 use crate::listing::list;
 use crate::running::run_scripts;
 use std::alloc::Global;
-use zk_base::{Ending, Shelf, Word};
+use zk_base::{Ending, Fault, Shelf, Word};
 use zk_command::{Command, complaint_of, help, read_command, version};
 use zk_io::say;
-use zk_load::{Stop, written};
+use zk_outcome::{Stop, written};
 
 /// Carries out the words of a command line over a shelf, and says how that ended. The words are
 /// those behind the program's own name.
@@ -49,6 +49,10 @@ pub fn run<S: Shelf>(alloc: Global, words: &[Word], shelf: &mut S) -> Ending
     ensures write_fault { result ≡ Ending.WriteFault
         → HasRisen (S.outside shelf.old).write_faults (S.outside shelf.new).write_faults
         × ((S.outside shelf.new).read_faults ≡ (S.outside shelf.old).read_faults) }
+
+    // The call that failed was the last one, so nothing was read, said or written behind it.
+    ensures read_last { result ≡ Ending.ReadFault → (S.outside shelf.new).last ≡ Some Fault.Read }
+    ensures write_last { result ≡ Ending.WriteFault → (S.outside shelf.new).last ≡ Some Fault.Write }
 
     // A fault is never told as want of memory.
     ensures no_memory { result ≡ Ending.NoMemory → SameFaults (S.outside shelf.old) (S.outside shelf.new) }

@@ -19,7 +19,7 @@ use zk_base::{Bytes, Ending, Mem, Shelf, SureShelf};
 use zk_command::{BUDGET, BUFFER};
 use zk_gen::capture;
 use zk_io::{CHUNK, CaptureReader, end_of, say};
-use zk_load::{Found, Stop};
+use zk_outcome::{Found, Stop};
 use zk_traffic::Options;
 
 /// The name of the capture, under which no file lies.

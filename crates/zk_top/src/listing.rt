@@ -1,12 +1,9 @@
 ghost use Rattle.std.specs.Prelude.{◌≡◌, ◌<◌, ◌≤◌, ◌++◌, ◌∷◌, ℕ, Bool, true, false, List, Option, [], length, IfOk, OnOk, IfErr};
+ghost use Rattle.zk_base.specs.Captured.{Captured, IsBounded, captured};
 ghost use Rattle.zk_base.specs.Shelf.{Outside};
-ghost use Rattle.zk_pcap.specs.Record.{IsBounded};
-ghost use Rattle.zk_pcap.specs.View.{packet_of};
-ghost use Rattle.zk_pcap.specs.declared.headers.Header.{Header as HeaderData};
-ghost use Rattle.zk_pcap.specs.declared.records.Packet.{Packet as PacketData};
 ghost use Rattle.zk_top.specs.Line.{capture_lines, lines_of, list_options};
 ghost use Rattle.zk_top.specs.Outcome.{listing};
-ghost use Rattle.zk_load.specs.Parts.{DoesAll, DoesPart};
+ghost use Rattle.zk_outcome.specs.Parts.{DoesAll, DoesPart};
 ghost use Rattle.zk_top.specs.Parts.{Fulfils, BreaksOff, IsOfCommand};
 ghost use Rattle.zk_io.specs.Reading.{IsReading, IsUnderWay, SameInput, SaysAll, SaysPart};
 ghost use Rattle.zk_traffic.specs.Items.{items_of};
@@ -14,10 +11,9 @@ ghost use Rattle.zk_traffic.specs.declared.item.Item.{Item as ItemData};
 
 use crate::line::push_item_line;
 use std::alloc::Global;
-use zk_base::{Ending, Mem, Shelf};
+use zk_base::{Ending, Mem, PacketView, Shelf};
 use zk_io::{CHUNK, CaptureReader, PIECE, end_of, make_room, say};
-use zk_load::{Found, Stop};
-use zk_pcap::PacketView;
+use zk_outcome::{Found, Stop};
 use zk_traffic::{Options, Traffic, items_stay};
 
 /// Checksums are judged, each packet is an item, and a stream may hold a mebibyte above its front.
@@ -37,9 +33,9 @@ pub struct Listing {
 impl Listing {
     ghost use Rattle.zk_top.specs.Listing.{HasListed, HasListedAll};
 
-    /// A listing of a capture with frames of a link type, before its first packet.
+    /// A listing of a capture before its first packet, whose frame has this link type.
     fn new(alloc: Global, link: u16) -> Result<Listing, Mem>
-        ensures { IfOk result (λ made. (first : Outside) → HasListed first link [] [] false made first) }
+        ensures { IfOk result (λ made. (first : Outside) → HasListed first [] [] false made first) }
     {
         Ok(Listing {
             traffic: Traffic::new(alloc, OPTIONS, link)?,
@@ -47,26 +43,32 @@ impl Listing {
         })
     }
 
-    /// Lists what a packet brings.
-    fn take_packet<S: Shelf>(&mut self, shelf: &mut S, packet: PacketView<'_>) -> Result<(), Stop>
-        requires { IsBounded (packet_of packet) }
-        ensures listed { OnOk result ((first : Outside) (link : ℕ) (packets : List PacketData) → HasListedAll first link packets self.old (S.outside shelf.old)
-            → HasListedAll first link (packets ++ packet_of packet.entry ∷ []) self.new (S.outside shelf.new)) }
-        ensures stopped { IfErr result (λ stop. (first : Outside) (link : ℕ) (packets : List PacketData) → HasListedAll first link packets self.old (S.outside shelf.old)
-            → DoesPart [] (lines_of (items_of list_options link (packets ++ packet_of packet.entry ∷ []) false)) [] first stop (S.outside shelf.new)) }
+    /// Lists what a packet brings whose frame has this link type.
+    fn take_packet<S: Shelf>(
+        &mut self,
+        shelf: &mut S,
+        packet: PacketView<'_>,
+        link: u16,
+    ) -> Result<(), Stop>
+        requires { IsBounded (captured link packet) }
+        ensures listed { OnOk result ((first : Outside) (packets : List Captured) → HasListedAll first packets self.old (S.outside shelf.old)
+            → HasListedAll first (packets ++ captured link packet.entry ∷ []) self.new (S.outside shelf.new)) }
+        ensures stopped { IfErr result (λ stop. (first : Outside) (packets : List Captured) → HasListedAll first packets self.old (S.outside shelf.old)
+            → DoesPart [] (lines_of (items_of list_options (packets ++ captured link packet.entry ∷ []) false)) [] first stop (S.outside shelf.new)) }
         ensures input { OnOk result (SameInput (S.outside shelf.old) (S.outside shelf.new)) }
     {
         items_stay();
+        self.traffic.set_link(link);
         self.traffic.packet(packet)?;
         self.take_items(shelf)
     }
 
     /// Lists what the end of the capture brings.
     fn end<S: Shelf>(&mut self, shelf: &mut S) -> Result<(), Stop>
-        ensures said { OnOk result ((first : Outside) (link : ℕ) (packets : List PacketData) → HasListedAll first link packets self.old (S.outside shelf.old)
-            → DoesAll [] (capture_lines link packets) [] first (S.outside shelf.new)) }
-        ensures stopped { IfErr result (λ stop. (first : Outside) (link : ℕ) (packets : List PacketData) → HasListedAll first link packets self.old (S.outside shelf.old)
-            → DoesPart [] (capture_lines link packets) [] first stop (S.outside shelf.new)) }
+        ensures said { OnOk result ((first : Outside) (packets : List Captured) → HasListedAll first packets self.old (S.outside shelf.old)
+            → DoesAll [] (capture_lines packets) [] first (S.outside shelf.new)) }
+        ensures stopped { IfErr result (λ stop. (first : Outside) (packets : List Captured) → HasListedAll first packets self.old (S.outside shelf.old)
+            → DoesPart [] (capture_lines packets) [] first stop (S.outside shelf.new)) }
         ensures input { OnOk result (SameInput (S.outside shelf.old) (S.outside shelf.new)) }
     {
         items_stay();
@@ -77,12 +79,12 @@ impl Listing {
 
     /// Takes the items that wait, and says what fills a piece.
     fn take_items<S: Shelf>(&mut self, shelf: &mut S) -> Result<(), Stop>
-        ensures listed { OnOk result ((first : Outside) (link : ℕ) (packets : List PacketData) (given : List ItemData) (ended : Bool)
-            → HasListed first link packets given ended self.old (S.outside shelf.old)
-            → HasListed first link packets (items_of list_options link packets ended) ended self.new (S.outside shelf.new)) }
-        ensures stopped { IfErr result (λ stop. (first : Outside) (link : ℕ) (packets : List PacketData) (given : List ItemData) (ended : Bool)
-            → HasListed first link packets given ended self.old (S.outside shelf.old)
-            → DoesPart [] (lines_of (items_of list_options link packets ended)) [] first stop (S.outside shelf.new)) }
+        ensures listed { OnOk result ((first : Outside) (packets : List Captured) (given : List ItemData) (ended : Bool)
+            → HasListed first packets given ended self.old (S.outside shelf.old)
+            → HasListed first packets (items_of list_options packets ended) ended self.new (S.outside shelf.new)) }
+        ensures stopped { IfErr result (λ stop. (first : Outside) (packets : List Captured) (given : List ItemData) (ended : Bool)
+            → HasListed first packets given ended self.old (S.outside shelf.old)
+            → DoesPart [] (lines_of (items_of list_options packets ended)) [] first stop (S.outside shelf.new)) }
         ensures input { OnOk result (SameInput (S.outside shelf.old) (S.outside shelf.new)) }
     {
         'items: while let Some(item) = self.traffic.next() {
@@ -101,15 +103,15 @@ fn list_items<S: Shelf>(
     reader: &mut CaptureReader,
 ) -> Result<(), Stop>
     requires under_way { IsUnderWay reader.old (S.outside shelf.old) }
-    ensures said { OnOk result ((whole : Option (List ℕ)) (header : HeaderData) (bytes : List ℕ) → IsReading whole header bytes [] reader.old (S.outside shelf.old)
-        → SaysAll whole header (capture_lines header.link) (S.outside shelf.old) reader.new (S.outside shelf.new)) }
-    ensures stopped { IfErr result (λ stop. (whole : Option (List ℕ)) (header : HeaderData) (bytes : List ℕ) → IsReading whole header bytes [] reader.old (S.outside shelf.old)
-        → SaysPart whole (capture_lines header.link) (S.outside shelf.old) stop (S.outside shelf.new)) }
+    ensures said { OnOk result ((whole : Option (List ℕ)) (bytes : List ℕ) → IsReading whole bytes [] reader.old (S.outside shelf.old)
+        → SaysAll whole (capture_lines) (S.outside shelf.old) reader.new (S.outside shelf.new)) }
+    ensures stopped { IfErr result (λ stop. (whole : Option (List ℕ)) (bytes : List ℕ) → IsReading whole bytes [] reader.old (S.outside shelf.old)
+        → SaysPart whole (capture_lines) (S.outside shelf.old) stop (S.outside shelf.new)) }
 {
     items_stay();
     let mut listing = Listing::new(alloc, reader.link())?;
     'packets: while reader.fill(shelf)? {
-        listing.take_packet(shelf, reader.packet())?;
+        listing.take_packet(shelf, reader.packet(), reader.link())?;
         reader.advance();
     }
     listing.end(shelf)

@@ -16,7 +16,7 @@ use sqlite_items::Boxed;
 use std::alloc::Global;
 use zk_base::{Mem, Moment, Shelf};
 use zk_events::{Engine, ItemEnd, lines_given, lines_stay};
-use zk_load::Stop;
+use zk_outcome::Stop;
 use zk_lower::Code;
 use zk_traffic::Item;
 

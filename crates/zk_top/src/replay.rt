@@ -1,13 +1,10 @@
 ghost use Rattle.std.specs.Prelude.{◌≡◌, ◌≤◌, ◌++◌, ◌∷◌, [], ℕ, Bool, true, false, List, Option, IfOk, OnOk, IfErr};
+ghost use Rattle.zk_base.specs.Captured.{Captured, IsBounded, captured};
 ghost use Rattle.zk_base.specs.Shelf.{Outside};
 ghost use Rattle.zk_events.specs.Run.{Begun, New, run};
 ghost use Rattle.zk_lower.specs.Lowering.{lowered};
 ghost use Rattle.zk_lower.specs.View as lower;
-ghost use Rattle.zk_pcap.specs.NetworkTime.{later};
-ghost use Rattle.zk_pcap.specs.Record.{IsBounded};
-ghost use Rattle.zk_pcap.specs.View.{packet_of};
-ghost use Rattle.zk_pcap.specs.declared.headers.Header.{Header as HeaderData};
-ghost use Rattle.zk_pcap.specs.declared.records.Packet.{Packet as PacketData};
+ghost use Rattle.zk_base.specs.NetworkTime.{later};
 ghost use Rattle.zk_traffic.specs.declared.item.Item.{Item as ItemData};
 ghost use Rattle.zk_typed.specs.Program.{Program};
 ghost use Rattle.zk_typed.specs.Running.{world_in};
@@ -22,12 +19,11 @@ use crate::summary::RowCounts;
 use crate::writer::Writer;
 use sqlite_items::Boxed;
 use std::alloc::Global;
-use zk_base::{Mem, Moment, Shelf};
+use zk_base::{Mem, Moment, PacketView, Shelf};
 use zk_events::{ItemEnd, lines_stay};
 use zk_io::CaptureReader;
-use zk_load::Stop;
+use zk_outcome::Stop;
 use zk_lower::Code;
-use zk_pcap::PacketView;
 use zk_traffic::{Options, Traffic, items_stay};
 
 /// A replay of a capture to a program: its traffic, and the program.
@@ -63,7 +59,7 @@ impl Came {
 impl Replay {
     ghost use Rattle.zk_top.specs.Replay.{After, Comes, HasCome, HasPlayed, HasRun, IsOver, StopsOver, items_in, output_at};
 
-    /// A replay of a capture with frames of a link type, before its beginning, and where its output goes. It is large, so it is in a box.
+    /// A replay of a capture before its beginning, the first of whose frames has this link type, and where its output goes. It is large, so it is in a box.
     fn new(
         alloc: Global,
         options: Options,
@@ -74,7 +70,7 @@ impl Replay {
     ) -> Result<Box<Replay>, Mem>
         ensures comes { IfOk result (λ replay. (first : Beginning) (program : Program) (now : Outside) → lower.code_of code ≡ lowered program
             → HasTaken first no_output sink now
-            → Comes first (record { options = options; link = link; program = program; budget = budget }) [] [] false New replay.value now) }
+            → Comes first (record { options = options; program = program; budget = budget }) [] [] false New replay.value now) }
         ensures sink { IfOk result (λ replay. replay.value.player.sink ≡ sink) }
     {
         let replay = Replay {
@@ -99,10 +95,10 @@ impl Replay {
     /// Plays the items that wait.
     fn take_items<S: Shelf>(&mut self, shelf: &mut S) -> Result<ItemEnd, Stop>
         requires ready { CanTake self.old.player.sink (S.outside shelf.old) }
-        ensures after { IfOk result (λ end. (first : Beginning) (plan : Plan) (packets : List PacketData) (given : List ItemData) (ended : Bool)
+        ensures after { IfOk result (λ end. (first : Beginning) (plan : Plan) (packets : List Captured) (given : List ItemData) (ended : Bool)
             → Comes first plan packets given ended (Begun given) self.old (S.outside shelf.old) → After first plan packets ended end self.new (S.outside shelf.new)) }
         ensures ready { OnOk result (CanTake self.new.player.sink (S.outside shelf.new)) }
-        ensures stopped { IfErr result (λ stop. (first : Beginning) (plan : Plan) (packets : List PacketData) (given : List ItemData) (ended : Bool)
+        ensures stopped { IfErr result (λ stop. (first : Beginning) (plan : Plan) (packets : List Captured) (given : List ItemData) (ended : Bool)
             → Comes first plan packets given ended (Begun given) self.old (S.outside shelf.old)
             → TakesSome (output_at plan.program plan.budget (Begun (items_in plan packets ended))) first stop (S.outside shelf.new)) }
         ensures input { OnOk result (SameInput (S.outside shelf.old) (S.outside shelf.new)) }
@@ -118,23 +114,25 @@ impl Replay {
         Ok(ItemEnd::Done)
     }
 
-    /// Plays what a packet brings.
+    /// Plays what a packet brings whose frame has this link type.
     fn take_packet<S: Shelf>(
         &mut self,
         shelf: &mut S,
         packet: PacketView<'_>,
+        link: u16,
     ) -> Result<ItemEnd, Stop>
         requires ready { CanTake self.old.player.sink (S.outside shelf.old) }
-        requires bounded { IsBounded (packet_of packet) }
-        ensures after { IfOk result (λ end. (first : Beginning) (plan : Plan) (packets : List PacketData) → HasPlayed first plan packets false self.old (S.outside shelf.old)
-            → After first plan (packets ++ packet_of packet.entry ∷ []) false end self.new (S.outside shelf.new)) }
+        requires bounded { IsBounded (captured link packet) }
+        ensures after { IfOk result (λ end. (first : Beginning) (plan : Plan) (packets : List Captured) → HasPlayed first plan packets false self.old (S.outside shelf.old)
+            → After first plan (packets ++ captured link packet.entry ∷ []) false end self.new (S.outside shelf.new)) }
         ensures ready { OnOk result (CanTake self.new.player.sink (S.outside shelf.new)) }
-        ensures stopped { IfErr result (λ stop. (first : Beginning) (plan : Plan) (packets : List PacketData) → HasPlayed first plan packets false self.old (S.outside shelf.old)
-            → TakesSome (output_at plan.program plan.budget (Begun (items_in plan (packets ++ packet_of packet.entry ∷ []) false))) first stop (S.outside shelf.new)) }
+        ensures stopped { IfErr result (λ stop. (first : Beginning) (plan : Plan) (packets : List Captured) → HasPlayed first plan packets false self.old (S.outside shelf.old)
+            → TakesSome (output_at plan.program plan.budget (Begun (items_in plan (packets ++ captured link packet.entry ∷ []) false))) first stop (S.outside shelf.new)) }
         ensures input { OnOk result (SameInput (S.outside shelf.old) (S.outside shelf.new)) }
     {
         items_stay();
         lines_stay();
+        self.traffic.set_link(link);
         self.traffic.packet(packet)?;
         self.take_items(shelf)
     }
@@ -147,12 +145,12 @@ impl Replay {
     ) -> Result<Came, Stop>
         requires ready { CanTake self.old.player.sink (S.outside shelf.old) }
         requires under_way { IsUnderWay reader.old (S.outside shelf.old) }
-        ensures came { IfOk result (λ came. (first : Beginning) (plan : Plan) (whole : Option (List ℕ)) (header : HeaderData) (bytes : List ℕ)
-            → HasPlayed first plan [] false self.old (S.outside shelf.old) → IsReading whole header bytes [] reader.old (S.outside shelf.old)
-            → HasCome first plan whole header came self.new reader.new (S.outside shelf.new)) }
+        ensures came { IfOk result (λ came. (first : Beginning) (plan : Plan) (whole : Option (List ℕ)) (bytes : List ℕ)
+            → HasPlayed first plan [] false self.old (S.outside shelf.old) → IsReading whole bytes [] reader.old (S.outside shelf.old)
+            → HasCome first plan whole came self.new reader.new (S.outside shelf.new)) }
         ensures ready { OnOk result (CanTake self.new.player.sink (S.outside shelf.new)) }
-        ensures stopped { IfErr result (λ stop. (first : Beginning) (plan : Plan) (whole : Option (List ℕ)) (header : HeaderData) (bytes : List ℕ)
-            → HasPlayed first plan [] false self.old (S.outside shelf.old) → IsReading whole header bytes [] reader.old (S.outside shelf.old)
+        ensures stopped { IfErr result (λ stop. (first : Beginning) (plan : Plan) (whole : Option (List ℕ)) (bytes : List ℕ)
+            → HasPlayed first plan [] false self.old (S.outside shelf.old) → IsReading whole bytes [] reader.old (S.outside shelf.old)
             → StopsOver whole plan first stop (S.outside shelf.new)) }
     {
         items_stay();
@@ -161,7 +159,7 @@ impl Replay {
         'packets: while reader.fill(shelf)? {
             let packet = reader.packet();
             last = later(last, packet.moment);
-            let end = self.take_packet(shelf, packet)?;
+            let end = self.take_packet(shelf, packet, reader.link())?;
             if let ItemEnd::Flood { moment } = end {
                 return Ok(Came::Flooded(moment));
             }
@@ -173,10 +171,10 @@ impl Replay {
     /// Plays what the end of the capture brings, and ends the run at the last network time.
     fn finish<S: Shelf>(&mut self, shelf: &mut S, last: Moment) -> Result<Came, Stop>
         requires ready { CanTake self.old.player.sink (S.outside shelf.old) }
-        ensures over { IfOk result (λ came. (first : Beginning) (plan : Plan) (packets : List PacketData) → HasPlayed first plan packets false self.old (S.outside shelf.old)
+        ensures over { IfOk result (λ came. (first : Beginning) (plan : Plan) (packets : List Captured) → HasPlayed first plan packets false self.old (S.outside shelf.old)
             → IsOver first plan packets last came self.new (S.outside shelf.new)) }
         ensures ready { OnOk result (CanTake self.new.player.sink (S.outside shelf.new)) }
-        ensures stopped { IfErr result (λ stop. (first : Beginning) (plan : Plan) (packets : List PacketData) → HasPlayed first plan packets false self.old (S.outside shelf.old)
+        ensures stopped { IfErr result (λ stop. (first : Beginning) (plan : Plan) (packets : List Captured) → HasPlayed first plan packets false self.old (S.outside shelf.old)
             → TakesSome (output_of (told_by (world_in (run plan.program plan.budget (items_in plan packets true) last)))) first stop (S.outside shelf.new)) }
         ensures input { OnOk result (SameInput (S.outside shelf.old) (S.outside shelf.new)) }
     {
@@ -192,10 +190,10 @@ impl Replay {
     /// Ends the run at the last network time, where all items were played.
     fn end<S: Shelf>(&mut self, shelf: &mut S, last: Moment) -> Result<Came, Stop>
         requires ready { CanTake self.old.player.sink (S.outside shelf.old) }
-        ensures over { IfOk result (λ came. (first : Beginning) (plan : Plan) (packets : List PacketData) → HasPlayed first plan packets true self.old (S.outside shelf.old)
+        ensures over { IfOk result (λ came. (first : Beginning) (plan : Plan) (packets : List Captured) → HasPlayed first plan packets true self.old (S.outside shelf.old)
             → IsOver first plan packets last came self.new (S.outside shelf.new)) }
         ensures ready { OnOk result (CanTake self.new.player.sink (S.outside shelf.new)) }
-        ensures stopped { IfErr result (λ stop. (first : Beginning) (plan : Plan) (packets : List PacketData) → HasPlayed first plan packets true self.old (S.outside shelf.old)
+        ensures stopped { IfErr result (λ stop. (first : Beginning) (plan : Plan) (packets : List Captured) → HasPlayed first plan packets true self.old (S.outside shelf.old)
             → TakesSome (output_of (told_by (world_in (run plan.program plan.budget (items_in plan packets true) last)))) first stop (S.outside shelf.new)) }
         ensures input { OnOk result (SameInput (S.outside shelf.old) (S.outside shelf.new)) }
     {
@@ -209,12 +207,12 @@ impl Replay {
     fn run<S: Shelf>(&mut self, shelf: &mut S, reader: &mut CaptureReader) -> Result<Came, Stop>
         requires ready { CanTake self.old.player.sink (S.outside shelf.old) }
         requires under_way { IsUnderWay reader.old (S.outside shelf.old) }
-        ensures ran { IfOk result (λ came. (first : Beginning) (plan : Plan) (whole : Option (List ℕ)) (header : HeaderData) (bytes : List ℕ)
-            → Comes first plan [] [] false New self.old (S.outside shelf.old) → IsReading whole header bytes [] reader.old (S.outside shelf.old)
-            → HasRun first plan whole header came self.new reader.new (S.outside shelf.new)) }
+        ensures ran { IfOk result (λ came. (first : Beginning) (plan : Plan) (whole : Option (List ℕ)) (bytes : List ℕ)
+            → Comes first plan [] [] false New self.old (S.outside shelf.old) → IsReading whole bytes [] reader.old (S.outside shelf.old)
+            → HasRun first plan whole came self.new reader.new (S.outside shelf.new)) }
         ensures ready { OnOk result (CanTake self.new.player.sink (S.outside shelf.new)) }
-        ensures stopped { IfErr result (λ stop. (first : Beginning) (plan : Plan) (whole : Option (List ℕ)) (header : HeaderData) (bytes : List ℕ)
-            → Comes first plan [] [] false New self.old (S.outside shelf.old) → IsReading whole header bytes [] reader.old (S.outside shelf.old)
+        ensures stopped { IfErr result (λ stop. (first : Beginning) (plan : Plan) (whole : Option (List ℕ)) (bytes : List ℕ)
+            → Comes first plan [] [] false New self.old (S.outside shelf.old) → IsReading whole bytes [] reader.old (S.outside shelf.old)
             → StopsOver whole plan first stop (S.outside shelf.new)) }
     {
         items_stay();
@@ -229,11 +227,11 @@ impl Replay {
     fn play<S: Shelf>(&mut self, shelf: &mut S, reader: &mut CaptureReader) -> Result<Came, Stop>
         requires ready { CanTake self.old.player.sink (S.outside shelf.old) }
         requires under_way { IsUnderWay reader.old (S.outside shelf.old) }
-        ensures replays { IfOk result (λ came. (first : Beginning) (plan : Plan) (whole : Option (List ℕ)) (header : HeaderData) (bytes : List ℕ) → first.target ≡ Written
-            → Comes first plan [] [] false New self.old (S.outside shelf.old) → IsReading whole header bytes [] reader.old (S.outside shelf.old)
-            → Replays plan whole header first.outside came reader.new (S.outside shelf.new)) }
-        ensures stopped { IfErr result (λ stop. (first : Beginning) (plan : Plan) (whole : Option (List ℕ)) (header : HeaderData) (bytes : List ℕ) → first.target ≡ Written
-            → Comes first plan [] [] false New self.old (S.outside shelf.old) → IsReading whole header bytes [] reader.old (S.outside shelf.old)
+        ensures replays { IfOk result (λ came. (first : Beginning) (plan : Plan) (whole : Option (List ℕ)) (bytes : List ℕ) → first.target ≡ Written
+            → Comes first plan [] [] false New self.old (S.outside shelf.old) → IsReading whole bytes [] reader.old (S.outside shelf.old)
+            → Replays plan whole first.outside came reader.new (S.outside shelf.new)) }
+        ensures stopped { IfErr result (λ stop. (first : Beginning) (plan : Plan) (whole : Option (List ℕ)) (bytes : List ℕ) → first.target ≡ Written
+            → Comes first plan [] [] false New self.old (S.outside shelf.old) → IsReading whole bytes [] reader.old (S.outside shelf.old)
             → ReplaysPart whole plan first.outside stop (S.outside shelf.new)) }
     {
         let came = self.run(shelf, reader)?;
@@ -249,9 +247,9 @@ impl Replay {
     ) -> Result<(Came, RowCounts), Stop>
         requires ready { CanTake self.old.player.sink (S.outside shelf.old) }
         requires under_way { IsUnderWay reader.old (S.outside shelf.old) }
-        ensures { IfOk result (λ counted. (first : Beginning) (plan : Plan) (whole : Option (List ℕ)) (header : HeaderData) (bytes : List ℕ) → first.target ≡ Counted
-            → Comes first plan [] [] false New self.old (S.outside shelf.old) → IsReading whole header bytes [] reader.old (S.outside shelf.old)
-            → Counts plan whole header counted.0 counted.1 reader.new (S.outside shelf.new)) }
+        ensures { IfOk result (λ counted. (first : Beginning) (plan : Plan) (whole : Option (List ℕ)) (bytes : List ℕ) → first.target ≡ Counted
+            → Comes first plan [] [] false New self.old (S.outside shelf.old) → IsReading whole bytes [] reader.old (S.outside shelf.old)
+            → Counts plan whole counted.0 counted.1 reader.new (S.outside shelf.new)) }
     {
         let came = self.run(shelf, reader)?;
         Ok((came, self.player.sink.rows()))
@@ -265,12 +263,12 @@ impl Replay {
     ) -> Result<Came, Stop>
         requires ready { CanTake self.old.player.sink (S.outside shelf.old) }
         requires under_way { IsUnderWay reader.old (S.outside shelf.old) }
-        ensures ran { IfOk result (λ came. (first : Beginning) (plan : Plan) (whole : Option (List ℕ)) (header : HeaderData) (bytes : List ℕ)
-            → HasPlayed first plan [] false self.old (S.outside shelf.old) → IsReading whole header bytes [] reader.old (S.outside shelf.old)
-            → HasRun first plan whole header came self.new reader.new (S.outside shelf.new)) }
+        ensures ran { IfOk result (λ came. (first : Beginning) (plan : Plan) (whole : Option (List ℕ)) (bytes : List ℕ)
+            → HasPlayed first plan [] false self.old (S.outside shelf.old) → IsReading whole bytes [] reader.old (S.outside shelf.old)
+            → HasRun first plan whole came self.new reader.new (S.outside shelf.new)) }
         ensures ready { OnOk result (CanTake self.new.player.sink (S.outside shelf.new)) }
-        ensures stopped { IfErr result (λ stop. (first : Beginning) (plan : Plan) (whole : Option (List ℕ)) (header : HeaderData) (bytes : List ℕ)
-            → HasPlayed first plan [] false self.old (S.outside shelf.old) → IsReading whole header bytes [] reader.old (S.outside shelf.old)
+        ensures stopped { IfErr result (λ stop. (first : Beginning) (plan : Plan) (whole : Option (List ℕ)) (bytes : List ℕ)
+            → HasPlayed first plan [] false self.old (S.outside shelf.old) → IsReading whole bytes [] reader.old (S.outside shelf.old)
             → StopsOver whole plan first stop (S.outside shelf.new)) }
     {
         match self.take_packets(shelf, reader)? {
@@ -290,9 +288,9 @@ pub fn count_rows<S: Shelf>(
     reader: &mut CaptureReader,
 ) -> Result<(Came, RowCounts), Stop>
     requires under_way { IsUnderWay reader.old (S.outside shelf.old) }
-    ensures { IfOk result (λ counted. (program : Program) (whole : Option (List ℕ)) (header : HeaderData) (bytes : List ℕ) → lower.code_of code ≡ lowered program
-        → IsReading whole header bytes [] reader.old (S.outside shelf.old)
-        → Counts (record { options = options; link = header.link; program = program; budget = budget }) whole header counted.0 counted.1 reader.new (S.outside shelf.new)) }
+    ensures { IfOk result (λ counted. (program : Program) (whole : Option (List ℕ)) (bytes : List ℕ) → lower.code_of code ≡ lowered program
+        → IsReading whole bytes [] reader.old (S.outside shelf.old)
+        → Counts (record { options = options; program = program; budget = budget }) whole counted.0 counted.1 reader.new (S.outside shelf.new)) }
 {
     let sink = Sink::Counted(RowCounts::new());
     let mut replay = Replay::new(alloc, options, reader.link(), code, budget, sink)?;
@@ -309,12 +307,12 @@ pub fn replay_capture<S: Shelf>(
     reader: &mut CaptureReader,
 ) -> Result<Came, Stop>
     requires under_way { IsUnderWay reader.old (S.outside shelf.old) }
-    ensures replays { IfOk result (λ came. (program : Program) (whole : Option (List ℕ)) (header : HeaderData) (bytes : List ℕ) → lower.code_of code ≡ lowered program
-        → IsReading whole header bytes [] reader.old (S.outside shelf.old)
-        → Replays (record { options = options; link = header.link; program = program; budget = budget }) whole header (S.outside shelf.old) came reader.new (S.outside shelf.new)) }
-    ensures stopped { IfErr result (λ stop. (program : Program) (whole : Option (List ℕ)) (header : HeaderData) (bytes : List ℕ) → lower.code_of code ≡ lowered program
-        → IsReading whole header bytes [] reader.old (S.outside shelf.old)
-        → ReplaysPart whole (record { options = options; link = header.link; program = program; budget = budget }) (S.outside shelf.old) stop (S.outside shelf.new)) }
+    ensures replays { IfOk result (λ came. (program : Program) (whole : Option (List ℕ)) (bytes : List ℕ) → lower.code_of code ≡ lowered program
+        → IsReading whole bytes [] reader.old (S.outside shelf.old)
+        → Replays (record { options = options; program = program; budget = budget }) whole (S.outside shelf.old) came reader.new (S.outside shelf.new)) }
+    ensures stopped { IfErr result (λ stop. (program : Program) (whole : Option (List ℕ)) (bytes : List ℕ) → lower.code_of code ≡ lowered program
+        → IsReading whole bytes [] reader.old (S.outside shelf.old)
+        → ReplaysPart whole (record { options = options; program = program; budget = budget }) (S.outside shelf.old) stop (S.outside shelf.new)) }
 {
     let writer = Writer::new(alloc)?;
     let sink = Sink::Written(writer);

@@ -1,7 +1,7 @@
 ghost use Rattle.std.specs.Prelude.{◌≡◌, ◌<◌, ◌≤◌, [], ◌∷◌, length, IfOk, IfErr};
 ghost use Rattle.zk_typed.specs.Program.{Program};
 ghost use Rattle.zk_top.specs.Compiling.{Runs};
-ghost use Rattle.zk_io.specs.Opened.{opened, link_in};
+ghost use Rattle.zk_io.specs.Opened.{opened};
 ghost use Rattle.zk_top.specs.Outcome.{over_capture, run_behind, run_report, run_scripts};
 ghost use Rattle.zk_top.specs.Parts.{Fulfils, BreaksOff, IsOfCommand};
 
@@ -12,7 +12,7 @@ use std::alloc::Global;
 use zk_base::{Bytes, Ending, Sequence, Shelf, Word};
 use zk_command::Settings;
 use zk_io::{CHUNK, CaptureReader, end_of};
-use zk_load::{Found, Stop};
+use zk_outcome::{Found, Stop};
 use zk_traffic::Options;
 use zk_tree::Tree;
 
@@ -63,10 +63,10 @@ fn run_program<S: Shelf>(
     runnable: Runnable,
 ) -> Result<Ending, Stop>
     ensures done { IfOk result (λ ending. (program : Program) → Runs runnable program
-        → Fulfils (λ inputs. over_capture (run_report file.now settings program (link_in (inputs file.now))) (file.now ∷ []) (opened file.now (inputs file.now))) [] (S.outside shelf.old) ending (S.outside shelf.new)) }
+        → Fulfils (λ inputs. over_capture (run_report file.now settings program) (file.now ∷ []) (opened file.now (inputs file.now))) [] (S.outside shelf.old) ending (S.outside shelf.new)) }
     ensures command { IfOk result IsOfCommand }
     ensures stopped { IfErr result (λ stop. (program : Program) → Runs runnable program
-        → BreaksOff (λ inputs. over_capture (run_report file.now settings program (link_in (inputs file.now))) (file.now ∷ []) (opened file.now (inputs file.now))) (S.outside shelf.old) stop (S.outside shelf.new)) }
+        → BreaksOff (λ inputs. over_capture (run_report file.now settings program) (file.now ∷ []) (opened file.now (inputs file.now))) (S.outside shelf.old) stop (S.outside shelf.new)) }
 {
     let mut chunk = vec![in alloc; 0; CHUNK]?;
     run_through(alloc, shelf, &mut chunk, settings, file, runnable)
@@ -84,10 +84,10 @@ fn run_through<S: Shelf>(
     requires room { 0 < length chunk.old }
     requires small { length chunk.old ≤ CHUNK }
     ensures done { IfOk result (λ ending. (program : Program) → Runs runnable program
-        → Fulfils (λ inputs. over_capture (run_report file.now settings program (link_in (inputs file.now))) (file.now ∷ []) (opened file.now (inputs file.now))) [] (S.outside shelf.old) ending (S.outside shelf.new)) }
+        → Fulfils (λ inputs. over_capture (run_report file.now settings program) (file.now ∷ []) (opened file.now (inputs file.now))) [] (S.outside shelf.old) ending (S.outside shelf.new)) }
     ensures command { IfOk result IsOfCommand }
     ensures stopped { IfErr result (λ stop. (program : Program) → Runs runnable program
-        → BreaksOff (λ inputs. over_capture (run_report file.now settings program (link_in (inputs file.now))) (file.now ∷ []) (opened file.now (inputs file.now))) (S.outside shelf.old) stop (S.outside shelf.new)) }
+        → BreaksOff (λ inputs. over_capture (run_report file.now settings program) (file.now ∷ []) (opened file.now (inputs file.now))) (S.outside shelf.old) stop (S.outside shelf.new)) }
 {
     let mut reader = match CaptureReader::open(alloc, shelf, chunk, file)? {
         Found::Accepted(reader) => reader,

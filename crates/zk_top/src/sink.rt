@@ -9,7 +9,7 @@ ghost use Rattle.zk_logs.specs.Logs.{log_files};
 use crate::summary::RowCounts;
 use crate::writer::Writer;
 use zk_base::{Mem, Moment, Shelf};
-use zk_load::Stop;
+use zk_outcome::Stop;
 use zk_value::Out;
 
 /// Where the lines and rows of a run go.

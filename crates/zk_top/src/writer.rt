@@ -9,7 +9,7 @@ ghost use Rattle.zk_top.specs.Writing.{stopped_by};
 use std::alloc::Global;
 use zk_base::{Mem, Moment, Shelf};
 use zk_io::{PIECE, push_line, say};
-use zk_load::Stop;
+use zk_outcome::Stop;
 use zk_logs::{LogFault, LogFiles, what_is_written_stays};
 use zk_value::Out;
 

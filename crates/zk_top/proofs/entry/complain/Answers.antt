@@ -2,8 +2,8 @@ use Rattle.std.proofs.Common.{[], ◌≡◌, List, ℕ, OnOk, IfErr, ◌∙◌, 
 use Rattle.std.proofs.lemmas.Result.{err_from_is_err_and}
 use Rattle.zk_base.specs.Shelf.{Puts, after_complaint}
 use Rattle.zk_command.specs.Complaint.{complaint_of}
-use Rattle.zk_load.specs.Parts.{DoesAll, DoesPart}
-use Rattle.zk_load.proofs.Doing.{complained_all, complained_stopped, out_of_memory}
+use Rattle.zk_outcome.specs.Parts.{DoesAll, DoesPart}
+use Rattle.zk_outcome.proofs.Doing.{complained_all, complained_stopped, out_of_memory}
 use Rattle.zk_top.proofs.entry.complain.Goals as goal
 
 pub returns-in_err-complaint-clause-stopped : goal.returns-in_err-complaint-clause-stopped

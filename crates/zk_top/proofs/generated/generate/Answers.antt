@@ -1,8 +1,8 @@
 use Rattle.std.proofs.Common.{[], refl, subst}
 use Rattle.std.proofs.lemmas.Result.{err_from_is_err_and}
-use Rattle.zk_load.specs.declared.stop.Stop.TheVariants.{NoMemory}
-use Rattle.zk_load.specs.Parts.{DoesAll, DoesPart}
-use Rattle.zk_load.proofs.Doing.{out_of_memory}
+use Rattle.zk_outcome.specs.declared.stop.Stop.TheVariants.{NoMemory}
+use Rattle.zk_outcome.specs.Parts.{DoesAll, DoesPart}
+use Rattle.zk_outcome.proofs.Doing.{out_of_memory}
 use Rattle.zk_top.specs.Outcome.{generating}
 use Rattle.zk_top.proofs.OverGenerated.{broken_summary, command_of_generated, generated_part, generated_said}
 use Rattle.zk_top.proofs.generated.generate.Goals as goal

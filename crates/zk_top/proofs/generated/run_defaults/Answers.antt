@@ -1,6 +1,6 @@
 use Rattle.std.proofs.Common.{subst}
 use Rattle.std.proofs.lemmas.Result.{IfOk-weaker}
-use Rattle.zk_load.specs.declared.found.Found.TheVariants.{Accepted}
+use Rattle.zk_outcome.specs.declared.found.Found.TheVariants.{Accepted}
 use Rattle.zk_top.specs.Compiling.{IsCodeOf, program_by}
 use Rattle.zk_top.specs.Generated.{IsOf}
 use Rattle.zk_top.specs.Outcome.{generated, summing_up}

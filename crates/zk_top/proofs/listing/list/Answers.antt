@@ -1,14 +1,13 @@
 use Rattle.std.proofs.Common.{[], ◌∷◌, refl}
 use Rattle.std.proofs.lemmas.Result.{err_from_is_err_and}
-use Rattle.zk_io.specs.Opened.{link_in}
 use Rattle.zk_top.specs.Outcome.{list_report}
-use Rattle.zk_load.proofs.Doing.{out_of_memory}
+use Rattle.zk_outcome.proofs.Doing.{out_of_memory}
 use Rattle.zk_top.proofs.OverCapture.{broken_before}
-use Rattle.zk_load.specs.declared.stop.Stop.TheVariants.{NoMemory}
+use Rattle.zk_outcome.specs.declared.stop.Stop.TheVariants.{NoMemory}
 use Rattle.zk_top.proofs.listing.list.Goals as goal
 
 pub returns-in_err-chunk-clause-stopped : goal.returns-in_err-chunk-clause-stopped
 returns-in_err-chunk-clause-stopped g c =
     let old = g.S.Shelf.outside c.args.shelf.now in
     let p = err_from_is_err_and c.from_residual.result c.from_residual.ensures.1 in
-    rw (p.1, p.2) (broken_before (λ input. list_report c.args.file.now (link_in input)) c.args.file.now old NoMemory old (out_of_memory (c.args.file.now ∷ []) [] [] old old refl))
+    rw (p.1, p.2) (broken_before (list_report c.args.file.now) c.args.file.now old NoMemory old (out_of_memory (c.args.file.now ∷ []) [] [] old old refl))

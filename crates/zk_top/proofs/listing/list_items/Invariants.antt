@@ -1,6 +1,5 @@
 use Rattle.std.proofs.Common.{◌-◌, ◌^◌, ℕ, List, [], Option}
-use Rattle.zk_pcap.specs.declared.headers.Header.{Header}
-use Rattle.zk_pcap.specs.declared.records.Packet.{Packet}
+use Rattle.zk_base.specs.Captured.{Captured}
 use Rattle.zk_top.specs.Listing.{HasListedAll}
 use Rattle.zk_io.specs.Reading.{IsReading, IsUnderWay, next_place}
 use Rattle.zk_top.proofs.listing.list_items.Given as goal
@@ -9,9 +8,9 @@ use Rattle.zk_top.proofs.listing.list_items.Given as goal
 abbrev pub invariant-packets : goal.invariant-packets
 invariant-packets g l = record {
   under_way : IsUnderWay l.reader (g.S.Shelf.outside l.shelf);
-  goes_on : (whole : Option (List ℕ)) (header : Header) (bytes : List ℕ) → IsReading whole header bytes [] l.initial.reader (g.S.Shelf.outside l.initial.shelf)
-      → (longer : List ℕ) × (packets : List Packet) × IsReading whole header longer packets l.reader (g.S.Shelf.outside l.shelf)
-      × HasListedAll (g.S.Shelf.outside l.initial.shelf) header.link packets l.listing (g.S.Shelf.outside l.shelf);
+  goes_on : (whole : Option (List ℕ)) (bytes : List ℕ) → IsReading whole bytes [] l.initial.reader (g.S.Shelf.outside l.initial.shelf)
+      → (longer : List ℕ) × (packets : List Captured) × IsReading whole longer packets l.reader (g.S.Shelf.outside l.shelf)
+      × HasListedAll (g.S.Shelf.outside l.initial.shelf) packets l.listing (g.S.Shelf.outside l.shelf);
 }
 
 -- the bytes that count and aren't passed become fewer

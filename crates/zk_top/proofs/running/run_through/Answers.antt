@@ -1,9 +1,8 @@
 use Rattle.std.proofs.Common.{refl, sym, ap, subst, ◌∙◌}
 use Rattle.std.proofs.lemmas.Result.{err_from_is_err_and}
 use Rattle.zk_base.specs.Shelf.{lies_under}
-use Rattle.zk_load.specs.declared.stop.Stop.TheVariants.{NoMemory}
-use Rattle.zk_pcap.specs.NetworkTime.{now as network_time}
-use Rattle.zk_io.specs.Opened.{link_in}
+use Rattle.zk_outcome.specs.declared.stop.Stop.TheVariants.{NoMemory}
+use Rattle.zk_base.specs.NetworkTime.{now as network_time}
 use Rattle.zk_top.specs.Outcome.{run_report}
 use Rattle.zk_io.specs.Reading.{FindsCapture, OpensCapture}
 use Rattle.zk_top.specs.Replay.{IsRead, came_of, files_of, output_over}
@@ -17,7 +16,7 @@ pub returns-in_err-reader-clause-stopped : goal.returns-in_err-reader-clause-sto
 returns-in_err-reader-clause-stopped g c =
     let file = c.args.file.now in
     let p = err_from_is_err_and c.from_residual.result c.from_residual.ensures.1 in
-    rw (p.1, p.2) (λ program runs. broken_before (λ input. run_report file c.args.settings program (link_in input)) file (g.S.Shelf.outside c.args.shelf.now) c.in_err-reader.field-0.0 (g.S.Shelf.outside c.open.new.shelf)
+    rw (p.1, p.2) (λ program runs. broken_before (run_report file c.args.settings program) file (g.S.Shelf.outside c.args.shelf.now) c.in_err-reader.field-0.0 (g.S.Shelf.outside c.open.new.shelf)
     c.in_err-reader.ensures.stopped)
 
 pub returns-in-Refused-clause-done : goal.returns-in-Refused-clause-done
@@ -25,7 +24,7 @@ returns-in-Refused-clause-done g c = λ program runs.
     let old = g.S.Shelf.outside c.args.shelf.now in
     let new = g.S.Shelf.outside c.open.new.shelf in
     let file = c.args.file.now in
-    fulfilled_refused (λ input. run_report file c.args.settings program (link_in input)) file old c.in-Refused.ending new (subst (λ found. FindsCapture file old found new) c.in-Refused.is c.in_ok-reader.ensures.found)
+    fulfilled_refused (run_report file c.args.settings program) file old c.in-Refused.ending new (subst (λ found. FindsCapture file old found new) c.in-Refused.is c.in_ok-reader.ensures.found)
 
 pub returns-in-Refused-clause-command : goal.returns-in-Refused-clause-command
 returns-in-Refused-clause-command g c =
@@ -47,11 +46,11 @@ returns-in_err-replay_capture-clause-stopped g c =
     let exit = c.from_residual-in_err-replay_capture in
     let p = err_from_is_err_and exit.result exit.ensures.1 in
     rw (p.1, p.2) (λ program runs.
-    let plan = plan_of settings program opens.header.link runnable.packets in
-    let part = c.in_err-replay_capture.ensures.stopped program (lies_under old.inputs file) opens.header opens.bytes runs.code opens.reading in
-    broken_within (λ input. run_report file settings program (link_in input)) file (record { packets = part.packets; ending = part.ending }) (output_over plan part.packets).text (files_of plan part.packets) old mid
+    let plan = plan_of settings program runnable.packets in
+    let part = c.in_err-replay_capture.ensures.stopped program (lies_under old.inputs file) opens.bytes runs.code opens.reading in
+    broken_within (run_report file settings program) file (record { records = part.records; ending = part.ending }) (output_over plan part.records).text (files_of plan part.records) old mid
     c.in_err-replay_capture.field-0.0 new
-    (capture_found file old reader mid part.packets part.ending opens part.all) (replayed_report file settings program runnable old reader mid part.packets part.ending runs opens) part.there)
+    (capture_found file old reader mid part.records part.ending opens part.all) (replayed_report file settings program runnable old reader mid part.records part.ending runs opens) part.there)
 
 pub returns-in_err-end_of-in-Through-clause-stopped : goal.returns-in_err-end_of-in-Through-clause-stopped
 returns-in_err-end_of-in-Through-clause-stopped g c =
@@ -67,11 +66,11 @@ returns-in_err-end_of-in-Through-clause-stopped g c =
     let exit = c.from_residual-in_err-end_of-in-Through in
     let p = err_from_is_err_and exit.result exit.ensures.1 in
     rw (p.1, p.2) (λ program runs.
-    let plan = plan_of settings program opens.header.link runnable.packets in
-    let all = c.in_ok-replay_capture.ensures.replays program whole opens.header opens.bytes runs.code opens.reading in
-    broken_within (λ input. run_report file settings program (link_in input)) file (record { packets = all.packets; ending = all.ending }) (output_over plan all.packets).text (files_of plan all.packets) old mid NoMemory new
-    (capture_found file old reader mid all.packets all.ending opens all.all) (replayed_report file settings program runnable old reader mid all.packets all.ending runs opens)
-    (memory_behind_all (output_over plan all.packets).text (files_of plan all.packets) mid new all.gives))
+    let plan = plan_of settings program runnable.packets in
+    let all = c.in_ok-replay_capture.ensures.replays program whole opens.bytes runs.code opens.reading in
+    broken_within (run_report file settings program) file (record { records = all.records; ending = all.ending }) (output_over plan all.records).text (files_of plan all.records) old mid NoMemory new
+    (capture_found file old reader mid all.records all.ending opens all.all) (replayed_report file settings program runnable old reader mid all.records all.ending runs opens)
+    (memory_behind_all (output_over plan all.records).text (files_of plan all.records) mid new all.gives))
 
 pub returns-in-Through-clause-done : goal.returns-in-Through-clause-done
 returns-in-Through-clause-done g c program runs =
@@ -84,19 +83,19 @@ returns-in-Through-clause-done g c program runs =
     let reader = c.in-Accepted.reader in
     let opens : OpensCapture file old reader mid = subst (λ found. FindsCapture file old found mid) c.in-Accepted.is c.in_ok-reader.ensures.found in
     let whole = lies_under old.inputs file in
-    let plan = plan_of settings program opens.header.link runnable.packets in
-    let all = c.in_ok-replay_capture.ensures.replays program whole opens.header opens.bytes runs.code opens.reading in
-    let (bytes, reading, through) = subst (λ came. IsRead came whole opens.header all.packets c.replay_capture.new.reader new) c.in-Through.is all.read in
-    let capture = c.ending.ensures whole opens.header bytes all.packets new reading through in
+    let plan = plan_of settings program runnable.packets in
+    let all = c.in_ok-replay_capture.ensures.replays program whole opens.bytes runs.code opens.reading in
+    let (bytes, reading, through) = subst (λ came. IsRead came whole all.records c.replay_capture.new.reader new) c.in-Through.is all.read in
+    let capture = c.ending.ensures whole bytes all.records new reading through in
     let ends = capture_ends file c.in_ok-end_of-in-Through.field-0 c.ending.result c.in_ok-end_of-in-Through.ensures in
-    fulfilled (λ input. run_report file settings program (link_in input)) file (record { packets = all.packets; ending = c.ending.result }) (output_over plan all.packets).text (files_of plan all.packets) old mid
+    fulfilled (run_report file settings program) file (record { records = all.records; ending = c.ending.result }) (output_over plan all.records).text (files_of plan all.records) old mid
     c.in_ok-end_of-in-Through.field-0 new
-    (capture_found file old reader mid all.packets c.ending.result opens capture) ends
+    (capture_found file old reader mid all.records c.ending.result opens capture) ends
     (λ inputs told. (
-      replayed_report file settings program runnable old reader mid all.packets c.ending.result runs opens inputs told,
+      replayed_report file settings program runnable old reader mid all.records c.ending.result runs opens inputs told,
       c.in_ok-end_of-in-Through.ensures
-          ∙ sym (ends_through file c.ending.result (network_time all.packets) _ _
-          (sym c.in-Through.is ∙ all.ends ∙ ap (came_of (network_time all.packets)) (replayed_progress file settings program runnable old reader mid all.packets runs opens inputs told))),
+          ∙ sym (ends_through file c.ending.result (network_time all.records) _ _
+          (sym c.in-Through.is ∙ all.ends ∙ ap (came_of (network_time all.records)) (replayed_progress file settings program runnable old reader mid all.records runs opens inputs told))),
     )) all.gives
 
 pub returns-clause-done : goal.returns-clause-done
@@ -110,12 +109,12 @@ returns-clause-done g c program runs =
     let reader = c.in-Accepted.reader in
     let opens : OpensCapture file old reader mid = subst (λ found. FindsCapture file old found mid) c.in-Accepted.is c.in_ok-reader.ensures.found in
     let whole = lies_under old.inputs file in
-    let plan = plan_of settings program opens.header.link runnable.packets in
-    let all = c.in_ok-replay_capture.ensures.replays program whole opens.header opens.bytes runs.code opens.reading in
-    fulfilled (λ input. run_report file settings program (link_in input)) file (record { packets = all.packets; ending = all.ending }) (output_over plan all.packets).text (files_of plan all.packets) old mid _ new
-    (capture_found file old reader mid all.packets all.ending opens all.all) (flood_ends c.in-Flooded.moment)
+    let plan = plan_of settings program runnable.packets in
+    let all = c.in_ok-replay_capture.ensures.replays program whole opens.bytes runs.code opens.reading in
+    fulfilled (run_report file settings program) file (record { records = all.records; ending = all.ending }) (output_over plan all.records).text (files_of plan all.records) old mid _ new
+    (capture_found file old reader mid all.records all.ending opens all.all) (flood_ends c.in-Flooded.moment)
     (λ inputs told. (
-      replayed_report file settings program runnable old reader mid all.packets all.ending runs opens inputs told,
-      sym (ends_flooded file all.ending (network_time all.packets) c.in-Flooded.moment _
-          (sym c.in-Flooded.is ∙ all.ends ∙ ap (came_of (network_time all.packets)) (replayed_progress file settings program runnable old reader mid all.packets runs opens inputs told))),
+      replayed_report file settings program runnable old reader mid all.records all.ending runs opens inputs told,
+      sym (ends_flooded file all.ending (network_time all.records) c.in-Flooded.moment _
+          (sym c.in-Flooded.is ∙ all.ends ∙ ap (came_of (network_time all.records)) (replayed_progress file settings program runnable old reader mid all.records runs opens inputs told))),
     )) all.gives

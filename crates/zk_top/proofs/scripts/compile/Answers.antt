@@ -1,7 +1,7 @@
 use Rattle.zk_typed.specs.Errors.{errors}
 use Rattle.zk_typed.specs.View.{program_of}
 use Rattle.zk_scope.specs.Lent.{files_of}
-use Rattle.zk_load.specs.declared.found.Found.TheVariants.{Accepted, Refused}
+use Rattle.zk_outcome.specs.declared.found.Found.TheVariants.{Accepted, Refused}
 use Rattle.zk_top.proofs.CompileLaws.{code_accepted, code_of_judged}
 use Rattle.zk_top.proofs.scripts.compile.Goals as goal
 

@@ -1,6 +1,6 @@
 use Rattle.std.proofs.Common.{sym, subst, ◌∙◌}
 use Rattle.std.proofs.lemmas.Result.{IfOk-weaker}
-use Rattle.zk_load.specs.declared.found.Found.TheVariants.{Refused}
+use Rattle.zk_outcome.specs.declared.found.Found.TheVariants.{Refused}
 use Rattle.zk_top.specs.Compiling.{IsCodeOf}
 use Rattle.zk_top.specs.Script.{judged}
 use Rattle.zk_top.proofs.CompileLaws.{refused_as}

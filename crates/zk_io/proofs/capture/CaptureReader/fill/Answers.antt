@@ -8,7 +8,7 @@ use Rattle.zk_pcap.specs.Capture.{end_from}
 use Rattle.zk_pcap.specs.Standing.{StandsFor, IsNext, first_record, is_packet}
 use Rattle.zk_base.specs.Captured.{Captured}
 use Rattle.zk_base.specs.Shelf.{Outside}
-use Rattle.zk_load.proofs.Doing.{does_both_all, does_both_part}
+use Rattle.zk_outcome.proofs.Doing.{does_both_all, does_both_part}
 use Rattle.zk_io.specs.declared.capture.CaptureReader.{CaptureReader}
 use Rattle.zk_io.specs.Reading.{IsReading, MeetsTooLong, has_next}
 use Rattle.zk_io.proofs.CaptureReading.{through_ended, through_too_long, too_long_is}

@@ -15,9 +15,9 @@ returns-in_err-make_room-clause-stopped g c =
     let new = g.S.Shelf.outside c.make_room.new.shelf in
     let stop = c.in_err-make_room.field-0.0 in
     let p = err_from_is_err_and c.from_residual.result c.from_residual.ensures.1 in
-    rw (p.1, p.2) (λ first link packets given ended listed.
-    let (more, far) = c.items.invariant.listed first link packets given ended listed in
-    let all = items_of list_options link packets ended in
+    rw (p.1, p.2) (λ first packets given ended listed.
+    let (more, far) = c.items.invariant.listed first packets given ended listed in
+    let all = items_of list_options packets ended in
     said_part_of first (lines_of more) c.items.self.piece.items (lines_of all) old stop new far.says (lines_prefix more all far.begins) c.in_err-make_room.ensures.stopped)
 
 pub returns-in_err-push_item_line-clause-stopped : goal.returns-in_err-push_item_line-clause-stopped
@@ -27,9 +27,9 @@ returns-in_err-push_item_line-clause-stopped g c =
     let rest = c.make_room.new.piece.items in
     let exit = c.from_residual-in_err-push_item_line in
     let p = err_from_is_err_and exit.result exit.ensures.1 in
-    rw (p.1, p.2) (λ first link packets given ended listed.
-    let (more, far) = c.items.invariant.listed first link packets given ended listed in
-    let all = items_of list_options link packets ended in
+    rw (p.1, p.2) (λ first packets given ended listed.
+    let (more, far) = c.items.invariant.listed first packets given ended listed in
+    let all = items_of list_options packets ended in
     memory_after first (lines_of more) rest (lines_of all) new
     (said_over first (lines_of more) c.items.self.piece.items old new rest far.says c.in_ok-make_room.ensures.said) (lines_prefix more all far.begins))
 
@@ -41,14 +41,15 @@ items-preserved g c =
     let item = c.in-Some.item in
     let longer = c.push_item_line.new.out.items in
     record {
-      listed = λ first link packets given ended listed.
-          let (more, far) = c.items.invariant.listed first link packets given ended listed in
-          let all = items_of list_options link packets ended in
+      listed = λ first packets given ended listed.
+          let (more, far) = c.items.invariant.listed first packets given ended listed in
+          let all = items_of list_options packets ended in
           let handed = said_over first (lines_of more) c.items.self.piece.items old new rest far.says c.in_ok-make_room.ensures.said in (
             more ++ item ∷ [],
             record {
-              stands = c.in-Some.ensures.given list_options link packets more ended far.stands;
-              begins = prefix_next more all item far.begins (c.in-Some.ensures.item list_options link packets more ended far.stands);
+              link = far.link;
+              stands = c.in-Some.ensures.given _ far.stands;
+              begins = prefix_next more all item far.begins (c.in-Some.ensures.item _ far.stands);
               says = subst (λ lines. HasSaid first lines longer new) (sym (next_line more item))
                   (said_more first (lines_of more) rest (line_of item) longer new handed c.in_ok-push_item_line.ensures.ok);
             },
@@ -57,10 +58,10 @@ items-preserved g c =
     }
 
 pub returns-clause-listed : goal.returns-clause-listed
-returns-clause-listed g c first link packets given ended listed =
+returns-clause-listed g c first packets given ended listed =
     let now = g.S.Shelf.outside c.items.shelf in
-    let (more, far) = c.items.invariant.listed first link packets given ended listed in
-    let (all, stands) = c.in_default.ensures.none list_options link packets more ended far.stands in
-    let here : HasListed first link packets more ended (record { traffic = c.next.new.self; piece = c.items.self.piece }) now =
-    record { stands = stands; begins = far.begins; says = far.says } in
-    subst (λ items. HasListed first link packets items ended (record { traffic = c.next.new.self; piece = c.items.self.piece }) now) all here
+    let (more, far) = c.items.invariant.listed first packets given ended listed in
+    let (all, stands) = c.in_default.ensures.none _ far.stands in
+    let here : HasListed first packets more ended (record { traffic = c.next.new.self; piece = c.items.self.piece }) now =
+    record { link = far.link; stands = stands; begins = far.begins; says = far.says } in
+    subst (λ items. HasListed first packets items ended (record { traffic = c.next.new.self; piece = c.items.self.piece }) now) all here

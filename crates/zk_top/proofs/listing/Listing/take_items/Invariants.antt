@@ -1,6 +1,6 @@
 use Rattle.std.proofs.Common.{ℕ, Bool, List}
 use Rattle.zk_base.specs.Shelf.{Outside}
-use Rattle.zk_pcap.specs.declared.records.Packet.{Packet}
+use Rattle.zk_base.specs.Captured.{Captured}
 use Rattle.zk_top.specs.Listing.{HasListed}
 use Rattle.zk_io.specs.Reading.{SameInput}
 use Rattle.zk_traffic.specs.declared.item.Item.{Item}
@@ -10,8 +10,8 @@ use Rattle.zk_top.proofs.listing.Listing.take_items.Given as goal
 -- the items so far are listed
 abbrev pub invariant-items : goal.invariant-items
 invariant-items g l = record {
-  listed : (first : Outside) (link : ℕ) (packets : List Packet) (given : List Item) (ended : Bool) → HasListed first link packets given ended l.initial.self (g.S.Shelf.outside l.initial.shelf)
-      → (more : List Item) × HasListed first link packets more ended l.self (g.S.Shelf.outside l.shelf);
+  listed : (first : Outside) (packets : List Captured) (given : List Item) (ended : Bool) → HasListed first packets given ended l.initial.self (g.S.Shelf.outside l.initial.shelf)
+      → (more : List Item) × HasListed first packets more ended l.self (g.S.Shelf.outside l.shelf);
   input : SameInput (g.S.Shelf.outside l.initial.shelf) (g.S.Shelf.outside l.shelf);
 }
 

@@ -2,7 +2,7 @@ use Rattle.std.proofs.Common.{[], ◌++◌, subst, append-nil}
 use Rattle.std.proofs.lemmas.Result.{err_from_is_err_and}
 use Rattle.zk_events.specs.Run.{Begun, Ended, progress_at}
 use Rattle.zk_typed.specs.Running.{world_in}
-use Rattle.zk_load.specs.declared.stop.Stop.TheVariants.{NoMemory}
+use Rattle.zk_outcome.specs.declared.stop.Stop.TheVariants.{NoMemory}
 use Rattle.zk_top.specs.Replay.{output_at}
 use Rattle.zk_top.specs.Sink.{TakesSome}
 use Rattle.zk_top.proofs.Playing.{stays_begins, memory_in_play}

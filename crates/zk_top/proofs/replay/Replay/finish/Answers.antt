@@ -1,11 +1,11 @@
-use Rattle.std.proofs.Common.{true, false, subst}
+use Rattle.std.proofs.Common.{true, false, refl, subst}
 use Rattle.std.proofs.lemmas.Result.{err_from_is_err_and, IfOk-weaker, IfErr-weaker}
 use Rattle.zk_events.specs.Run.{Begun, Ended}
 use Rattle.zk_top.specs.Replay.{After, items_in, output_at}
 use Rattle.zk_top.proofs.ItemLemmas.{items_end}
 use Rattle.zk_top.proofs.Taking.{taken_without_memory}
 use Rattle.zk_top.proofs.Replaying.{comes_given, given_to_end, part_to_end, flood_over}
-use Rattle.zk_load.proofs.Doing.{prefix_all}
+use Rattle.zk_outcome.proofs.Doing.{prefix_all}
 use Rattle.zk_top.proofs.replay.Replay.finish.Goals as goal
 
 pub returns-in_err-end-clause-stopped : goal.returns-in_err-end-clause-stopped
@@ -17,7 +17,7 @@ returns-in_err-end-clause-stopped g c =
     let all = items_in plan packets true in
     taken_without_memory first (output_at plan.program plan.budget (Begun given)) (output_at plan.program plan.budget (Ended all c.args.last)) c.args.self.now.player.sink old
     (comes_given first plan packets given false c.args.self.now old played)
-    (given_to_end c.lines_stay.ensures.end plan.program plan.budget given all c.args.last (items_end c.items_stay.ensures plan.options plan.link packets)))
+    (given_to_end c.lines_stay.ensures.end plan.program plan.budget given all c.args.last (items_end c.items_stay.ensures plan.options packets)))
 
 pub returns-in_err-take_items-clause-stopped : goal.returns-in_err-take_items-clause-stopped
 returns-in_err-take_items-clause-stopped g c =
@@ -29,8 +29,9 @@ returns-in_err-take_items-clause-stopped g c =
     let all = items_in plan packets true in
     part_to_end c.lines_stay.ensures.end plan.program plan.budget all all c.args.last first c.in_err-take_items.field-0.0 new (prefix_all all)
     (c.in_err-take_items.ensures.stopped first plan packets given true (record {
-      traffic = c.in_ok-end.ensures.ended plan.options plan.link packets given played.traffic;
-      begins = items_end c.items_stay.ensures plan.options plan.link packets;
+      link = played.link;
+      traffic = c.in_ok-end.ensures.ended _ played.traffic refl;
+      begins = items_end c.items_stay.ensures plan.options packets;
       plays = played.plays;
     })))
 
@@ -41,8 +42,9 @@ returns-in-Done-clause-over g c =
     let given = items_in plan packets false in
     over first plan packets (subst (λ end. After first plan packets true end c.take_items.new.self mid) c.in-Done.is
     (c.in_ok-take_items.ensures.after first plan packets given true (record {
-      traffic = c.in_ok-end.ensures.ended plan.options plan.link packets given played.traffic;
-      begins = items_end c.items_stay.ensures plan.options plan.link packets;
+      link = played.link;
+      traffic = c.in_ok-end.ensures.ended _ played.traffic refl;
+      begins = items_end c.items_stay.ensures plan.options packets;
       plays = played.plays;
     })))) c.end-in-Done.ensures.over
 
@@ -53,8 +55,9 @@ returns-in-Done-clause-stopped g c =
     let given = items_in plan packets false in
     stopped first plan packets (subst (λ end. After first plan packets true end c.take_items.new.self mid) c.in-Done.is
     (c.in_ok-take_items.ensures.after first plan packets given true (record {
-      traffic = c.in_ok-end.ensures.ended plan.options plan.link packets given played.traffic;
-      begins = items_end c.items_stay.ensures plan.options plan.link packets;
+      link = played.link;
+      traffic = c.in_ok-end.ensures.ended _ played.traffic refl;
+      begins = items_end c.items_stay.ensures plan.options packets;
       plays = played.plays;
     })))) c.end-in-Done.ensures.stopped
 
@@ -65,7 +68,8 @@ returns-in-Flood-clause-over g c first plan packets played =
     flood_over first plan packets c.in-Flood.moment c.args.last c.take_items.new.self new
     (subst (λ end. After first plan packets true end c.take_items.new.self new) c.in-Flood.is
     (c.in_ok-take_items.ensures.after first plan packets given true (record {
-      traffic = c.in_ok-end.ensures.ended plan.options plan.link packets given played.traffic;
-      begins = items_end c.items_stay.ensures plan.options plan.link packets;
+      link = played.link;
+      traffic = c.in_ok-end.ensures.ended _ played.traffic refl;
+      begins = items_end c.items_stay.ensures plan.options packets;
       plays = played.plays;
     })))

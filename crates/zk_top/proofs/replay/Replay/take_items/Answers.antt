@@ -17,7 +17,7 @@ returns-in_err-end-clause-stopped g c =
     let (more, far) = c.items.invariant.comes first plan packets given ended comes in
     let all = items_in plan packets ended in
     part_further c.lines_stay.ensures.items plan.program plan.budget (more ++ item ∷ []) all first c.in_err-end.field-0.0 new
-    (prefix_next more all item far.begins (c.in-Some.ensures.item plan.options plan.link packets more ended far.traffic))
+    (prefix_next more all item far.begins (c.in-Some.ensures.item _ far.traffic))
     (c.in_err-end.ensures.stopped first plan.program plan.budget more far.plays))
 
 pub returns-in-Flood-clause-after : goal.returns-in-Flood-clause-after
@@ -30,7 +30,7 @@ returns-in-Flood-clause-after g c first plan packets given ended comes =
     let flooded : HasFlooded first plan packets ended c.in-Flood.moment (record { traffic = c.next.new.self; player = c.take_item.new.self }) new =
     record {
       given = more ++ item ∷ [];
-      begins = prefix_next more all item far.begins (c.in-Some.ensures.item plan.options plan.link packets more ended far.traffic);
+      begins = prefix_next more all item far.begins (c.in-Some.ensures.item _ far.traffic);
       floods = sym c.in-Flood.is ∙ c.in_ok-end.ensures.end first plan.program plan.budget more far.plays;
       gives = plays_given first plan.program plan.budget stage c.take_item.new.self new (c.in_ok-end.ensures.plays first plan.program plan.budget more far.plays);
     } in
@@ -45,8 +45,9 @@ items-preserved g c =
           let all = items_in plan packets ended in (
             more ++ item ∷ [],
             record {
-              traffic = c.in-Some.ensures.given plan.options plan.link packets more ended far.traffic;
-              begins = prefix_next more all item far.begins (c.in-Some.ensures.item plan.options plan.link packets more ended far.traffic);
+              link = far.link;
+              traffic = c.in-Some.ensures.given _ far.traffic;
+              begins = prefix_next more all item far.begins (c.in-Some.ensures.item _ far.traffic);
               plays = c.in_ok-end.ensures.plays first plan.program plan.budget more far.plays;
             },
           );
@@ -58,7 +59,7 @@ pub returns-clause-after : goal.returns-clause-after
 returns-clause-after g c first plan packets given ended comes =
     let now = g.S.Shelf.outside c.items.shelf in
     let (more, far) = c.items.invariant.comes first plan packets given ended comes in
-    let (all, stands) = c.in_default.ensures.none plan.options plan.link packets more ended far.traffic in
+    let (all, stands) = c.in_default.ensures.none _ far.traffic in
     let after : Replay = record { traffic = c.next.new.self; player = c.items.self.player } in
-    let here : Comes first plan packets more ended (Begun more) after now = record { traffic = stands; begins = far.begins; plays = far.plays } in
+    let here : Comes first plan packets more ended (Begun more) after now = record { link = far.link; traffic = stands; begins = far.begins; plays = far.plays } in
     subst (λ items. Comes first plan packets items ended (Begun items) after now) all here

@@ -2,7 +2,7 @@ use Rattle.std.proofs.Common.{sym, subst, [], OnOk, IfErr}
 use Rattle.std.proofs.lemmas.Result.{err_from_is_err_and}
 use Rattle.zk_base.specs.Shelf.{Outside}
 use Rattle.zk_logs.specs.Logs.{log_files}
-use Rattle.zk_load.specs.Parts.{DoesAll, DoesPart}
+use Rattle.zk_outcome.specs.Parts.{DoesAll, DoesPart}
 use Rattle.zk_top.specs.Logged.{dated}
 use Rattle.zk_top.specs.Writing.{Output, HasGiven, GivesAll, GivesPart}
 use Rattle.zk_top.proofs.Giving.{close_all, close_some, end_stopped}

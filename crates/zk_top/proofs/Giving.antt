@@ -3,8 +3,6 @@ use Rattle.std.proofs.Common.{◌≡◌, ℕ, List, [], ◌∷◌, ◌++◌, Opt
 use Rattle.std.specs.Option.{option_map}
 use Rattle.zk_base.specs.declared.time.Moment.{Moment}
 use Rattle.zk_base.specs.Shelf.{Files, Outside, appended}
-use Rattle.zk_logs.specs.declared.fault.LogFault.{LogFault}
-use Rattle.zk_logs.specs.declared.fault.LogFault.TheVariants as fault
 use Rattle.zk_logs.specs.declared.logs.LogFiles.{LogFiles}
 use Rattle.zk_logs.specs.Logs.{Row, log_files}
 use Rattle.zk_logs.specs.Outputs.{IsBegun, OutputsBegun, files_over, over}
@@ -15,16 +13,16 @@ use Rattle.zk_value.specs.declared.cell.Column.{Column}
 use Rattle.zk_value.specs.declared.out.Out.TheVariants as out
 use Rattle.zk_outcome.specs.declared.stop.Stop.{Stop}
 use Rattle.zk_outcome.specs.declared.stop.Stop.TheVariants.{ReadFault, WriteFault, NoMemory}
-use Rattle.zk_outcome.specs.Parts.{Does, DoesAll, DoesPart, DoesWithoutFault, HasCause}
+use Rattle.zk_outcome.specs.Parts.{Does, DoesAll, DoesPart, DoesWithoutFault, HasCause, IsQuiet}
 use Rattle.zk_outcome.specs.Prefix.{IsPrefix}
-use Rattle.zk_outcome.proofs.Doing.{none_appended, out_of_memory, prefix_all, prefix_none, prefix_trans, does_part_of}
+use Rattle.zk_outcome.proofs.Doing.{does_both_all, does_only, does_part_of, prefix_all, prefix_none, prefix_trans}
 use Rattle.zk_top.specs.declared.writer.Writer.{Writer}
 use Rattle.zk_io.specs.Said.{line_end, HasSaid, HandsOver}
 use Rattle.zk_top.specs.Outcome.{no_files}
 use Rattle.zk_top.specs.Parts.{but_outputs}
 use Rattle.zk_io.specs.Reading.{SameInput}
 use Rattle.zk_top.specs.Logged.{dated}
-use Rattle.zk_top.specs.Writing.{Output, HasGiven, GivesSome, GivesAll, GivesPart, AreBegun, Begins, IsReady, and_out, no_output, stopped_by}
+use Rattle.zk_top.specs.Writing.{Output, HasGiven, GivesSome, GivesAll, GivesPart, AreBegun, Begins, IsReady, and_out, no_output}
 use Rattle.zk_io.proofs.Said.{said_nothing, said_over, said_more, said_on, said_part_of, said_all_of, stopped_after, memory_after, memory_behind}
 
 -- But for outputs ------------------------------------------------------------------------------------------------------
@@ -68,38 +66,43 @@ cause_of_beside first a ReadFault b cause = cause
 cause_of_beside first a WriteFault b cause = cause
 cause_of_beside first a NoMemory b cause = record { read = cause.read; write = cause.write }
 
--- nothing but outputs has changed
-beside_changed : (first old new : Outside) → ChangesOutputs old new → but_outputs first new ≡ but_outputs first old
-beside_changed first old new only = ap (but_outputs first) only
+-- where nothing but outputs has changed, nothing was done beside them
+beside_changed : (first old new : Outside) → ChangesOutputs old new → DoesAll [] [] [] (but_outputs first old) (but_outputs first new)
+beside_changed first old new only = record {
+  all = record {
+    does = does_only (but_outputs first old) (but_outputs first new) (ap (λ (o : Outside). o.inputs) only) refl (ap (λ (o : Outside). o.said) only) (ap (λ (o : Outside). o.complained) only)
+        (ap (λ (o : Outside). o.started) only);
+    faults = record { read = ap (λ (o : Outside). o.read_faults) only; write = ap (λ (o : Outside). o.write_faults) only };
+  };
+  present = ap (λ (o : Outside). o.absences) only;
+}
 
 pub same_input : (old new : Outside) → ChangesOutputs old new → SameInput old new
 same_input old new only = (ap (λ (o : Outside). o.reading) only, ap (λ (o : Outside). o.inputs) only)
 
-none_named : (o : Option (List (List ℕ))) → o ≡ appended o []
-none_named None = refl
-none_named (Some names) = ap Some (sym (append-nil names))
-
--- the writing of logs was stopped
-log_stopped : (first old : Outside) (why : LogFault) (new : Outside) → IsStoppedBy why old new
-    → IfErr (stopped_by (Err why)) (λ stop. DoesPart [] [] [] (but_outputs first old) stop (but_outputs first new))
-log_stopped first old fault.NoMemory new only = out_of_memory [] [] [] (but_outputs first old) (but_outputs first new) (beside_changed first old new only)
-log_stopped first old fault.Failed new (risen, is) = record {
+-- a part was stopped that says, complains and starts nothing
+stopped_beside : (first old : Outside) (stop : Stop) (new : Outside) → Does [] [] [] (but_outputs first old) (but_outputs first new)
+    → HasCause (but_outputs first old) stop (but_outputs first new) → IsQuiet stop [] → DoesPart [] [] [] (but_outputs first old) stop (but_outputs first new)
+stopped_beside first old stop new does cause quiet = record {
   names_part = [];
   names_prefix = prefix_none [];
   said_part = [];
   said_prefix = prefix_none [];
   complained_part = [];
   complained_prefix = prefix_none [];
-  does = record {
-    inputs_stay = ap (λ (o : Outside). o.inputs) is;
-    outputs_stay = refl;
-    says = ap (λ (o : Outside). o.said) is ∙ none_appended old.said;
-    complains = ap (λ (o : Outside). o.complained) is ∙ none_appended old.complained;
-    starts = ap (λ (o : Outside). o.started) is ∙ none_named old.started;
-  };
-  cause = (risen, ap (λ (o : Outside). o.read_faults) is);
-  quiet = tt;
+  does = does;
+  cause = cause;
+  quiet = quiet;
 }
+
+-- the writing of logs was stopped
+log_stopped : (first old : Outside) (stop : Stop) (new : Outside) → IsStoppedBy stop old new → DoesPart [] [] [] (but_outputs first old) stop (but_outputs first new)
+log_stopped first old ReadFault new none = absurd none
+log_stopped first old NoMemory new only = stopped_beside first old NoMemory new (beside_changed first old new only).all.does (beside_changed first old new only).all.faults refl
+log_stopped first old WriteFault new (cause, is) =
+    stopped_beside first old WriteFault new
+    (does_only (but_outputs first old) (but_outputs first new) (ap (λ (o : Outside). o.inputs) is) refl (ap (λ (o : Outside). o.said) is) (ap (λ (o : Outside). o.complained) is)
+    (ap (λ (o : Outside). o.started) is)) (cause_beside first old WriteFault new cause) tt
 
 -- Files that are begun -------------------------------------------------------------------------------------------------
 
@@ -220,7 +223,7 @@ row_given : RowsStay → (first : Outside) (output : Output) (writer : Writer) (
     → HasWritten first.outputs (output.rows ++ row ∷ []) logs new.outputs → ChangesOutputs old new
     → HasGiven first (record output { rows = output.rows ++ row ∷ [] }) (record writer { logs = logs }) new
 row_given stay first output writer row old new logs given written only = record {
-  says = subst (λ now. HasSaid first output.text writer.piece.items now) (sym (beside_changed first old new only)) given.says;
+  says = said_on first output.text writer.piece.items (but_outputs first old) (but_outputs first new) given.says (beside_changed first old new only);
   writes = written;
   begun = λ more end. stay first.outputs new.outputs (output.rows ++ row ∷ []) more logs end written;
 }
@@ -258,7 +261,8 @@ end_stopped first output writer end old stop new given part = record {
 -- and the logs were closed
 given_all : (first : Outside) (text : List ℕ) (old new : Outside) → DoesAll [] text [] first (but_outputs first old) → ChangesOutputs old new
     → DoesAll [] text [] first (but_outputs first new)
-given_all first text old new says only = subst (λ now. DoesAll [] text [] first now) (sym (beside_changed first old new only)) says
+given_all first text old new says only =
+    subst (λ said. DoesAll [] said [] first (but_outputs first new)) (append-nil text) (does_both_all [] [] text [] [] [] first (but_outputs first old) (but_outputs first new) says (beside_changed first old new only))
 
 -- stopped while they were closed
 close_stopped : (first : Outside) (text : List ℕ) (files : Files) (old : Outside) (stop : Stop) (new : Outside) → DoesAll [] text [] first (but_outputs first old)
@@ -307,17 +311,16 @@ pub give_line_stopped : (result : Result (Unit {0}) Stop) (line : List ℕ) (wri
 give_line_stopped (Ok done) line writer old new part = tt
 give_line_stopped (Err stop) line writer old new part = λ first output given. line_stopped first output writer (line ++ line_end) old stop new given part
 
-pub give_row : RowsStay → (wrote : Result (Unit {0}) LogFault) (path : List ℕ) (columns : List Column) (cells : List Cell) (at : Moment) (row : Row) (writer : Writer) (old new : Outside) (logs : LogFiles)
+pub give_row : RowsStay → (wrote : Result (Unit {0}) Stop) (path : List ℕ) (columns : List Column) (cells : List Cell) (at : Moment) (row : Row) (writer : Writer) (old new : Outside) (logs : LogFiles)
     → row ≡ row_given_out path columns cells at
     → OnOk wrote ((before : Option Files) (rows : List Row) → HasWritten before rows writer.logs old.outputs → HasWritten before (rows ++ row ∷ []) logs new.outputs)
     → OnOk wrote (ChangesOutputs old new)
-    → OnOk (stopped_by wrote) ((first : Outside) (output : Output) → HasGiven first output writer old
+    → OnOk wrote ((first : Outside) (output : Output) → HasGiven first output writer old
     → HasGiven first (and_out output (out.Row path columns cells at)) (record writer { logs = logs }) new)
 give_row stay (Ok done) path columns cells at row writer old new logs is written only = λ first output given.
     row_given stay first output writer (row_given_out path columns cells at) old new logs given
     (subst (λ (one : Row). HasWritten first.outputs (output.rows ++ one ∷ []) logs new.outputs) is (written first.outputs output.rows given.writes)) only
-give_row stay (Err fault.Failed) path columns cells at row writer old new logs is written only = tt
-give_row stay (Err fault.NoMemory) path columns cells at row writer old new logs is written only = tt
+give_row stay (Err stop) path columns cells at row writer old new logs is written only = tt
 
 row_part : (path : List ℕ) (columns : List Column) (cells : List Cell) (at : Moment) (row : Row) (writer : Writer) (old : Outside) (stop : Stop) (new : Outside) → row ≡ row_given_out path columns cells at
     → ((before : Option Files) (rows more : List Row) (end : Moment) → HasWritten before rows writer.logs old.outputs → OutputsBegun (log_files (rows ++ row ∷ more) end) before new.outputs)
@@ -327,28 +330,25 @@ row_part path columns cells at row writer old stop new is begun part first outpu
     row_stopped first output writer (row_given_out path columns cells at) old stop new given
     (λ more end. subst (λ (one : Row). OutputsBegun (log_files (output.rows ++ one ∷ more) end) first.outputs new.outputs) is (begun first.outputs output.rows more end given.writes)) (part first)
 
-pub give_row_stopped : (wrote : Result (Unit {0}) LogFault) (path : List ℕ) (columns : List Column) (cells : List Cell) (at : Moment) (row : Row) (writer : Writer) (old new : Outside)
+pub give_row_stopped : (wrote : Result (Unit {0}) Stop) (path : List ℕ) (columns : List Column) (cells : List Cell) (at : Moment) (row : Row) (writer : Writer) (old new : Outside)
     → row ≡ row_given_out path columns cells at
     → OnErr wrote ((before : Option Files) (rows more : List Row) (end : Moment) → HasWritten before rows writer.logs old.outputs → OutputsBegun (log_files (rows ++ row ∷ more) end) before new.outputs)
-    → IfErr wrote (λ why. IsStoppedBy why old new)
-    → IfErr (stopped_by wrote) (λ stop. (first : Outside) (output : Output) → HasGiven first output writer old → GivesSome (and_out output (out.Row path columns cells at)) first stop new)
+    → IfErr wrote (λ stop. IsStoppedBy stop old new)
+    → IfErr wrote (λ stop. (first : Outside) (output : Output) → HasGiven first output writer old → GivesSome (and_out output (out.Row path columns cells at)) first stop new)
 give_row_stopped (Ok done) path columns cells at row writer old new is begun stopped = tt
-give_row_stopped (Err fault.Failed) path columns cells at row writer old new is begun stopped =
-    row_part path columns cells at row writer old WriteFault new is begun (λ first. log_stopped first old fault.Failed new stopped)
-give_row_stopped (Err fault.NoMemory) path columns cells at row writer old new is begun stopped =
-    row_part path columns cells at row writer old NoMemory new is begun (λ first. log_stopped first old fault.NoMemory new stopped)
+give_row_stopped (Err stop) path columns cells at row writer old new is begun stopped =
+    row_part path columns cells at row writer old stop new is begun (λ first. log_stopped first old stop new stopped)
 
 -- the logs are closed behind what was said
-pub close_all : (wrote : Result (Unit {0}) LogFault) (end : Moment) (writer : Writer) (old mid new : Outside) → DoesAll [] writer.piece.items [] old mid
+pub close_all : (wrote : Result (Unit {0}) Stop) (end : Moment) (writer : Writer) (old mid new : Outside) → DoesAll [] writer.piece.items [] old mid
     → OnOk wrote ((before : Option Files) (rows : List Row) → HasWritten before rows writer.logs mid.outputs → new.outputs ≡ option_map (files_over (log_files rows end)) before)
     → OnOk wrote (ChangesOutputs mid new)
-    → OnOk (stopped_by wrote) ((first : Outside) (output : Output) → HasGiven first output writer old → GivesAll output.text (log_files output.rows end) first new)
+    → OnOk wrote ((first : Outside) (output : Output) → HasGiven first output writer old → GivesAll output.text (log_files output.rows end) first new)
 close_all (Ok done) end writer old mid new says closed only = λ first output given. record {
   says = given_all first output.text mid new (said_and_open first output writer old mid given says) only;
   outputs = closed first.outputs output.rows (still_written first output writer old mid given says.all.does.outputs_stay);
 }
-close_all (Err fault.Failed) end writer old mid new says closed only = tt
-close_all (Err fault.NoMemory) end writer old mid new says closed only = tt
+close_all (Err stop) end writer old mid new says closed only = tt
 
 close_part : (end : Moment) (writer : Writer) (old mid : Outside) (stop : Stop) (new : Outside) → DoesAll [] writer.piece.items [] old mid
     → ((before : Option Files) (rows : List Row) → HasWritten before rows writer.logs mid.outputs → OutputsBegun (log_files rows end) before new.outputs)
@@ -358,10 +358,9 @@ close_part end writer old mid stop new says begun part first output given =
     close_stopped first output.text (log_files output.rows end) mid stop new (said_and_open first output writer old mid given says) (part first)
     (begun first.outputs output.rows (still_written first output writer old mid given says.all.does.outputs_stay))
 
-pub close_some : (wrote : Result (Unit {0}) LogFault) (end : Moment) (writer : Writer) (old mid new : Outside) → DoesAll [] writer.piece.items [] old mid
+pub close_some : (wrote : Result (Unit {0}) Stop) (end : Moment) (writer : Writer) (old mid new : Outside) → DoesAll [] writer.piece.items [] old mid
     → OnErr wrote ((before : Option Files) (rows : List Row) → HasWritten before rows writer.logs mid.outputs → OutputsBegun (log_files rows end) before new.outputs)
-    → IfErr wrote (λ why. IsStoppedBy why mid new)
-    → IfErr (stopped_by wrote) (λ stop. (first : Outside) (output : Output) → HasGiven first output writer old → GivesPart output.text (log_files output.rows end) first stop new)
+    → IfErr wrote (λ stop. IsStoppedBy stop mid new)
+    → IfErr wrote (λ stop. (first : Outside) (output : Output) → HasGiven first output writer old → GivesPart output.text (log_files output.rows end) first stop new)
 close_some (Ok done) end writer old mid new says begun stopped = tt
-close_some (Err fault.Failed) end writer old mid new says begun stopped = close_part end writer old mid WriteFault new says begun (λ first. log_stopped first mid fault.Failed new stopped)
-close_some (Err fault.NoMemory) end writer old mid new says begun stopped = close_part end writer old mid NoMemory new says begun (λ first. log_stopped first mid fault.NoMemory new stopped)
+close_some (Err stop) end writer old mid new says begun stopped = close_part end writer old mid stop new says begun (λ first. log_stopped first mid stop new stopped)

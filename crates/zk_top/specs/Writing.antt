@@ -1,10 +1,8 @@
 -- What is given out of a run, and what was said and written of it.
-use Rattle.std.specs.Prelude.{◌≡◌, ℕ, List, [], ◌∷◌, ◌++◌, map, Option, Result, Ok, Err}
+use Rattle.std.specs.Prelude.{◌≡◌, ℕ, List, [], ◌∷◌, ◌++◌, map, Option}
 use Rattle.std.specs.Option.{option_map}
 use Rattle.zk_base.specs.declared.time.Moment.{Moment}
 use Rattle.zk_base.specs.Shelf.{Files, Outside}
-use Rattle.zk_logs.specs.declared.fault.LogFault.{LogFault}
-use Rattle.zk_logs.specs.declared.fault.LogFault.TheVariants as fault
 use Rattle.zk_logs.specs.Logs.{Row, log_files}
 use Rattle.zk_logs.specs.Outputs.{files_over, OutputsBegun}
 use Rattle.zk_logs.specs.Written as logs
@@ -13,7 +11,6 @@ use Rattle.zk_typed.specs.State.{World}
 use Rattle.zk_value.specs.declared.out.Out.{Out}
 use Rattle.zk_value.specs.declared.out.Out.TheVariants as out
 use Rattle.zk_outcome.specs.declared.stop.Stop.{Stop}
-use Rattle.zk_outcome.specs.declared.stop.Stop.TheVariants as stop
 use Rattle.zk_outcome.specs.Parts.{DoesAll, DoesPart}
 use Rattle.zk_outcome.specs.Prefix.{IsPrefix}
 use Rattle.zk_top.specs.declared.writer.Writer.{Writer}
@@ -80,9 +77,3 @@ pub record GivesAll (text : List ℕ) (files : Files) (old new : Outside) : Type
 pub record GivesPart (text : List ℕ) (files : Files) (old : Outside) (stop : Stop) (new : Outside) : Type 0 where
   pub says : DoesPart [] text [] old stop (but_outputs old new)
   pub begun : OutputsBegun files old.outputs new.outputs
-
--- What the writing of logs comes to: it is done, or it stops the run.
-abbrev pub stopped_by : Result (Unit {0}) LogFault → Result (Unit {0}) Stop
-stopped_by (Ok done) = Ok done
-stopped_by (Err fault.Failed) = Err stop.WriteFault
-stopped_by (Err fault.NoMemory) = Err stop.NoMemory

@@ -4,13 +4,12 @@ ghost use Rattle.zk_base.specs.Shelf.{Outside};
 ghost use Rattle.zk_logs.specs.Logs.{log_files};
 ghost use Rattle.zk_top.specs.Logged.{dated};
 ghost use Rattle.zk_io.specs.Reading.{SameInput};
-ghost use Rattle.zk_top.specs.Writing.{stopped_by};
 
 use std::alloc::Global;
 use zk_base::{Mem, Moment, Shelf};
 use zk_io::{PIECE, push_line, say};
+use zk_logs::{LogFiles, what_is_written_stays};
 use zk_outcome::Stop;
-use zk_logs::{LogFault, LogFiles, what_is_written_stays};
 use zk_value::Out;
 
 /// The last moment that a log can show.
@@ -56,14 +55,12 @@ impl Writer {
                 columns,
                 cells,
                 at,
-            } => logged(
-                self.logs.write(
-                    shelf,
-                    path.as_slice(),
-                    columns.as_slice(),
-                    cells.as_slice(),
-                    dated(*at),
-                ),
+            } => self.logs.write(
+                shelf,
+                path.as_slice(),
+                columns.as_slice(),
+                cells.as_slice(),
+                dated(*at),
             ),
         }
     }
@@ -78,7 +75,7 @@ impl Writer {
             → GivesPart output.text (log_files output.rows (dated at)) first stop (S.outside shelf.new)) }
     {
         say(shelf, &self.piece)?;
-        logged(self.logs.close(shelf, dated(at)))
+        self.logs.close(shelf, dated(at))
     }
 }
 
@@ -93,16 +90,5 @@ fn dated(at: Moment) -> Moment
         LAST
     } else {
         at
-    }
-}
-
-/// What the writing of logs comes to: it is done, or it stops the run.
-fn logged(wrote: Result<(), LogFault>) -> Result<(), Stop>
-    ensures { result ≡ stopped_by wrote }
-{
-    match wrote {
-        Ok(()) => Ok(()),
-        Err(LogFault::Failed) => Err(Stop::WriteFault),
-        Err(LogFault::NoMemory) => Err(Stop::NoMemory),
     }
 }

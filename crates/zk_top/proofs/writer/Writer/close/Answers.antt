@@ -1,4 +1,4 @@
-use Rattle.std.proofs.Common.{sym, subst, [], OnOk, IfErr}
+use Rattle.std.proofs.Common.{subst, [], OnOk, IfErr}
 use Rattle.std.proofs.lemmas.Result.{err_from_is_err_and}
 use Rattle.zk_base.specs.Shelf.{Outside}
 use Rattle.zk_logs.specs.Logs.{log_files}
@@ -23,9 +23,8 @@ returns-clause-given g c =
     let mid = g.S.Shelf.outside c.say.new.shelf in
     let new = g.S.Shelf.outside c.close.new.shelf in
     let says : DoesAll [] c.args.self.now.piece.items [] old mid = subst (λ text. DoesAll [] text [] old mid) c.deref.ensures.value c.in_ok-say.ensures.said in
-    subst (λ end. OnOk c.logged.result ((first : Outside) (output : Output) → HasGiven first output c.args.self.now old → GivesAll output.text (log_files output.rows end) first new)) c.dated.ensures.nearest
-    (subst (λ result. OnOk result ((first : Outside) (output : Output) → HasGiven first output c.args.self.now old → GivesAll output.text (log_files output.rows c.dated.result) first new)) (sym c.logged.ensures)
-    (close_all c.close.result c.dated.result c.args.self.now old mid new says c.close.ensures.closed c.close.ensures.only))
+    subst (λ end. OnOk c.close.result ((first : Outside) (output : Output) → HasGiven first output c.args.self.now old → GivesAll output.text (log_files output.rows end) first new)) c.dated.ensures.nearest
+    (close_all c.close.result c.dated.result c.args.self.now old mid new says c.close.ensures.closed c.close.ensures.only)
 
 pub returns-clause-stopped : goal.returns-clause-stopped
 returns-clause-stopped g c =
@@ -33,6 +32,5 @@ returns-clause-stopped g c =
     let mid = g.S.Shelf.outside c.say.new.shelf in
     let new = g.S.Shelf.outside c.close.new.shelf in
     let says : DoesAll [] c.args.self.now.piece.items [] old mid = subst (λ text. DoesAll [] text [] old mid) c.deref.ensures.value c.in_ok-say.ensures.said in
-    subst (λ end. IfErr c.logged.result (λ stop. (first : Outside) (output : Output) → HasGiven first output c.args.self.now old → GivesPart output.text (log_files output.rows end) first stop new)) c.dated.ensures.nearest
-    (subst (λ result. IfErr result (λ stop. (first : Outside) (output : Output) → HasGiven first output c.args.self.now old → GivesPart output.text (log_files output.rows c.dated.result) first stop new)) (sym c.logged.ensures)
-    (close_some c.close.result c.dated.result c.args.self.now old mid new says c.close.ensures.begun c.close.ensures.stopped))
+    subst (λ end. IfErr c.close.result (λ stop. (first : Outside) (output : Output) → HasGiven first output c.args.self.now old → GivesPart output.text (log_files output.rows end) first stop new)) c.dated.ensures.nearest
+    (close_some c.close.result c.dated.result c.args.self.now old mid new says c.close.ensures.begun c.close.ensures.stopped)

@@ -29,9 +29,8 @@ returns-in-Row-clause-given g c =
     let one = c.in-Row in
     let after = record c.args.self.now { logs = c.write.new.self } in
     let is = same_row one.path _ one.columns _ one.cells _ one.at _ c.as_slice-in-Row.ensures c.as_slice-in-Row-2.ensures c.as_slice-in-Row-3.ensures c.dated.ensures.nearest in
-    subst (λ told. OnOk c.logged.result ((first : Outside) (output : Output) → HasGiven first output c.args.self.now old → HasGiven first (and_out output told) after new)) (sym one.is)
-    (subst (λ result. OnOk result ((first : Outside) (output : Output) → HasGiven first output c.args.self.now old → HasGiven first (and_out output (out.Row one.path one.columns one.cells one.at)) after new)) (sym c.logged.ensures)
-    (give_row c.what_is_written_stays.ensures c.write.result one.path one.columns one.cells one.at _ c.args.self.now old new c.write.new.self is c.write.ensures.written c.write.ensures.only))
+    subst (λ told. OnOk c.write.result ((first : Outside) (output : Output) → HasGiven first output c.args.self.now old → HasGiven first (and_out output told) after new)) (sym one.is)
+    (give_row c.what_is_written_stays.ensures c.write.result one.path one.columns one.cells one.at _ c.args.self.now old new c.write.new.self is c.write.ensures.written c.write.ensures.only)
 
 pub returns-in-Row-clause-stopped : goal.returns-in-Row-clause-stopped
 returns-in-Row-clause-stopped g c =
@@ -39,6 +38,5 @@ returns-in-Row-clause-stopped g c =
     let new = g.S.Shelf.outside c.write.new.shelf in
     let one = c.in-Row in
     let is = same_row one.path _ one.columns _ one.cells _ one.at _ c.as_slice-in-Row.ensures c.as_slice-in-Row-2.ensures c.as_slice-in-Row-3.ensures c.dated.ensures.nearest in
-    subst (λ told. IfErr c.logged.result (λ stop. (first : Outside) (output : Output) → HasGiven first output c.args.self.now old → GivesSome (and_out output told) first stop new)) (sym one.is)
-    (subst (λ result. IfErr result (λ stop. (first : Outside) (output : Output) → HasGiven first output c.args.self.now old → GivesSome (and_out output (out.Row one.path one.columns one.cells one.at)) first stop new)) (sym c.logged.ensures)
-    (give_row_stopped c.write.result one.path one.columns one.cells one.at _ c.args.self.now old new is c.write.ensures.begun c.write.ensures.stopped))
+    subst (λ told. IfErr c.write.result (λ stop. (first : Outside) (output : Output) → HasGiven first output c.args.self.now old → GivesSome (and_out output told) first stop new)) (sym one.is)
+    (give_row_stopped c.write.result one.path one.columns one.cells one.at _ c.args.self.now old new is c.write.ensures.begun c.write.ensures.stopped)

@@ -14,7 +14,8 @@ use Rattle.zk_http.specs.declared.body.Body.TheVariants.{Empty}
 use Rattle.zk_http.specs.Bodies.{is_interim, holds_back}
 use Rattle.zk_http.specs.Cases.{Case, Before, Within, Held, head_in, heads, answers, until_answered, between_requests, behind_request, answer_case, behind_response, behind, case_of}
 use Rattle.zk_http.specs.Growth.{GoesOn}
-use Rattle.zk_http.specs.Places.{Both, of_side, other}
+use Rattle.zk_base.specs.Sides.{other}
+use Rattle.zk_http.specs.Places.{Both, of_side}
 
 -- it waited, or it is the same
 abbrev pub IsSettled : Case → Case → Type 0

@@ -73,7 +73,7 @@ line_within : (places : List Place) (used size : ℕ) → chunk_line places ≡ 
 line_within places used size is = subst (λ line. IsWithin line (length places)) is (chunk_line_decides.within places)
 
 -- what is left behind a chunk line is less
-less_behind : (places : List Place) (used size : ℕ) → chunk_line places ≡ Gives used size → length (drop used places) < length places
+pub less_behind : (places : List Place) (used size : ℕ) → chunk_line places ≡ Gives used size → length (drop used places) < length places
 less_behind places used size is = omega (arith, line_uses places used size is, line_within places used size is, length-drop used places)
 
 -- counts of chunks that are enough agree
@@ -112,14 +112,14 @@ chunked_is amount places =
 -- ---- a chunk line
 
 -- a line that is there
-line_there : (search : Search) (bytes : List ℕ) (n size : ℕ) (behind : List Place) → FindsAt search ending.Line (take chunk_line_limit bytes) n
+pub line_there : (search : Search) (bytes : List ℕ) (n size : ℕ) (behind : List Place) → FindsAt search ending.Line (take chunk_line_limit bytes) n
     → size_of (take n bytes) ≡ Some size → chunk_line (places_of bytes ++ behind) ≡ Gives n size
 line_there search bytes n size behind finds is =
     let same : n + 0 ≡ n = omega arith in
     ap (λ answer. and_then answer (λ text. size_or_bad (size_of text)) (places_of bytes ++ behind)) (until_found search ending.Line chunk_line_limit ChunkBad bytes n behind finds)
     ∙ ap (λ found. later n (size_or_bad found (drop n (places_of bytes ++ behind)))) is ∙ ap (λ n. Gives n size) same
 
-line_bad : (search : Search) (bytes : List ℕ) (n : ℕ) (behind : List Place) → FindsAt search ending.Line (take chunk_line_limit bytes) n
+pub line_bad : (search : Search) (bytes : List ℕ) (n : ℕ) (behind : List Place) → FindsAt search ending.Line (take chunk_line_limit bytes) n
     → size_of (take n bytes) ≡ None → chunk_line (places_of bytes ++ behind) ≡ Refuses n ChunkBad
 line_bad search bytes n behind finds is =
     let same : n + 0 ≡ n = omega arith in

@@ -1,10 +1,10 @@
 -- What a gap comes to behind bytes that were looked at.
-use Rattle.std.proofs.Common.{◌≡◌, ℕ, zero, suc, ◌+◌, ◌-◌, ◌<◌, Bool, List, [], ◌∷◌, ◌++◌, length, take, replicate, None, refl, sym, ap, subst, ◌∙◌, arith}
+use Rattle.std.proofs.Common.{◌≡◌, ℕ, zero, suc, ◌+◌, ◌-◌, ◌<◌, Bool, List, [], ◌∷◌, ◌++◌, length, take, replicate, None, Some, refl, sym, ap, subst, ◌∙◌, arith}
 use Rattle.std.proofs.lemmas.List.{append-nil}
 use Rattle.zk_base.specs.Places.{Place, bytes_before_gap}
 use Rattle.zk_http.specs.declared.search.Ending.{Ending}
 use Rattle.zk_http.specs.declared.search.Search.{Search}
-use Rattle.zk_http.specs.declared.state.Part.TheVariants.{Size, Trailer}
+use Rattle.zk_http.specs.declared.state.Part.TheVariants.{Feed, Return, Size, Trailer}
 use Rattle.zk_http.specs.declared.state.Reading.{Reading}
 use Rattle.zk_http.specs.declared.turn.Turn.{Turn}
 use Rattle.zk_http.specs.declared.turn.Turn.TheVariants.{On, Waits, Tells}
@@ -12,11 +12,13 @@ use Rattle.zk_http.specs.declared.units.Reason.TheVariants.{Gap}
 use Rattle.zk_http.specs.declared.units.UnitKind.TheVariants as what
 use Rattle.zk_http.specs.Chunks.{chunk_line_limit}
 use Rattle.zk_http.specs.Heads.{head_limit}
-use Rattle.zk_http.specs.Reading.{KnowsIn, searched}
+use Rattle.zk_http.specs.Reading.{KnowsIn, means, searched}
 use Rattle.zk_http.specs.Search.{Knows, KnowsAll}
 use Rattle.zk_http.specs.Turns.{HasCounts, HasGapCounts, IsTurn, PassesAll, Shows, places_of}
 use Rattle.zk_http.proofs.ChunkedLaws.{line_gap_shows, trailer_gap_shows}
+use Rattle.zk_http.specs.Units.{unit_at}
 use Rattle.zk_http.proofs.FollowLaws.{before_gap-append}
+use Rattle.zk_http.proofs.TurnLaws.{shown_refused}
 use Rattle.zk_http.proofs.UntilLaws.{all_taken}
 
 -- a gap has a first place
@@ -61,6 +63,27 @@ part_gap_shows reading told search bytes unused count is some seen short all kno
     subst (λ n. Shows reading told (n + 1) (what.Violation Gap) (places_of bytes ++ replicate count None)) all
     (subst (λ gap. Shows reading told (length bytes + 1) (what.Violation Gap) (places_of bytes ++ gap)) (sym (gap_first count some))
     (trailer_gap_shows reading told search search bytes (replicate (count - 1) None) is known (omega arith)))
+
+-- a line end behind a chunk that begins with a gap
+pub return_gap_shows : (reading : Reading) (told : Bool) (bytes : List ℕ) (unused count : ℕ) → reading.part ≡ Return → 0 < count → unused ≡ 0 → length bytes ≡ unused
+    → Shows reading told (unused + 1) (what.Violation Gap) (places_of bytes ++ replicate count None)
+return_gap_shows reading told bytes unused count is some none all ended behind from ends =
+    let first : (places_of bytes ++ replicate count None) ++ behind ≡ None ∷ (replicate (count - 1) None ++ behind) =
+    ap (λ bytes. (places_of bytes ++ replicate count None) ++ behind) (none_left bytes (all ∙ none)) ∙ ap (λ gap. gap ++ behind) (gap_first count some) in
+    let one : 1 ≡ unused + 1 = omega arith in
+    ap (λ places. unit_at from (means reading ended places)) first
+    ∙ shown_refused reading Return ended (None ∷ (replicate (count - 1) None ++ behind)) 1 from Gap is refl
+    ∙ ap (λ n. Some (record { place = from + n; what = what.Violation Gap })) one
+
+pub feed_gap_shows : (reading : Reading) (told : Bool) (bytes : List ℕ) (unused count : ℕ) → reading.part ≡ Feed → 0 < count → unused ≡ 0 → length bytes ≡ unused
+    → Shows reading told (unused + 1) (what.Violation Gap) (places_of bytes ++ replicate count None)
+feed_gap_shows reading told bytes unused count is some none all ended behind from ends =
+    let first : (places_of bytes ++ replicate count None) ++ behind ≡ None ∷ (replicate (count - 1) None ++ behind) =
+    ap (λ bytes. (places_of bytes ++ replicate count None) ++ behind) (none_left bytes (all ∙ none)) ∙ ap (λ gap. gap ++ behind) (gap_first count some) in
+    let one : 1 ≡ unused + 1 = omega arith in
+    ap (λ places. unit_at from (means reading ended places)) first
+    ∙ shown_refused reading Feed ended (None ∷ (replicate (count - 1) None ++ behind)) 1 from Gap is refl
+    ∙ ap (λ n. Some (record { place = from + n; what = what.Violation Gap })) one
 
 -- no bytes stand before the gap
 pub turn_in_gap : (old : Reading) (told : Bool) (bytes : List ℕ) (unused count : ℕ) (turn : Turn) → unused ≡ 0 → length bytes ≡ unused

@@ -4,9 +4,14 @@ use Rattle.std.specs.Prelude.{◌↔◌, nat_le}
 use Rattle.std.specs.List.{last_or}
 use Rattle.std.proofs.lemmas.Bool.{le-leb}
 use Rattle.std.proofs.lemmas.List.{append-nil, drop-append-le, drop-drop, drop-take, length-replicate, take-append-drop, take-append-le}
-use Rattle.std.proofs.Math.Seq.{drop-length}
+use Rattle.std.proofs.Math.Seq.{drop-length, take-add}
 use Rattle.zk_base.specs.Places.{Place, bytes_before_gap}
 use Rattle.zk_base.specs.declared.network.Side.{Side}
+use Rattle.zk_http.specs.declared.body.Body.{Body}
+use Rattle.zk_http.specs.declared.body.Body.TheVariants as bodies
+use Rattle.zk_http.specs.declared.body.Body.TheVariants.{Empty, Length, Chunked, Tunnels}
+use Rattle.zk_http.specs.declared.half.Between.{Between}
+use Rattle.zk_http.specs.declared.half.Between.TheVariants.{Free, Waiting, Tunnelled}
 use Rattle.zk_http.specs.declared.half.Half.{Half}
 use Rattle.zk_http.specs.declared.search.Ending.{Ending}
 use Rattle.zk_http.specs.declared.search.Ending.TheVariants as ending
@@ -19,22 +24,24 @@ use Rattle.zk_http.specs.declared.units.Head.{Head as MessageHead}
 use Rattle.zk_http.specs.declared.units.«Unit».{«Unit» as MessageUnit}
 use Rattle.zk_http.specs.declared.units.UnitKind.{UnitKind}
 use Rattle.zk_http.specs.declared.units.UnitKind.TheVariants as kind
-use Rattle.zk_http.specs.Cases.{Case, Before, Held, Over}
+use Rattle.zk_http.specs.BodyBytes.{bytes_at, data_by, data_in, first_places}
+use Rattle.zk_http.specs.Cases.{Case, Before, Within, Held, Over}
 use Rattle.zk_http.specs.Chunks.{chunk_line_limit}
-use Rattle.zk_http.specs.HalfStanding.{HalfStands, HeadBegins, HowStands, IsAtHead, IsInside, TellsAs}
+use Rattle.zk_http.specs.HalfStanding.{HalfStands, HasNoData, HeadBegins, HoldsData, HowStands, IsAtHead, IsInside, TellsAs, between_case}
 use Rattle.zk_http.specs.Heads.{head_limit}
-use Rattle.zk_http.specs.HalfTurns.{EndsAt, Gave, HasGapIn, IsLentTo, Moves, MovesWaiting}
+use Rattle.zk_http.specs.HalfTurns.{EndsAt, Gave, HasGapIn, IsLentTo, Moves, MovesWaiting, bytes_in_first}
 use Rattle.zk_http.specs.Found.{EndsNowhere}
 use Rattle.zk_http.specs.HeadTurns.{HeadShows}
 use Rattle.zk_http.specs.declared.units.Reason.TheVariants.{Gap}
 use Rattle.zk_http.specs.Lines.{ends_line, text_length}
 use Rattle.zk_http.specs.Places.{Stream}
-use Rattle.zk_http.specs.Reading.{KnowsAt, KnowsIn, head_unit, means, means_at, phase_of, searched}
+use Rattle.zk_http.specs.Reading.{KnowsAt, KnowsIn, data_from, head_unit, means, means_at, phase_of, searched}
 use Rattle.zk_http.specs.Reads.{Answer, Waits, Gives, Refuses, Reads, later}
 use Rattle.zk_http.specs.Search.{Counts, Knows, ends}
 use Rattle.zk_http.specs.Starts.{state_behind}
-use Rattle.zk_http.specs.Turns.{Goes, IsNoHead, Shows, ShowsNothing, places_of}
+use Rattle.zk_http.specs.Turns.{DataGoes, Goes, IsNoHead, Shows, ShowsNothing, places_of}
 use Rattle.zk_http.specs.Units.{decide, header_length, next_in, place, place_behind, unit_at}
+use Rattle.zk_http.proofs.DataLaws.{bytes-append, chunked_none, from_none, goes_behind}
 use Rattle.zk_http.proofs.FollowLaws.{before_gap-places, later_later, length-places, take-places}
 use Rattle.zk_http.proofs.GapLaws.{before_gap-gap, none_left}
 use Rattle.zk_http.proofs.HeadTurnLaws.{head_gap_shows}
@@ -217,10 +224,29 @@ body_shows side old new reading stream case units told places tail n header what
     ∙ ap (λ rest. unit_at old.used (means reading stream.ended rest)) lies.rest
     ∙ shows stream.ended tail old.used lies.last)
 
+pub holds_data : (side : Side) (half : Half) (reading : Reading) (stream : Stream) (case : Case) (units : List MessageUnit) → half.state ≡ state.Body reading
+    → HalfStands side half stream case units → HoldsData half.used (state.Body reading) stream case units
+holds_data side half reading stream case units is stands =
+    let how : HowStands (phase_of (state.Body reading)) side half stream case units = subst (λ now. HowStands (phase_of now) side half stream case units) is stands.how in
+    subst (λ now. HoldsData half.used now stream case units) is how.content
+
+-- the places of the message that were used, and n more
+pub more_places : (side : Side) (half : Half) (reading : Reading) (stream : Stream) (case : Case) (units : List MessageUnit) (places tail : List Place) (n : ℕ)
+    → half.state ≡ state.Body reading → HalfStands side half stream case units → drop half.used stream.places ≡ places ++ tail → n ≤ length places
+    → first_places half.used stream units ++ take n places ≡ first_places (half.used + n) stream units
+more_places side half reading stream case units places tail n is stands rest le =
+    let begun = (inside_is side half reading stream case units is stands).begun in
+    let within = stands.within in
+    let used = take half.used stream.places in
+    let first : take (half.used + n) stream.places ≡ used ++ take n places =
+    take-add half.used n stream.places ∙ ap (λ rest. used ++ take n rest) rest ∙ ap (λ more. used ++ more) (take-append-le n places tail le) in
+    sym (ap (drop (place units)) first
+    ∙ drop-append-le (place units) used (take n places) (omega (arith, length-take half.used stream.places)))
+
 pub body_goes : (side : Side) (old new : Half) (reading next : Reading) (stream : Stream) (case : Case) (units : List MessageUnit) (places tail : List Place) (n : ℕ)
-    → old.state ≡ state.Body reading → HalfStands side old stream case units → drop old.used stream.places ≡ places ++ tail → Goes reading next n places → n ≤ length places
+    → old.state ≡ state.Body reading → HalfStands side old stream case units → drop old.used stream.places ≡ places ++ tail → Goes reading next n places → DataGoes reading.part next.part n places → n ≤ length places
     → new.used ≡ old.used + n → new.ended ≡ old.ended → new.state ≡ state.Body next → HalfStands side new stream case units
-body_goes side old new reading next stream case units places tail n is stands rest goes le used ended then = record {
+body_goes side old new reading next stream case units places tail n is stands rest goes data_goes le used ended then = record {
   within = within;
   told = λ over. stands.told (sym ended ∙ over);
   how = subst (λ now. HowStands (phase_of now) side new stream case units) (sym then) inside;
@@ -237,6 +263,15 @@ body_goes side old new reading next stream case units places tail n is stands re
     behind_n : drop new.used stream.places ≡ drop n places ++ tail
     behind_n =
         ap (λ used. drop used stream.places) used ∙ sym (drop-drop n old.used stream.places) ∙ ap (drop n) rest ∙ drop-append-le n places tail le
+
+    content : HoldsData new.used (state.Body next) stream case units
+    content behind =
+        let first = first_places old.used stream units in
+        let all = more_places side old reading stream case units places tail n is stands rest le ∙ ap (λ used. first_places used stream units) (sym used) in
+        ap (λ all. data_by case (all ++ behind)) (sym all)
+        ∙ goes_behind (data_by case) (data_from reading.part) (data_from next.part) first (take n places)
+        (holds_data side old reading stream case units is stands) data_goes behind
+        ∙ ap (λ all. data_by case all ++ data_from next.part behind) all
 
     inside : IsInside side new stream case units
     inside = record {
@@ -258,6 +293,7 @@ body_goes side old new reading next stream case units places tail n is stands re
           subst (λ now. KnowsAt now (drop new.used stream.places)) (sym then)
           (subst (λ places. KnowsIn next.part places) (sym behind_n) (knows_in_grows next.part (drop n places) tail goes.knows));
       head = subst (λ now. HeadBegins now new.used units) (sym then) tt;
+      content = subst (λ now. HoldsData new.used now stream case units) (sym then) content;
     }
 
 pub body_waits : (side : Side) (old : Half) (reading next : Reading) (stream : Stream) (case : Case) (units : List MessageUnit) (places : List Place) (n : ℕ)
@@ -269,6 +305,55 @@ body_waits side old reading next stream case units places n is stands rest told 
     ∙ ap (unit_at old.used) (goes.by stream.ended [])
     ∙ ap (λ rest. unit_at old.used (later n (means next stream.ended rest))) (append-nil (drop n places))
     ∙ ap (λ answer. unit_at old.used (later n answer)) (nothing stream.ended told)
+
+-- ---- no body
+
+pub in_none : (body : Body) → data_in body [] ≡ []
+in_none Empty = refl
+in_none (Length n) = from_none (Places n)
+in_none Chunked = chunked_none
+in_none bodies.ToEnd = refl
+in_none Tunnels = refl
+in_none (bodies.Unknown why) = refl
+
+by_none : (case : Case) → data_by case [] ≡ []
+by_none Before = refl
+by_none (Within body) = in_none body
+by_none Held = refl
+by_none Over = refl
+
+-- where none of a message was used
+pub none_first : (used : ℕ) (stream : Stream) (units : List MessageUnit) → used ≡ place units → first_places used stream units ≡ []
+none_first used stream units begins =
+    let same : used ≡ place units + 0 = omega arith in
+    ap (λ used. drop (place units) (take used stream.places)) same ∙ drop-take (place units) 0 stream.places
+
+pub between_none : (case : Case) (between : Between) → case ≡ between_case between → HasNoData case
+between_none case between is places = ap (λ case. data_by case places) is ∙ by_between between
+  where
+    by_between : (between : Between) → data_by (between_case between) places ≡ []
+    by_between Free = refl
+    by_between Waiting = refl
+    by_between Tunnelled = refl
+
+-- a side that is in no body has no bytes of one
+pub no_bytes_same : (case : Case) (stream : Stream) (units : List MessageUnit) (used again : ℕ) → HasNoData case
+    → bytes_in_first used stream case units ≡ bytes_in_first again stream case units
+no_bytes_same case stream units used again none =
+    ap bytes_at (none (first_places used stream units) ∙ sym (none (first_places again stream units)))
+
+-- ---- the bytes of a body
+
+-- as many more as are read of the places that follow
+pub more_bytes : (side : Side) (half : Half) (reading : Reading) (stream : Stream) (case : Case) (units : List MessageUnit) (places tail : List Place) (n used : ℕ)
+    → half.state ≡ state.Body reading → HalfStands side half stream case units → drop half.used stream.places ≡ places ++ tail → n ≤ length places → used ≡ half.used + n
+    → bytes_in_first used stream case units ≡ bytes_in_first half.used stream case units ++ bytes_at (data_from reading.part (take n places))
+more_bytes side half reading stream case units places tail n used is stands rest le used_is =
+    let first = first_places half.used stream units in
+    ap (λ used. bytes_in_first used stream case units) used_is
+    ∙ ap (λ all. bytes_at (data_by case all)) (sym (more_places side half reading stream case units places tail n is stands rest le))
+    ∙ ap bytes_at (holds_data side half reading stream case units is stands (take n places))
+    ∙ bytes-append (data_by case first) (data_from reading.part (take n places))
 
 -- ---- a head
 
@@ -306,6 +391,8 @@ head_goes side old new search stream case units is knows used ended then = recor
       knows = subst (λ now. KnowsAt now (drop new.used stream.places)) (sym then)
           (subst (λ used. Knows search ending.Head (searched head_limit (drop used stream.places))) (sym same) knows);
       head = subst (λ now. HeadBegins now new.used units) (sym then) (same ∙ is.begins);
+      content = subst (λ now. HoldsData new.used now stream case units) (sym then)
+          (λ behind. is.nothing (first_places new.used stream units ++ behind) ∙ ap (λ first. first ++ []) (sym (is.nothing (first_places new.used stream units))));
     }
 
 pub head_none : (side : Side) (old : Half) (stream : Stream) (case : Case) (units : List MessageUnit) (places : List Place)
@@ -331,17 +418,24 @@ begins_head side half stream case units is stands before =
         begun = omega (arith, how.0);
       };
       begins = how.0;
+      nothing = λ places. ap (λ case. data_by case places) before;
     }
 
 pub goes_on_head : (side : Side) (half : Half) (search : Search) (stream : Stream) (case : Case) (units : List MessageUnit) → half.state ≡ state.Head search
     → HalfStands side half stream case units → IsAtHead side half stream case units × Knows search ending.Head (searched head_limit (drop half.used stream.places))
 goes_on_head side half search stream case units is stands =
-    let how : HowStands (phase_of (state.Head search)) side half stream case units = subst (λ now. HowStands (phase_of now) side half stream case units) is stands.how in (
+    let how : HowStands (phase_of (state.Head search)) side half stream case units = subst (λ now. HowStands (phase_of now) side half stream case units) is stands.how in
+    let begins : half.used ≡ place units = subst (λ now. HeadBegins now half.used units) is how.head in
+    let content : HoldsData half.used (state.Head search) stream case units = subst (λ now. HoldsData half.used now stream case units) is how.content in
+    let none : first_places half.used stream units ≡ [] = none_first half.used stream units begins in (
       record {
         within = stands.within;
         told = stands.told;
         tells = subst (λ now. TellsAs side half.used (means_at now side) stream case units) is how.tells;
-        begins = subst (λ now. HeadBegins now half.used units) is how.head;
+        begins = begins;
+        nothing = λ places.
+            ap (λ first. data_by case (first ++ places)) (sym none) ∙ content places
+            ∙ ap (λ first. data_by case first ++ []) none ∙ append-nil (data_by case []) ∙ by_none case;
       },
       subst (λ now. KnowsAt now (drop half.used stream.places)) is how.knows,
     )
@@ -456,12 +550,12 @@ body_knows_gap side half reading stream case units n some is stands =
 -- the gap goes on, and the side doesn't wait
 pub body_passes : (side : Side) (old new : Half) (reading next : Reading) (stream : Stream) (case : Case) (units : List MessageUnit) (unused n count after used : ℕ)
     → old.state ≡ state.Body reading → HalfStands side old stream case units → HasGapIn old stream unused count after → 0 < count
-    → Goes reading next n (gap_places old stream count) → n ≡ count → unused ≡ 0
+    → Goes reading next n (gap_places old stream count) → DataGoes reading.part next.part n (gap_places old stream count) → n ≡ count → unused ≡ 0
     → new.used ≡ old.used + n → new.ended ≡ old.ended → new.state ≡ state.Body next → used ≡ n
     → HalfStands side new stream case units × ((used ≡ 0) ↔ (case ≡ Held)) × (used ≡ 0 → next_in stream side case units ≡ None)
-body_passes side old new reading next stream case units unused n count after used is stands has some goes all none used_is ended then given = (
+body_passes side old new reading next stream case units unused n count after used is stands has some goes data_goes all none used_is ended then given = (
   body_goes side old new reading next stream case units (gap_places old stream count) (drop count (drop (old.used + unused) stream.places)) n is stands
-      (gap_split old stream unused count after has) goes (omega (arith, length-gap_places old stream unused count after has)) used_is ended then,
+      (gap_split old stream unused count after has) goes data_goes (omega (arith, length-gap_places old stream unused count after has)) used_is ended then,
   (λ zero. absurd (omega arith), λ held. absurd ((inside_is side old reading stream case units is stands).free held)),
   λ zero. absurd (omega arith),
 )

@@ -22,3 +22,4 @@ pub mod AnswerLaws
 pub mod StepLaws
 pub mod StandingLaws
 pub mod UnreadLaws
+pub mod DataLaws

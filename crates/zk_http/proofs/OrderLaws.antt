@@ -7,7 +7,8 @@ use Rattle.zk_base.specs.declared.network.Side.{Side}
 use Rattle.zk_base.specs.declared.network.Side.TheVariants.{Orig, Resp}
 use Rattle.zk_http.specs.declared.units.«Unit».{«Unit» as MessageUnit}
 use Rattle.zk_http.specs.Growth.{GoesOn, Grows, BothGrow, AreAll, AreFirstUnits, ArePatient}
-use Rattle.zk_http.specs.Places.{Stream, Both, of_side, other}
+use Rattle.zk_base.specs.Sides.{other}
+use Rattle.zk_http.specs.Places.{Stream, Both, of_side}
 use Rattle.zk_http.specs.Units.{next, next_patient, without_unpaired, is_unpaired, add, no_units, units_behind, patient_units}
 use Rattle.zk_http.proofs.GrowthLaws.{given_again}
 

@@ -23,19 +23,20 @@ use Rattle.zk_http.specs.declared.units.«Unit».{«Unit» as MessageUnit}
 use Rattle.zk_http.specs.declared.units.UnitKind.{UnitKind}
 use Rattle.zk_http.specs.declared.units.UnitKind.TheVariants as kind
 use Rattle.zk_http.specs.Bodies.{asked_by, holds_back, is_interim, request_body}
+use Rattle.zk_http.specs.BodyBytes.{data_by, data_in, first_places}
 use Rattle.zk_http.specs.Cases.{Case, Before, Within, Over, answers, behind, behind_request, between_requests, case_of, head_in, heads, until_answered}
-use Rattle.zk_http.specs.HalfStanding.{EndsMessage, HalfStands, IsDone, HeadBegins, HowStands, IsInside, between_case}
+use Rattle.zk_http.specs.HalfStanding.{EndsMessage, HalfStands, HoldsData, IsDone, HeadBegins, HowStands, IsInside, between_case}
 use Rattle.zk_http.specs.HalfTurns.{EndsAt, IsBehind, Moves}
 use Rattle.zk_http.specs.Pairing.{BehindHead, KeepsPairs, TakesHead, TakesRequest, TakesRequestKind, between_behind}
 use Rattle.zk_http.specs.Places.{Stream, Both}
-use Rattle.zk_http.specs.Reading.{Phase, Apart, Inside, Past, KnowsAt, KnowsIn, done_behind, means, means_at, phase_of}
+use Rattle.zk_http.specs.Reading.{Phase, Apart, Inside, Past, KnowsAt, KnowsIn, data_from, done_behind, means, means_at, phase_of}
 use Rattle.zk_http.specs.Reads.{Waits, Gives, and_then, any_places, gives, later}
 use Rattle.zk_http.specs.Standing.{StandsFor}
 use Rattle.zk_http.specs.Starts.{IsStart, state_behind}
 use Rattle.zk_http.specs.Units.{add, decide, decide_body, header_length, place, to_end}
 use Rattle.zk_http.proofs.CaseLaws.{IsSettled, case_settled}
 use Rattle.zk_http.proofs.FollowLaws.{same_then}
-use Rattle.zk_http.proofs.HalfLaws.{last_of, place_of_last}
+use Rattle.zk_http.proofs.HalfLaws.{in_none, last_of, none_first, place_of_last}
 
 -- ---- the other side
 
@@ -129,6 +130,15 @@ start_knows ToEnd start places is = subst (λ start. KnowsIn start places) (sym 
 start_knows Tunnels start places is = subst (λ start. KnowsIn start places) (sym is) tt
 start_knows (Unknown why) start places is = subst (λ start. KnowsIn start places) (sym is) tt
 
+-- and its places are those that are read
+start_data : (body : Body) (start : Part) (places : List Place) → IsStart body start → data_in body places ≡ data_from start places
+start_data Empty start places is = sym (ap (λ start. data_from start places) is)
+start_data (Length n) start places is = sym (ap (λ start. data_from start places) is)
+start_data Chunked start places is = sym (ap (λ start. data_from start places) is.1)
+start_data ToEnd start places is = sym (ap (λ start. data_from start places) is)
+start_data Tunnels start places is = sym (ap (λ start. data_from start places) is)
+start_data (Unknown why) start places is = sym (ap (λ start. data_from start places) is)
+
 pub body_stands : (side : Side) (half new : Half) (stream : Stream) (case : Case) (units : List MessageUnit) (unit : MessageUnit) (head : MessageHead) (body : Body)
     → unit.what ≡ kind.Head head → IsBehind half stream units unit → BehindHead half body new → case ≡ Within body
     → HalfStands side new stream case (units ++ unit ∷ [])
@@ -153,6 +163,14 @@ body_stands side half new stream case units unit head body is behind started cas
     at : place (units ++ unit ∷ []) ≡ new.used
     at = place_of_last units unit ∙ sym (subst (λ what. EndsAt half.used unit.place what) is behind.at) ∙ sym started.used
 
+    content : HoldsData new.used (state.Body reading) stream case (units ++ unit ∷ [])
+    content behind =
+        let none : first_places new.used stream (units ++ unit ∷ []) ≡ [] = none_first new.used stream (units ++ unit ∷ []) (sym at) in
+        subst (λ case. data_by case (first_places new.used stream (units ++ unit ∷ []) ++ behind)
+        ≡ data_by case (first_places new.used stream (units ++ unit ∷ [])) ++ data_from begins.0 behind) (sym case_is)
+        (subst (λ first. data_in body (first ++ behind) ≡ data_in body first ++ data_from begins.0 behind) (sym none)
+        (start_data body begins.0 behind begins.1 ∙ ap (λ first. first ++ data_from begins.0 behind) (sym (in_none body))))
+
     inside : IsInside side new stream case (units ++ unit ∷ [])
     inside = record {
       tells = record {
@@ -166,6 +184,7 @@ body_stands side half new stream case units unit head body is behind started cas
       };
       knows = subst (λ now. KnowsAt now (drop new.used stream.places)) (sym then) (start_knows body begins.0 (drop new.used stream.places) begins.1);
       head = subst (λ now. HeadBegins now new.used (units ++ unit ∷ [])) (sym then) tt;
+      content = subst (λ now. HoldsData new.used now stream case (units ++ unit ∷ [])) (sym then) content;
     }
 
 -- behind the end of a message

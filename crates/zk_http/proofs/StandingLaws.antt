@@ -1,6 +1,6 @@
 -- What a reader stands for stays when streams grow.
-use Rattle.std.proofs.Common.{◌≡◌, ℕ, ◌≤◌, List, ◌++◌, length, drop, refl, sym, ap, subst, ◌∙◌, arith, append_assoc, length-append, length-take}
-use Rattle.std.proofs.lemmas.List.{append-nil, drop-append-le}
+use Rattle.std.proofs.Common.{◌≡◌, ℕ, ◌≤◌, List, ◌++◌, length, take, drop, refl, sym, ap, subst, ◌∙◌, arith, append_assoc, length-append, length-take}
+use Rattle.std.proofs.lemmas.List.{append-nil, drop-append-le, take-append-le}
 use Rattle.zk_base.specs.Places.{Place, bytes_before_gap}
 use Rattle.zk_base.specs.declared.network.Side.{Side}
 use Rattle.zk_base.specs.declared.network.Side.TheVariants.{Orig, Resp}
@@ -11,11 +11,12 @@ use Rattle.zk_http.specs.declared.state.Part.TheVariants.{Places, ToEnd, Size, C
 use Rattle.zk_http.specs.declared.state.State.{State}
 use Rattle.zk_http.specs.declared.state.State.TheVariants.{Between, Head, Body, Over}
 use Rattle.zk_http.specs.declared.units.«Unit».{«Unit» as MessageUnit}
+use Rattle.zk_http.specs.BodyBytes.{data_by}
 use Rattle.zk_http.specs.Cases.{Case, case_of}
 use Rattle.zk_http.specs.Growth.{Grows}
 use Rattle.zk_http.specs.HalfStanding.{HalfStands, HowStands, IsInside}
 use Rattle.zk_http.specs.Places.{Stream, of_side}
-use Rattle.zk_http.specs.Reading.{Apart, Inside, KnowsAt, KnowsIn, Past, Phase, means_at, phase_of, seen_at, seen_in}
+use Rattle.zk_http.specs.Reading.{Apart, Inside, KnowsAt, KnowsIn, Past, Phase, data_at, means_at, phase_of, seen_at, seen_in}
 use Rattle.zk_http.specs.Reads.{later}
 use Rattle.zk_http.specs.Standing.{LookWithin, StandAsTheyGrow, half_of, is_told, seen_of, used_of}
 use Rattle.zk_http.specs.Units.{decide, header_length, place}
@@ -47,6 +48,9 @@ inside_grows side half early late case units grows within inside = record {
   };
   knows = subst (KnowsAt half.state) (sym more) (knows_at_grows half.state (drop half.used early.places) grows.behind inside.knows);
   head = inside.head;
+  content = λ behind.
+      subst (λ first. data_by case (first ++ behind) ≡ data_by case first ++ data_at half.state behind)
+      (ap (drop (place units)) (sym (ap (take half.used) grows.places ∙ take-append-le half.used early.places grows.behind within))) (inside.content behind);
 }
   where
     reached : place units ≤ length early.places

@@ -15,10 +15,11 @@ use Rattle.zk_http.specs.declared.units.«Unit».{«Unit» as MessageUnit}
 use Rattle.zk_http.specs.declared.units.UnitKind.{UnitKind}
 use Rattle.zk_http.specs.declared.units.UnitKind.TheVariants as kind
 use Rattle.zk_http.specs.Bodies.{asked_by}
+use Rattle.zk_http.specs.BodyBytes.{body_bytes, body_places}
 use Rattle.zk_http.specs.Cases.{Case, Before, Held, answers, behind, behind_request, behind_response, case_of, heads}
 use Rattle.zk_http.specs.HalfStanding.{EndsMessage, HalfStands, HowStands, IsDone, between_case, waits_in}
-use Rattle.zk_http.specs.HalfTurns.{HasGapIn, IsBetween, IsLentTo, Leaves, Moves, MovesOver}
-use Rattle.zk_http.specs.Pairing.{KeepsPairs, TakesRequest, TakesResponse}
+use Rattle.zk_http.specs.HalfTurns.{HasGapIn, IsBetween, IsLentTo, Leaves, Moves, MovesOver, bytes_in_first}
+use Rattle.zk_http.specs.Pairing.{KeepsPairs, TakesRequest, TakesRequestKind, TakesResponse, TakesResponseKind}
 use Rattle.zk_http.specs.Places.{Stream, Both, of_side}
 use Rattle.zk_http.specs.Reading.{Apart, phase_of, seen_at}
 use Rattle.zk_http.specs.Standing.{StandsFor, HasGap, HasRead, IsAll, IsLent, IsSame, between_of, between_responses, half_of, is_told, is_waiting, seen_of, used_of}
@@ -97,6 +98,34 @@ pub gap_told : (side : Side) (half : Half) (streams : Both Stream) (units : Both
 unfolding next
 gap_told side half streams units used None moves = (moves.1, moves.2)
 gap_told side half streams units used (Some unit) gave = gave.next
+
+-- ---- the bytes of a body
+
+-- those of a side's own
+pub side_bytes : (side : Side) (http : Http) (streams : Both Stream) (units : Both (List MessageUnit))
+    → body_bytes (used_of side http) side streams units ≡ bytes_in_first (half_of side http).used (of_side side streams) (case_of side units) (of_side side units)
+unfolding used_of body_places
+side_bytes side http streams units = refl
+
+pub request_used : (old new : Http) (half : Half) (found : Option MessageUnit) → TakesRequest old new half found → new.requests.used ≡ half.used
+request_used old new half None takes = ap (λ (half : Half). half.used) takes.0
+request_used old new half (Some unit) takes = by_kind unit.what takes
+  where
+    by_kind : (what : UnitKind) → TakesRequestKind old new half what → new.requests.used ≡ half.used
+    by_kind (kind.Head head) takes = takes.requests.used
+    by_kind (kind.Done body header gap) takes = ap (λ (half : Half). half.used) takes.0
+    by_kind kind.Tunnel takes = ap (λ (half : Half). half.used) takes.0
+    by_kind (kind.Violation why) takes = ap (λ (half : Half). half.used) takes.0
+
+pub response_used : (old new : Http) (half : Half) (found : Option MessageUnit) → TakesResponse old new half found → new.responses.used ≡ half.used
+response_used old new half None takes = ap (λ (half : Half). half.used) takes.0
+response_used old new half (Some unit) takes = by_kind unit.what takes
+  where
+    by_kind : (what : UnitKind) → TakesResponseKind old new half what → new.responses.used ≡ half.used
+    by_kind (kind.Head head) takes = takes.responses.used
+    by_kind (kind.Done body header gap) takes = ap (λ (half : Half). half.used) takes.0
+    by_kind kind.Tunnel takes = ap (λ (half : Half). half.used) takes.0
+    by_kind (kind.Violation why) takes = ap (λ (half : Half). half.used) takes.0
 
 -- ---- what is left
 

@@ -4,7 +4,8 @@ use Rattle.std.specs.List.{list_any}
 use Rattle.zk_base.specs.declared.network.Side.{Side}
 use Rattle.zk_http.specs.declared.units.«Unit».{«Unit» as MessageUnit}
 use Rattle.zk_base.specs.Places.{Place}
-use Rattle.zk_http.specs.Places.{Stream, Both, of_side, other}
+use Rattle.zk_base.specs.Sides.{other}
+use Rattle.zk_http.specs.Places.{Stream, Both, of_side}
 use Rattle.zk_http.specs.Units.{place, next, next_patient, is_unpaired, units_of, patient_units}
 
 -- the list goes on from the first one

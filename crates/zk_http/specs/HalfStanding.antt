@@ -12,9 +12,10 @@ use Rattle.zk_http.specs.declared.state.State.TheVariants as state
 use Rattle.zk_http.specs.declared.units.«Unit».{«Unit» as MessageUnit}
 use Rattle.zk_http.specs.declared.units.UnitKind.{UnitKind}
 use Rattle.zk_http.specs.declared.units.UnitKind.TheVariants as unit
+use Rattle.zk_http.specs.BodyBytes.{data_by, first_places}
 use Rattle.zk_http.specs.Cases.{Case, Before, Held, Over}
 use Rattle.zk_http.specs.Places.{Stream}
-use Rattle.zk_http.specs.Reading.{Phase, Apart, Inside, Past, phase_of, KnowsAt, head_unit, means_at}
+use Rattle.zk_http.specs.Reading.{Phase, Apart, Inside, Past, data_at, phase_of, KnowsAt, head_unit, means_at}
 use Rattle.zk_http.specs.Reads.{Reads, later}
 use Rattle.zk_http.specs.Units.{decide, header_length, place}
 
@@ -45,10 +46,16 @@ HeadBegins (Head search) used units = used ≡ place units
 HeadBegins (Body reading) used units = Unit {0}
 HeadBegins state.Over used units = Unit {0}
 
+-- Whatever comes behind the places that were used, the body's are those among these and those that are still to be read.
+abbrev pub HoldsData : ℕ → State → Stream → Case → List MessageUnit → Type 0
+HoldsData used state stream case units =
+    (behind : List Place) → data_by case (first_places used stream units ++ behind) ≡ data_by case (first_places used stream units) ++ data_at state behind
+
 pub record IsInside (side : Side) (half : Half) (stream : Stream) (case : Case) (units : List MessageUnit) : Type 0 where
   pub tells : TellsAs side half.used (means_at half.state side) stream case units
   pub knows : KnowsAt half.state (drop half.used stream.places)
   pub head : HeadBegins half.state half.used units
+  pub content : HoldsData half.used half.state stream case units
 
 abbrev pub HowStands : Phase → Side → Half → Stream → Case → List MessageUnit → Type 0
 HowStands Apart side half stream case units = (half.used ≡ place units) × EndsMessage (last_or None units)
@@ -61,12 +68,17 @@ pub record HalfStands (side : Side) (half : Half) (stream : Stream) (case : Case
   pub told : half.ended ≡ true → stream.ended ≡ true
   pub how : HowStands (phase_of half.state) side half stream case units
 
+-- no place is a body's
+abbrev pub HasNoData : Case → Type 0
+HasNoData case = (places : List Place) → data_by case places ≡ []
+
 -- a head is to be read
 pub record IsAtHead (side : Side) (half : Half) (stream : Stream) (case : Case) (units : List MessageUnit) : Type 0 where
   pub within : half.used ≤ length stream.places
   pub told : half.ended ≡ true → stream.ended ≡ true
   pub tells : TellsAs side half.used (λ _. head_unit side) stream case units
   pub begins : half.used ≡ place units
+  pub nothing : HasNoData case
 
 -- ---- between two messages
 

@@ -11,6 +11,7 @@ use Rattle.zk_http.specs.declared.state.State.TheVariants as state
 use Rattle.zk_http.specs.declared.units.«Unit».{«Unit» as MessageUnit}
 use Rattle.zk_http.specs.declared.units.UnitKind.{UnitKind}
 use Rattle.zk_http.specs.declared.units.UnitKind.TheVariants.{Head, Done, Tunnel, Violation}
+use Rattle.zk_http.specs.BodyBytes.{bytes_at, data_by, first_places}
 use Rattle.zk_http.specs.Cases.{Case, Held}
 use Rattle.zk_http.specs.HalfStanding.{HalfStands, between_case, waits_in}
 use Rattle.zk_http.specs.Places.{Stream}
@@ -90,6 +91,21 @@ pub record HalfTakes (old new : Half) (used given : ℕ) : Type 0 where
 -- where there is no unit, few bytes stay unused, and they were looked at, or wait for the other side
 abbrev pub Leaves : Half → Between → ℕ → Type 0
 Leaves half between left = (left ≤ 65536) × (waits_in (phase_of half.state) between ≡ false → seen_at half.state ≡ left)
+
+-- the bytes of the body that the side is in, as far as the first n places of its stream hold them
+abbrev pub bytes_in_first : ℕ → Stream → Case → List MessageUnit → List ℕ
+bytes_in_first n stream case units = bytes_at (data_by case (first_places n stream units))
+
+-- the unit is the head of a message
+abbrev pub IsHead : UnitKind → Type 0
+IsHead (Head head) = Unit {0}
+IsHead (Done body head gap) = ⊥
+IsHead Tunnel = ⊥
+IsHead (Violation reason) = ⊥
+
+abbrev pub GivesHead : Option MessageUnit → Type 0
+GivesHead None = ⊥
+GivesHead (Some unit) = IsHead unit.what
 
 -- The side reads the body that follows a head, where an empty one was read.
 abbrev pub StartsBody : Half → Body → Half → Type 0

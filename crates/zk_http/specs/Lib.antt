@@ -7,6 +7,7 @@ pub mod Bodies
 pub mod Chunks
 pub mod Cases
 pub mod Units
+pub mod BodyBytes
 pub mod Growth
 pub mod Grammar
 pub mod Reading

@@ -17,7 +17,3 @@ pub record Both (A : Type 0) : Type 0 where
 abbrev pub of_side : {A : Type 0} → Side → Both A → A
 of_side Orig both = both.orig
 of_side Resp both = both.resp
-
-abbrev pub other : Side → Side
-other Orig = Resp
-other Resp = Orig

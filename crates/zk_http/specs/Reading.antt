@@ -1,5 +1,5 @@
 -- What the state of a reader says of the places that follow.
-use Rattle.std.specs.Prelude.{ℕ, ◌+◌, Bool, List, length, take}
+use Rattle.std.specs.Prelude.{ℕ, ◌+◌, Bool, true, false, if◌then◌else◌, List, [], length, take}
 use Rattle.httparse.specs.Ascii.{line_feed}
 use Rattle.zk_base.specs.Places.{Place, gaps, bytes_before_gap}
 use Rattle.zk_base.specs.declared.network.Side.{Side}
@@ -12,6 +12,7 @@ use Rattle.zk_http.specs.declared.state.State.TheVariants.{Between, Head, Body, 
 use Rattle.zk_http.specs.declared.units.Reason.TheVariants.{ChunkBad}
 use Rattle.zk_http.specs.declared.units.UnitKind.{UnitKind}
 use Rattle.zk_http.specs.declared.units.UnitKind.TheVariants as what
+use Rattle.zk_http.specs.BodyBytes.{chunked_data, data_behind, data_left}
 use Rattle.zk_http.specs.Chunks.{Amount, chunk_line_limit, chunked, line_break, more, trailer}
 use Rattle.zk_http.specs.Heads.{head, head_limit}
 use Rattle.zk_http.specs.Reads.{Waits, Reads, ◌>>=◌, gives, refuses, any_places, exactly}
@@ -57,6 +58,41 @@ means_at Between side ended = λ _. Waits 0
 means_at (Head search) side ended = head_unit side
 means_at (Body reading) side ended = means reading ended
 means_at Over side ended = λ _. Waits 0
+
+-- ---- the body among the places that follow
+
+abbrev pub data_from : Part → List Place → List Place
+data_from (Places left) places = take left places
+data_from ToEnd places = places
+data_from (Size search) places = chunked_data places
+data_from (Chunk left) places = data_left chunked_data left places
+data_from Return places = data_behind (line_break places) (λ _. chunked_data) places
+data_from Feed places = data_behind (exactly line_feed ChunkBad places) (λ _. chunked_data) places
+data_from (Trailer search) places = []
+data_from Tunnel places = []
+data_from (Unknown why) places = []
+
+abbrev pub data_at : State → List Place → List Place
+data_at Between places = []
+data_at (Head search) places = []
+data_at (Body reading) places = data_from reading.part places
+data_at Over places = []
+
+-- the part holds the body itself, and no line of it
+abbrev pub is_data : Part → Bool
+is_data (Places left) = true
+is_data ToEnd = true
+is_data (Size search) = false
+is_data (Chunk left) = true
+is_data Return = false
+is_data Feed = false
+is_data (Trailer search) = false
+is_data Tunnel = false
+is_data (Unknown why) = false
+
+-- what of these places, which a part read, is the body's
+abbrev pub data_of_part : Part → List Place → List Place
+data_of_part part places = if is_data part then places else []
 
 -- ---- what was looked through
 

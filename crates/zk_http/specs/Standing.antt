@@ -13,7 +13,8 @@ use Rattle.zk_http.specs.declared.units.Head.{Head as MessageHead}
 use Rattle.zk_http.specs.declared.units.«Unit».{«Unit» as MessageUnit}
 use Rattle.zk_http.specs.Bodies.{asked_by}
 use Rattle.zk_http.specs.Cases.{Held, answers, between_requests, case_of, heads}
-use Rattle.zk_http.specs.Places.{Stream, Both, of_side, other}
+use Rattle.zk_base.specs.Sides.{other}
+use Rattle.zk_http.specs.Places.{Stream, Both, of_side}
 use Rattle.zk_http.specs.Growth.{BothGrow}
 use Rattle.zk_http.specs.HalfStanding.{HalfStands, between_case, waits_in}
 use Rattle.zk_http.specs.Reading.{phase_of, seen_at}

@@ -8,7 +8,7 @@ use Rattle.zk_http.specs.declared.turn.Turn.{Turn}
 use Rattle.zk_http.specs.declared.turn.Turn.TheVariants.{On, Waits, Tells}
 use Rattle.zk_http.specs.declared.units.UnitKind.{UnitKind}
 use Rattle.zk_http.specs.declared.units.UnitKind.TheVariants as kind
-use Rattle.zk_http.specs.Reading.{KnowsIn, means, bound_in, seen_in}
+use Rattle.zk_http.specs.Reading.{KnowsIn, data_from, data_of_part, means, bound_in, seen_in}
 use Rattle.zk_http.specs.Reads as reads
 use Rattle.zk_http.specs.Reads.{later}
 use Rattle.zk_http.specs.Units.{unit_at}
@@ -86,6 +86,30 @@ abbrev pub HasGapCounts : Reading → ℕ → ℕ → Turn → Type 0
 HasGapCounts old unused count (On n new) = (n ≡ count) × (unused ≡ 0) × Counts old new n count
 HasGapCounts old unused count (Waits n new) = (n ≡ count) × (unused ≡ 0) × Counts old new n count
 HasGapCounts old unused count (Tells n what) = (n ≤ unused + count) × IsNoHead what
+
+-- ---- the body's places
+
+-- how many places were read
+abbrev pub read_in : Turn → ℕ
+read_in (On n new) = n
+read_in (Waits n new) = n
+read_in (Tells n what) = n
+
+-- Of the places that one part read the body's are all or none, and whatever comes behind them, the others are those of the part
+-- that follows.
+abbrev pub HasData : Part → List Place → Turn → Type 0
+HasData old places (On n new) = (behind : List Place) → data_from old (take n places ++ behind) ≡ data_of_part old (take n places) ++ data_from new.part behind
+HasData old places (Waits n new) = (behind : List Place) → data_from old (take n places ++ behind) ≡ data_of_part old (take n places) ++ data_from new.part behind
+HasData old places (Tells n what) = data_from old (take n places) ≡ data_of_part old (take n places)
+
+-- Whatever comes behind these places, of which n were read, the body's are those of the first n and those of the part that follows.
+abbrev pub DataGoes : Part → Part → ℕ → List Place → Type 0
+DataGoes old new n places = (behind : List Place) → data_from old (take n places ++ behind) ≡ data_from old (take n places) ++ data_from new behind
+
+abbrev pub GoesOnWithData : Part → List Place → Turn → Type 0
+GoesOnWithData old places (On n new) = DataGoes old new.part n places
+GoesOnWithData old places (Waits n new) = DataGoes old new.part n places
+GoesOnWithData old places (Tells n what) = Unit {0}
 
 -- no other part begins behind it
 abbrev pub IsLast : Turn → Type 0

@@ -1,4 +1,4 @@
-ghost use Rattle.std.specs.Prelude.{◌≡◌, ℕ, ◌+◌, ◌-◌, ◌<◌, ◌≤◌, false, List, length, drop, min, None, Some, IfOk, IfNone, IfSome};
+ghost use Rattle.std.specs.Prelude.{◌≡◌, ℕ, ◌+◌, ◌-◌, ◌<◌, ◌≤◌, false, List, ◌++◌, length, drop, min, None, Some, IfOk, IfNone, IfSome, OnErr};
 ghost use Rattle.zk_base.specs.declared.network.Side.{Side as SideData};
 ghost use Rattle.zk_http.specs.Cases.{Case, Held};
 ghost use Rattle.zk_http.specs.Search.{Knows};
@@ -48,7 +48,7 @@ pub struct Half {
 
 impl Half {
     ghost use Rattle.zk_http.specs.HalfStanding.{HalfStands, IsAtHead, between_case, waits_if, waits_in};
-    ghost use Rattle.zk_http.specs.HalfTurns.{HalfTakes, HasGapIn, IsBetween, IsLentTo, Leaves, Moves, MovesOver, MovesWaiting, StartsBody};
+    ghost use Rattle.zk_http.specs.HalfTurns.{GivesHead, HalfTakes, HasGapIn, IsBetween, IsLentTo, Leaves, Moves, MovesOver, MovesWaiting, StartsBody, bytes_in_first};
     ghost use Rattle.zk_http.specs.Reading.{Inside, phase_of, searched};
 
     /// Nothing was used.
@@ -119,13 +119,15 @@ impl Half {
         }
     }
 
-    /// Reads bytes, from what was used on; behind a message what comes there is given.
-    pub fn bytes(
+    /// Reads bytes, from what was used on; behind a message what comes there is given. The body is given
+    /// its own of those that are used.
+    pub fn bytes<B: zk_base::Body>(
         self,
         alloc: Global,
         side: Side,
         between: Between,
         bytes: &[u8],
+        body: &mut B,
     ) -> Result<(Half, Step), Mem>
         requires seen { seen_at self.state ≤ length bytes.now }
         requires places { self.used + length bytes.now ≤ 2147483648 }
@@ -134,11 +136,18 @@ impl Half {
         ensures takes { IfOk result (λ moved. HalfTakes self moved.0 moved.1.used (length bytes.now)) }
         ensures place { IfOk result (λ moved. IfSome moved.1.unit (λ unit. unit.place ≡ moved.0.used)) }
         ensures leaves { IfOk result (λ moved. IfNone moved.1.unit (Leaves moved.0 between (length bytes.now - moved.1.used))) }
+        ensures given { IfOk result (λ moved. (stream : Stream) (case : Case) (units : List MessageUnit) → HalfStands side self stream case units
+            → IsLentTo self stream bytes.now → IsBetween self case between
+            → (before : List ℕ) → B.stands_for body.old (before ++ bytes_in_first self.used stream case units)
+            → B.stands_for body.new (before ++ bytes_in_first moved.0.used stream case units)) }
+        ensures heads { IfOk result (λ moved. GivesHead moved.1.unit → body.new ≡ body.old) }
+        ensures nothing { OnErr result (body.new ≡ body.old) }
+        ensures rest { B.rest body.new ≡ B.rest body.old }
     {
         match self.state {
             State::Between => self.begin(alloc, side, between, bytes),
             State::Head(search) => self.head(alloc, side, search, bytes),
-            State::Body(reading) => Ok(self.body(reading, bytes)),
+            State::Body(reading) => Ok(self.body(reading, bytes, body)),
             State::Over => Ok(self.on(bytes.len() as u64, State::Over)),
         }
     }
@@ -227,8 +236,8 @@ impl Half {
         }
     }
 
-    /// Reads what stands behind a head.
-    fn body(self, reading: Reading, bytes: &[u8]) -> (Half, Step)
+    /// Reads what stands behind a head; the body is given its own of the bytes that are used.
+    fn body<B: zk_base::Body>(self, reading: Reading, bytes: &[u8], body: &mut B) -> (Half, Step)
         requires seen { seen_at self.state ≤ length bytes.now }
         requires places { self.used + length bytes.now ≤ 2147483648 }
         requires state { self.state ≡ State.Body reading }
@@ -238,8 +247,14 @@ impl Half {
         ensures place { IfSome result.1.unit (λ unit. unit.place ≡ result.0.used) }
         ensures leaves { IfNone result.1.unit ((length bytes.now - result.1.used ≤ 65536)
             × (phase_of result.0.state ≡ Inside) × (seen_at result.0.state ≡ length bytes.now - result.1.used)) }
+        ensures given { (side : SideData) (stream : Stream) (case : Case) (units : List MessageUnit) → HalfStands side self stream case units
+            → IsLentTo self stream bytes.now
+            → (before : List ℕ) → B.stands_for body.old (before ++ bytes_in_first self.used stream case units)
+            → B.stands_for body.new (before ++ bytes_in_first result.0.used stream case units) }
+        ensures kind { IfSome result.1.unit (λ unit. IsNoHead unit.what) }
+        ensures rest { B.rest body.new ≡ B.rest body.old }
     {
-        match read_on(reading, self.ended, bytes) {
+        match read_on(reading, self.ended, bytes, body) {
             Turn::Tells { places, what } => self.told(places, 0, what),
             Turn::On { places, reading } => self.on(places, State::Body(reading)),
             Turn::Waits { places, reading } => self.on(places, State::Body(reading)),
@@ -259,6 +274,9 @@ impl Half {
         ensures place { IfSome result.1.unit (λ unit. result.1.used ≡ min (unit.place - self.used) (unused + places)) }
         ensures kind { IfSome result.1.unit (λ unit. IsNoHead unit.what) }
         ensures seen { seen_at result.0.state ≡ 0 }
+        ensures none { (side : SideData) (stream : Stream) (case : Case) (units : List MessageUnit) → HalfStands side self stream case units
+            → HasGapIn self stream unused places after → IsBetween self case between
+            → bytes_in_first result.0.used stream case units ≡ bytes_in_first self.used stream case units }
     {
         match self.state {
             State::Between => self.begin_in_gap(between, unused as u64, places, after),
@@ -317,6 +335,9 @@ impl Half {
         ensures place { IfSome result.1.unit (λ unit. result.1.used ≡ min (unit.place - self.used) (unused + places)) }
         ensures kind { IfSome result.1.unit (λ unit. IsNoHead unit.what) }
         ensures seen { seen_at result.0.state ≡ 0 }
+        ensures none { (side : SideData) (stream : Stream) (case : Case) (units : List MessageUnit) (after : ℕ) → HalfStands side self stream case units
+            → HasGapIn self stream unused places after
+            → bytes_in_first result.0.used stream case units ≡ bytes_in_first self.used stream case units }
     {
         match read_gap(reading, unused, places) {
             Turn::Tells { places, what } => self.told(places, 0, what),

@@ -1,11 +1,14 @@
-ghost use Rattle.std.specs.Prelude.{◌≡◌, ◌↔◌, ℕ, ◌+◌, ◌-◌, ◌<◌, ◌≤◌, true, false, List, length, min, None, Some, IfOk, IfNone, IfSome, OnOk, OnErr, MatchOption};
+ghost use Rattle.std.specs.Prelude.{◌≡◌, ◌↔◌, ℕ, ◌+◌, ◌-◌, ◌<◌, ◌≤◌, true, false, List, ◌++◌, length, min, None, Some, IfOk, IfNone, IfSome, OnOk, OnErr, MatchOption};
 ghost use Rattle.zk_base.specs.declared.network.Side.{Side as SideData};
 ghost use Rattle.zk_base.specs.declared.network.Side.TheVariants.{Orig, Resp};
 ghost use Rattle.zk_http.specs.declared.units.«Unit».{«Unit» as MessageUnit};
+ghost use Rattle.zk_http.specs.BodyBytes.{body_bytes};
 ghost use Rattle.zk_http.specs.Cases.{Held, case_of};
+ghost use Rattle.zk_http.specs.HalfTurns.{GivesHead};
 ghost use Rattle.zk_http.specs.HalfStanding.{between_case};
 ghost use Rattle.zk_http.specs.Pairing.{between_answered, between_behind};
-ghost use Rattle.zk_http.specs.Places.{Both, Stream, of_side, other};
+ghost use Rattle.zk_base.specs.Sides.{other};
+ghost use Rattle.zk_http.specs.Places.{Both, Stream, of_side};
 ghost use Rattle.zk_http.specs.Units.{add, next, no_units};
 
 use crate::body::{
@@ -15,7 +18,7 @@ use crate::half::{Between, Half};
 use crate::{Head, Step, UnitKind};
 use std::alloc::Global;
 use std::collections::VecDeque;
-use zk_base::{Mem, Side};
+use zk_base::{Mem, Nowhere, Side};
 
 /// The reader of both streams of a connection. It keeps how far each side was read, and of each request
 /// that waits for its response how it bears on it; never a byte of the streams.
@@ -100,9 +103,42 @@ impl Http {
         ensures unused { IfOk result (λ step. IfNone step.unit ((length bytes.now - step.used ≤ 65536) × HasRead Orig self.new (length bytes.now - step.used))) }
         ensures memory { OnErr result (IsSame self.old self.new) }
     {
+        self.request_bytes_to(bytes, &mut Nowhere)
+    }
+
+    /// Reads the bytes of the requests as `request_bytes` does, and gives the body of their message its bytes
+    /// among those that are used (RFC 9112, sections 6.3 and 7.1): of chunks their data alone. `Mem` leaves
+    /// the reader and the body as they were.
+    #[tactic(auto, unfolding(crate::specs::Standing::used_of, crate::specs::Standing::seen_of, crate::specs::Standing::is_told))]
+    pub fn request_bytes_to<B: zk_base::Body>(
+        &mut self,
+        bytes: &[u8],
+        body: &mut B,
+    ) -> Result<Step, Mem>
+        requires seen { seen_of Orig self.old ≤ length bytes.now }
+        requires places { used_of Orig self.old + length bytes.now ≤ 2147483648 }
+        // The unit that is told is the next one of the requests. There is none exactly where the streams so far free none.
+        ensures unit { IfOk result (λ step. (streams : Both Stream) (units : Both (List MessageUnit)) → StandsFor self.old streams units
+            → IsLent self.old Orig streams.orig bytes.now
+            → MatchOption step.unit (IsAll self.old Orig streams.orig bytes.now → next Orig streams units ≡ None) (λ unit. next Orig streams units ≡ Some unit)) }
+        ensures stands { IfOk result (λ step. (streams : Both Stream) (units : Both (List MessageUnit)) → StandsFor self.old streams units
+            → IsLent self.old Orig streams.orig bytes.now → StandsFor self.new streams (add Orig step.unit units)) }
+        ensures used { IfOk result (λ step. Takes Orig self.old self.new step.used (length bytes.now)) }
+        ensures place { IfOk result (λ step. IfSome step.unit (λ unit. unit.place ≡ used_of Orig self.new)) }
+        // Where there is no unit, few bytes stay unused, and the reader has looked at them or waits for the responses.
+        ensures unused { IfOk result (λ step. IfNone step.unit ((length bytes.now - step.used ≤ 65536) × HasRead Orig self.new (length bytes.now - step.used))) }
+        ensures memory { OnErr result (IsSame self.old self.new) }
+        // The body that held what it was before, and the bytes of the message's body in all that was used, holds those in all that is used now.
+        ensures body { IfOk result (λ step. (streams : Both Stream) (units : Both (List MessageUnit)) → StandsFor self.old streams units
+            → IsLent self.old Orig streams.orig bytes.now
+            → (before : List ℕ) → B.stands_for body.old (before ++ body_bytes (used_of Orig self.old) Orig streams units)
+            → B.stands_for body.new (before ++ body_bytes (used_of Orig self.new) Orig streams units)) }
+        ensures rest { B.rest body.new ≡ B.rest body.old }
+        ensures nothing { OnErr result (body.new ≡ body.old) }
+    {
         let (half, step) = self
             .requests
-            .bytes(self.alloc, Side::Orig, self.between, bytes)?;
+            .bytes(self.alloc, Side::Orig, self.between, bytes, body)?;
         self.take_request(half, step)
     }
 
@@ -125,10 +161,43 @@ impl Http {
         ensures unused { IfOk result (λ step. IfNone step.unit ((length bytes.now - step.used ≤ 65536) × HasRead Resp self.new (length bytes.now - step.used))) }
         ensures memory { OnErr result (IsSame self.old self.new) }
     {
+        self.response_bytes_to(bytes, &mut Nowhere)
+    }
+
+    /// Reads the bytes of the responses as `response_bytes` does, and gives the body of their message its bytes
+    /// among those that are used (RFC 9112, sections 6.3 and 7.1): of chunks their data alone. `Mem` leaves
+    /// the reader and the body as they were.
+    #[tactic(auto, unfolding(crate::specs::Standing::used_of, crate::specs::Standing::seen_of, crate::specs::Standing::is_told))]
+    pub fn response_bytes_to<B: zk_base::Body>(
+        &mut self,
+        bytes: &[u8],
+        body: &mut B,
+    ) -> Result<Step, Mem>
+        requires seen { seen_of Resp self.old ≤ length bytes.now }
+        requires places { used_of Resp self.old + length bytes.now ≤ 2147483648 }
+        // The unit that is told is the next one of the responses. There is none exactly where the streams so far free none.
+        ensures unit { IfOk result (λ step. (streams : Both Stream) (units : Both (List MessageUnit)) → StandsFor self.old streams units
+            → IsLent self.old Resp streams.resp bytes.now
+            → MatchOption step.unit (IsAll self.old Resp streams.resp bytes.now → next Resp streams units ≡ None) (λ unit. next Resp streams units ≡ Some unit)) }
+        ensures stands { IfOk result (λ step. (streams : Both Stream) (units : Both (List MessageUnit)) → StandsFor self.old streams units
+            → IsLent self.old Resp streams.resp bytes.now → StandsFor self.new streams (add Resp step.unit units)) }
+        ensures used { IfOk result (λ step. Takes Resp self.old self.new step.used (length bytes.now)) }
+        ensures place { IfOk result (λ step. IfSome step.unit (λ unit. unit.place ≡ used_of Resp self.new)) }
+        // Where there is no unit, few bytes stay unused, and the reader has looked at them or waits for the requests.
+        ensures unused { IfOk result (λ step. IfNone step.unit ((length bytes.now - step.used ≤ 65536) × HasRead Resp self.new (length bytes.now - step.used))) }
+        ensures memory { OnErr result (IsSame self.old self.new) }
+        // The body that held what it was before, and the bytes of the message's body in all that was used, holds those in all that is used now.
+        ensures body { IfOk result (λ step. (streams : Both Stream) (units : Both (List MessageUnit)) → StandsFor self.old streams units
+            → IsLent self.old Resp streams.resp bytes.now
+            → (before : List ℕ) → B.stands_for body.old (before ++ body_bytes (used_of Resp self.old) Resp streams units)
+            → B.stands_for body.new (before ++ body_bytes (used_of Resp self.new) Resp streams units)) }
+        ensures rest { B.rest body.new ≡ B.rest body.old }
+        ensures nothing { OnErr result (body.new ≡ body.old) }
+    {
         let between = self.between_responses();
         let (half, step) = self
             .responses
-            .bytes(self.alloc, Side::Resp, between, bytes)?;
+            .bytes(self.alloc, Side::Resp, between, bytes, body)?;
         Ok(self.take_response(half, step))
     }
 
@@ -151,6 +220,10 @@ impl Http {
         ensures used { Takes Orig self.old self.new result.used (unused + places) }
         ensures place { IfSome result.unit (λ unit. result.used ≡ min (unit.place - used_of Orig self.old) (unused + places)) }
         ensures seen { seen_of Orig self.new ≡ 0 }
+        // No byte of a body stands among what is used.
+        ensures body { (streams : Both Stream) (units : Both (List MessageUnit)) → StandsFor self.old streams units
+            → HasGap self.old Orig streams.orig unused places after
+            → body_bytes (used_of Orig self.new) Orig streams units ≡ body_bytes (used_of Orig self.old) Orig streams units }
     {
         let (half, step) = self.requests.gap(self.between, unused, places, after);
         self.requests = half;
@@ -176,6 +249,10 @@ impl Http {
         ensures used { Takes Resp self.old self.new result.used (unused + places) }
         ensures place { IfSome result.unit (λ unit. result.used ≡ min (unit.place - used_of Resp self.old) (unused + places)) }
         ensures seen { seen_of Resp self.new ≡ 0 }
+        // No byte of a body stands among what is used.
+        ensures body { (streams : Both Stream) (units : Both (List MessageUnit)) → StandsFor self.old streams units
+            → HasGap self.old Resp streams.resp unused places after
+            → body_bytes (used_of Resp self.new) Resp streams units ≡ body_bytes (used_of Resp self.old) Resp streams units }
     {
         let between = self.between_responses();
         let (half, step) = self.responses.gap(between, unused, places, after);
@@ -215,6 +292,7 @@ impl Http {
         ensures takes { OnOk result (TakesRequest self.old self.new half step.unit) }
         ensures rest { OnOk result (self.new.responses ≡ self.old.responses) }
         ensures memory { OnErr result ((self.new.requests ≡ self.old.requests) × (self.new.responses ≡ self.old.responses) × KeepsPairs self.old self.new) }
+        ensures head { OnErr result (GivesHead step.unit) }
     {
         if let Some(unit) = &step.unit {
             if let UnitKind::Head(head) = &unit.what {

@@ -1,5 +1,5 @@
 ghost use Rattle.std.specs.Prelude.{◌≡◌, ◌+◌, ◌<◌, ◌≤◌, ◌^◌};
-ghost use Rattle.zk_http.specs.Reading.{bound_in, seen_in};
+ghost use Rattle.zk_http.specs.Reading.{bound_in, is_data, seen_in};
 ghost use Rattle.zk_http.specs.Starts.{IsStart, state_behind};
 
 use crate::body::Body;
@@ -82,6 +82,13 @@ impl Part {
             Body::Tunnels => Part::Tunnel,
             Body::Unknown(why) => Part::Unknown(why),
         }
+    }
+
+    /// Whether the part holds the body itself, and no line of it.
+    pub fn is_data(self) -> bool
+        ensures { result ≡ is_data self }
+    {
+        matches!(self, Part::Places(_) | Part::ToEnd | Part::Chunk(_))
     }
 }
 

@@ -1,16 +1,18 @@
 ghost use Rattle.std.specs.Prelude.{◌≡◌, ℕ, ◌+◌, ◌-◌, ◌<◌, ◌≤◌, Bool, List, length, if◌then◌else◌};
-ghost use Rattle.std.specs.Prelude.{◌++◌, take, replicate, false, None};
+ghost use Rattle.std.specs.Prelude.{[], ◌++◌, take, replicate, false, None};
 ghost use Rattle.zk_base.specs.Places.{Place};
 ghost use Rattle.zk_http.specs.Chunks.{chunk_line_limit};
 ghost use Rattle.zk_http.specs.Heads.{head_limit};
-ghost use Rattle.zk_http.specs.Reading.{KnowsIn, bound_in, seen_in};
+ghost use Rattle.zk_http.specs.BodyBytes.{bytes_at};
+ghost use Rattle.zk_http.specs.Reading.{KnowsIn, bound_in, data_from, seen_in};
 ghost use Rattle.zk_http.specs.Search.{Knows};
-ghost use Rattle.zk_http.specs.Turns.{AreAlike, HasCounts, HasGapCounts, IsLast, IsTurn, PassesAll, places_of};
+ghost use Rattle.zk_http.specs.Turns.{AreAlike, GoesOnWithData, HasCounts, HasData, HasGapCounts, IsLast, IsTurn, PassesAll, places_of, read_in};
 
 use crate::chunk::size_of;
 use crate::search::{Ending, Found, Search};
 use crate::state::{Part, Reading};
 use crate::{Reason, UnitKind};
+use zk_base::Body;
 
 /// What the places that follow a head come to.
 #[derive(Debug, Drop)]
@@ -21,6 +23,19 @@ pub enum Turn {
     Waits { places: u64, reading: Reading },
     /// So many of them show this.
     Tells { places: u64, what: UnitKind },
+}
+
+impl Turn {
+    /// How many places were read.
+    fn places(&self) -> u64
+        ensures { result ≡ read_in self.now }
+    {
+        match self {
+            Turn::On { places, .. } => *places,
+            Turn::Waits { places, .. } => *places,
+            Turn::Tells { places, .. } => *places,
+        }
+    }
 }
 
 const RETURN: u8 = b'\r';
@@ -35,6 +50,7 @@ pub fn read_bytes(reading: Reading, ended: bool, bytes: &[u8]) -> Turn
     requires most { seen_in reading.part < bound_in reading.part }
     ensures turn { KnowsIn reading.part (places_of bytes.now) → IsTurn reading ended (places_of bytes.now) result }
     ensures counts { HasCounts reading (length bytes.now) result }
+    ensures content { KnowsIn reading.part (places_of bytes.now) → HasData reading.part (places_of bytes.now) result }
 {
     let count = bytes.len() as u64;
     match reading.part {
@@ -50,8 +66,28 @@ pub fn read_bytes(reading: Reading, ended: bool, bytes: &[u8]) -> Turn
     }
 }
 
-/// What bytes come to, part after part.
-pub fn read_on(reading: Reading, ended: bool, bytes: &[u8]) -> Turn
+/// What bytes come to, of which the body is given its own.
+fn read_part<B: Body>(reading: Reading, ended: bool, bytes: &[u8], body: &mut B) -> Turn
+    requires body { reading.body + length bytes.now ≤ 2147483648 }
+    requires gap { reading.gap + length bytes.now ≤ 2147483648 }
+    requires seen { seen_in reading.part ≤ length bytes.now }
+    requires most { seen_in reading.part < bound_in reading.part }
+    ensures turn { KnowsIn reading.part (places_of bytes.now) → IsTurn reading ended (places_of bytes.now) result }
+    ensures counts { HasCounts reading (length bytes.now) result }
+    ensures content { KnowsIn reading.part (places_of bytes.now) → GoesOnWithData reading.part (places_of bytes.now) result }
+    ensures given { KnowsIn reading.part (places_of bytes.now) → (before : List ℕ) → B.stands_for body.old before
+        → B.stands_for body.new (before ++ bytes_at (data_from reading.part (take (read_in result) (places_of bytes.now)))) }
+    ensures rest { B.rest body.new ≡ B.rest body.old }
+{
+    let turn = read_bytes(reading, ended, bytes);
+    if reading.part.is_data() {
+        body.add(&bytes[..turn.places() as usize]);
+    }
+    turn
+}
+
+/// What bytes come to, part after part; the body is given its own.
+pub fn read_on<B: Body>(reading: Reading, ended: bool, bytes: &[u8], body: &mut B) -> Turn
     requires body { reading.body + length bytes.now ≤ 2147483648 }
     requires gap { reading.gap + length bytes.now ≤ 2147483648 }
     requires seen { seen_in reading.part ≤ length bytes.now }
@@ -59,11 +95,15 @@ pub fn read_on(reading: Reading, ended: bool, bytes: &[u8]) -> Turn
     ensures turn { KnowsIn reading.part (places_of bytes.now) → IsTurn reading ended (places_of bytes.now) result }
     ensures counts { HasCounts reading (length bytes.now) result }
     ensures ends { IsLast result }
+    ensures content { KnowsIn reading.part (places_of bytes.now) → GoesOnWithData reading.part (places_of bytes.now) result }
+    ensures given { KnowsIn reading.part (places_of bytes.now) → (before : List ℕ) → B.stands_for body.old before
+        → B.stands_for body.new (before ++ bytes_at (data_from reading.part (take (read_in result) (places_of bytes.now)))) }
+    ensures rest { B.rest body.new ≡ B.rest body.old }
 {
     let mut reading = reading;
     let mut used = 0;
     'parts: loop {
-        match read_bytes(reading, ended, &bytes[used..]) {
+        match read_part(reading, ended, &bytes[used..], body) {
             Turn::On {
                 places,
                 reading: next,
@@ -97,6 +137,10 @@ pub fn read_gap(reading: Reading, unused: u64, count: u64) -> Turn
     ensures turn { (told : Bool) (bytes : List ℕ) → length bytes ≡ unused → KnowsIn reading.part (places_of bytes ++ replicate count None)
         → IsTurn reading told (places_of bytes ++ replicate count None) result }
     ensures counts { HasGapCounts reading unused count result }
+    ensures content { (bytes : List ℕ) → length bytes ≡ unused → KnowsIn reading.part (places_of bytes ++ replicate count None)
+        → GoesOnWithData reading.part (places_of bytes ++ replicate count None) result }
+    ensures none { (bytes : List ℕ) → length bytes ≡ unused → KnowsIn reading.part (places_of bytes ++ replicate count None)
+        → bytes_at (data_from reading.part (take (read_in result) (places_of bytes ++ replicate count None))) ≡ [] }
 {
     match reading.part {
         Part::Places(left) => in_places(reading, left, count, true),
@@ -148,6 +192,7 @@ fn in_places(reading: Reading, left: u64, count: u64, is_gap: bool) -> Turn
         → IsTurn reading told places result }
     ensures counts { HasCounts reading count result }
     ensures all { PassesAll count count result }
+    ensures content { (places : List Place) → length places ≡ count → HasData reading.part places result }
 {
     if left <= count {
         return Turn::Tells {
@@ -171,6 +216,7 @@ fn to_end(reading: Reading, ended: bool, count: u64) -> Turn
     ensures turn { (places : List Place) → length places ≡ count → AreAlike false places
         → IsTurn reading ended places result }
     ensures counts { HasCounts reading count result }
+    ensures content { (places : List Place) → length places ≡ count → HasData reading.part places result }
 {
     let reading = reading.behind(count, 0);
     if ended {
@@ -195,6 +241,7 @@ fn in_chunk(reading: Reading, left: u64, count: u64, is_gap: bool) -> Turn
         → IsTurn reading told places result }
     ensures counts { HasCounts reading count result }
     ensures all { PassesAll left count result }
+    ensures content { (places : List Place) → length places ≡ count → HasData reading.part places result }
 {
     if left <= count {
         return Turn::On {
@@ -215,6 +262,7 @@ fn line_return(reading: Reading, bytes: &[u8]) -> Turn
     requires { reading.part ≡ Part.Return }
     ensures turn { (told : Bool) → IsTurn reading told (places_of bytes.now) result }
     ensures counts { HasCounts reading (length bytes.now) result }
+    ensures content { HasData reading.part (places_of bytes.now) result }
 {
     match bytes.first() {
         None => Turn::Waits { places: 0, reading },
@@ -234,6 +282,7 @@ fn line_feed(reading: Reading, bytes: &[u8]) -> Turn
     requires { reading.part ≡ Part.Feed }
     ensures turn { (told : Bool) → IsTurn reading told (places_of bytes.now) result }
     ensures counts { HasCounts reading (length bytes.now) result }
+    ensures content { HasData reading.part (places_of bytes.now) result }
 {
     match bytes.first() {
         None => Turn::Waits { places: 0, reading },
@@ -256,6 +305,7 @@ fn size(reading: Reading, search: Search, bytes: &[u8]) -> Turn
     ensures turn { (told : Bool) → Knows search Ending.Line (take chunk_line_limit bytes.now)
         → IsTurn reading told (places_of bytes.now) result }
     ensures counts { HasCounts reading (length bytes.now) result }
+    ensures content { Knows search Ending.Line (take chunk_line_limit bytes.now) → HasData reading.part (places_of bytes.now) result }
 {
     match search.find_within(Ending::Line, bytes) {
         Found::Ends { len, .. } => match size_of(&bytes[..len]) {
@@ -291,6 +341,7 @@ fn trailer(reading: Reading, search: Search, bytes: &[u8]) -> Turn
     ensures turn { (told : Bool) → Knows search Ending.Section (take head_limit bytes.now)
         → IsTurn reading told (places_of bytes.now) result }
     ensures counts { HasCounts reading (length bytes.now) result }
+    ensures content { HasData reading.part (places_of bytes.now) result }
 {
     match search.find_within(Ending::Section, bytes) {
         Found::Ends { len, .. } => Turn::Tells {
@@ -316,6 +367,7 @@ fn chunk_in_gap(reading: Reading, left: u64, count: u64) -> Turn
     ensures turn { (told : Bool) → IsTurn reading told (replicate count None) result }
     ensures counts { HasCounts reading count result }
     ensures all { PassesAll count count result }
+    ensures content { GoesOnWithData reading.part (replicate count None) result }
 {
     if left < count {
         Turn::Tells {

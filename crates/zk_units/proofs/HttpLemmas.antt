@@ -10,7 +10,8 @@ use Rattle.zk_http.specs.declared.http.Http.{Http}
 use Rattle.zk_http.specs.declared.units.Step.{Step}
 use Rattle.zk_http.specs.declared.units.«Unit».{«Unit» as HttpUnit}
 use Rattle.zk_http.specs.Cases.{Held, case_of}
-use Rattle.zk_http.specs.Places.{Both, Stream, of_side, other}
+use Rattle.zk_base.specs.Sides.{other}
+use Rattle.zk_http.specs.Places.{Both, Stream, of_side}
 use Rattle.zk_http.specs.Standing.{HasGap, HasRead, IsAll, IsLent, IsSame, StandsFor, Takes, is_told, seen_of, used_of}
 use Rattle.zk_http.specs.Units.{add, next}
 use Rattle.zk_http.proofs.StandingLaws.{look_within}

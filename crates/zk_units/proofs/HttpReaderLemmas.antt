@@ -10,7 +10,8 @@ use Rattle.zk_base.specs.declared.network.Side.TheVariants.{Orig, Resp}
 use Rattle.zk_http.specs.declared.http.Http.{Http}
 use Rattle.zk_http.specs.declared.units.«Unit».{«Unit» as HttpUnit}
 use Rattle.zk_http.specs.Growth.{Grows}
-use Rattle.zk_http.specs.Places.{Both, Stream, of_side, other}
+use Rattle.zk_base.specs.Sides.{other}
+use Rattle.zk_http.specs.Places.{Both, Stream, of_side}
 use Rattle.zk_http.specs.Standing.{StandsFor, is_told, used_of}
 use Rattle.zk_http.specs.Units.{next, unread as not_read}
 use Rattle.zk_http.proofs.StandingLaws.{look_within, stand_as_they_grow}

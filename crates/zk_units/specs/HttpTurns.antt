@@ -5,7 +5,8 @@ use Rattle.zk_base.specs.ByteQueue.{bytes_of}
 use Rattle.zk_base.specs.declared.network.Side.{Side}
 use Rattle.zk_http.specs.declared.http.Http.{Http}
 use Rattle.zk_http.specs.declared.units.«Unit».{«Unit» as HttpUnit}
-use Rattle.zk_http.specs.Places.{Both, Stream, of_side, other}
+use Rattle.zk_base.specs.Sides.{other}
+use Rattle.zk_http.specs.Places.{Both, Stream, of_side}
 use Rattle.zk_http.specs.Standing.{StandsFor, used_of, seen_of, is_told}
 use Rattle.zk_http.specs.Units.{add, next, unread as not_read}
 use Rattle.zk_units.specs.declared.http.Reading.{Reading}

@@ -8,7 +8,8 @@ use Rattle.zk_base.specs.declared.network.Side.{Side}
 use Rattle.zk_base.specs.declared.network.Side.TheVariants.{Orig, Resp}
 use Rattle.zk_dns.specs.Stream as dns
 use Rattle.zk_http.specs.declared.units.«Unit».{«Unit» as HttpUnit}
-use Rattle.zk_http.specs.Places.{Both, Stream, of_side, other}
+use Rattle.zk_base.specs.Sides.{other}
+use Rattle.zk_http.specs.Places.{Both, Stream, of_side}
 use Rattle.zk_http.specs.Units.{add, next, unread as not_read}
 use Rattle.zk_http.specs.Standing as http
 use Rattle.zk_units.specs.declared.dns.DnsReader.{DnsReader}

@@ -11,7 +11,8 @@ use Rattle.zk_dns.specs.declared.record.DnsRecord.{DnsRecord}
 use Rattle.zk_dns.specs.Record.{record_of}
 use Rattle.zk_dns.specs.Stream as dns
 use Rattle.zk_http.specs.declared.units.«Unit».{«Unit» as HttpUnit}
-use Rattle.zk_http.specs.Places.{Both, Stream, of_side, other}
+use Rattle.zk_base.specs.Sides.{other}
+use Rattle.zk_http.specs.Places.{Both, Stream, of_side}
 use Rattle.zk_http.specs.Units as http
 use Rattle.zk_units.specs.declared.protocol.Protocol.{Protocol}
 use Rattle.zk_units.specs.declared.protocol.Protocol.TheVariants as speaks

@@ -1,6 +1,7 @@
 ghost use Rattle.std.specs.Prelude.{◌≡◌, ◌≤◌, ◌+◌, true, List, length, Option, IfOk, OnOk};
 ghost use Rattle.zk_base.specs.declared.network.Side.{Side as SideData};
-ghost use Rattle.zk_http.specs.Places.{Both, Stream, of_side, other};
+ghost use Rattle.zk_base.specs.Sides.{other};
+ghost use Rattle.zk_http.specs.Places.{Both, Stream, of_side};
 ghost use Rattle.zk_units.specs.Cuts.{byte_places, gap_places};
 ghost use Rattle.zk_units.specs.Standing.{BothTurn, Gets, Reads, StandsFor, Turn, ended_by, held_in, no_streams, with_stream};
 ghost use Rattle.zk_units.specs.Units.{no_units};

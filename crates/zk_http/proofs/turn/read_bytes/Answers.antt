@@ -38,3 +38,18 @@ returns-in-Trailer-clause-turn c knows =
     c.trailer.ensures.turn c.args.ended
     (subst (λ all. Knows c.in-Trailer.search ending.Section (take head_limit all)) (before_gap-places c.args.bytes.now)
     (subst (λ part. KnowsIn part (places_of c.args.bytes.now)) c.in-Trailer.is knows))
+
+pub returns-in-Size-clause-content : goal.returns-in-Size-clause-content
+returns-in-Size-clause-content c knows =
+    c.size.ensures.content
+    (subst (λ all. Knows c.in-Size.search ending.Line (take chunk_line_limit all)) (before_gap-places c.args.bytes.now)
+    (subst (λ part. KnowsIn part (places_of c.args.bytes.now)) c.in-Size.is knows))
+
+pub returns-in-Places-clause-content : goal.returns-in-Places-clause-content
+returns-in-Places-clause-content c knows = c.in_places.ensures.content (places_of c.args.bytes.now) (length-places c.args.bytes.now)
+
+pub returns-in-ToEnd-clause-content : goal.returns-in-ToEnd-clause-content
+returns-in-ToEnd-clause-content c knows = c.to_end.ensures.content (places_of c.args.bytes.now) (length-places c.args.bytes.now)
+
+pub returns-in-Chunk-clause-content : goal.returns-in-Chunk-clause-content
+returns-in-Chunk-clause-content c knows = c.in_chunk.ensures.content (places_of c.args.bytes.now) (length-places c.args.bytes.now)

@@ -1,8 +1,9 @@
 use Rattle.std.proofs.Common.{◌≡◌, false, sym, ap, ◌∙◌, arith}
+use Rattle.zk_http.specs.BodyBytes.{data_by}
 use Rattle.zk_http.specs.HalfStanding.{waits_in}
 use Rattle.zk_http.specs.Heads.{head_limit}
 use Rattle.zk_http.specs.Reading.{bound_at, phase_of, seen_at}
-use Rattle.zk_http.proofs.HalfLaws.{goes_on_head, nowhere_known}
+use Rattle.zk_http.proofs.HalfLaws.{between_none, goes_on_head, no_bytes_same, nowhere_known, over_is}
 use Rattle.zk_http.proofs.half.Half.gap.Goals as goal
 
 pub returns-in-Head-clause-moves : goal.returns-in-Head-clause-moves
@@ -18,3 +19,20 @@ returns-in-Head-clause-moves c side stream case units stands has is =
 
 pub returns-in-Body-clause-moves : goal.returns-in-Body-clause-moves
 returns-in-Body-clause-moves c side stream case units stands has is = c.body_in_gap.ensures.moves side stream case units c.args.after stands has
+
+pub returns-in-Head-clause-none : goal.returns-in-Head-clause-none
+returns-in-Head-clause-none c side stream case units stands has is =
+    let both = goes_on_head side c.args.self c.in-Head.field-0 stream case units c.in-Head.is stands in
+    no_bytes_same case stream units c.head_in_gap.result.0.used c.args.self.used both.0.nothing
+
+pub returns-in-Body-clause-none : goal.returns-in-Body-clause-none
+returns-in-Body-clause-none c side stream case units stands has is = c.body_in_gap.ensures.none side stream case units c.args.after stands has
+
+pub returns-in-Between-clause-none : goal.returns-in-Between-clause-none
+returns-in-Between-clause-none c side stream case units stands has is =
+    no_bytes_same case stream units c.begin_in_gap.result.0.used c.args.self.used (between_none case c.args.between (is (ap phase_of c.in-Between.is)))
+
+pub returns-in-Over-clause-none : goal.returns-in-Over-clause-none
+returns-in-Over-clause-none c side stream case units stands has is =
+    let over = over_is side c.args.self stream case units c.in-Over.is stands in
+    no_bytes_same case stream units c.on.result.0.used c.args.self.used (λ places. ap (λ case. data_by case places) over)

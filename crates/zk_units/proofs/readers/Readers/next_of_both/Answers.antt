@@ -1,5 +1,5 @@
 use Rattle.std.proofs.Common.{None}
-use Rattle.zk_http.specs.Places.{other}
+use Rattle.zk_base.specs.Sides.{other}
 use Rattle.zk_units.proofs.ReaderLemmas.{both_second, turn_silent}
 use Rattle.zk_units.proofs.readers.Readers.next_of_both.Goals as goal
 

@@ -65,7 +65,7 @@ size_same others again zero places same = refl
 size_same others again (suc n) places same = left_same others again (suc n) places same
 
 -- counts of chunks that are enough agree
-agree : (count again : ℕ) (places : List Place) → length places < count → length places < again
+pub agree : (count again : ℕ) (places : List Place) → length places < count → length places < again
     → data_of_chunks count places ≡ data_of_chunks again places
 agree zero again places few fewer = absurd (omega arith)
 agree (suc count) zero places few fewer = absurd (omega arith)

@@ -1,11 +1,10 @@
 -- What has come of a body stays when more places come.
-use Rattle.std.proofs.Common.{◌≡◌, ℕ, zero, suc, ◌+◌, ◌≤◌, List, [], ◌∷◌, ◌++◌, length, take, drop, refl, sym, ap, ◌∙◌, arith, length-append}
+use Rattle.std.proofs.Common.{◌≡◌, ℕ, zero, suc, ◌+◌, ◌≤◌, List, [], ◌∷◌, ◌++◌, length, take, drop, refl, ap, ◌∙◌, arith, length-append}
 use Rattle.std.proofs.lemmas.List.{drop-append-le}
 use Rattle.zk_base.specs.Places.{Place}
-use Rattle.zk_base.specs.declared.network.Side.{Side}
 use Rattle.zk_http.specs.declared.body.Body.{Body}
 use Rattle.zk_http.specs.declared.body.Body.TheVariants.{Empty, Length, Chunked, ToEnd, Tunnels, Unknown}
-use Rattle.zk_http.specs.BodyBytes.{BodiesGrow, body_places, chunked_data, data_behind, data_by, data_in, data_left, data_of_chunks, data_of_size, first_places}
+use Rattle.zk_http.specs.BodyBytes.{BodiesGrow, body_places, chunked_data, data_behind, data_by, data_in, data_left, data_of_chunks, data_of_size}
 use Rattle.zk_http.specs.Cases.{Case, Before, Within, Held, Over, case_of}
 use Rattle.zk_http.specs.Chunks.{chunk_line, line_break}
 use Rattle.zk_http.specs.Growth.{GoesOn}

@@ -1,5 +1,5 @@
 -- What of the places that follow is the body's, part by part.
-use Rattle.std.proofs.Common.{◌≡◌, ℕ, zero, suc, ◌+◌, ◌-◌, ◌<◌, ◌≤◌, Bool, true, false, cond, List, [], ◌∷◌, ◌++◌, length, take, drop, replicate, Option, None, Some, refl, sym, ap, subst, ◌∙◌, arith, append_assoc, length-append, length-take, length-drop}
+use Rattle.std.proofs.Common.{◌≡◌, ℕ, zero, suc, ◌+◌, ◌-◌, ◌<◌, ◌≤◌, Bool, true, false, cond, List, [], ◌∷◌, ◌++◌, length, take, drop, replicate, None, Some, refl, sym, ap, subst, ◌∙◌, arith, append_assoc, length-take, length-drop}
 use Rattle.std.proofs.lemmas.List.{append-nil, take-take}
 use Rattle.std.proofs.lemmas.List.Elements.{filter_map-append}
 use Rattle.std.proofs.Math.Seq.{drop-append-add, drop-append_seam, take-add, take-append-add, take-length}
@@ -65,7 +65,7 @@ size_same others again zero places same = refl
 size_same others again (suc n) places same = left_same others again (suc n) places same
 
 -- counts of chunks that are enough agree
-agree : (count again : ℕ) (places : List Place) → length places < count → length places < again
+pub agree : (count again : ℕ) (places : List Place) → length places < count → length places < again
     → data_of_chunks count places ≡ data_of_chunks again places
 agree zero again places few fewer = absurd (omega arith)
 agree (suc count) zero places few fewer = absurd (omega arith)

@@ -23,3 +23,4 @@ pub mod StepLaws
 pub mod StandingLaws
 pub mod UnreadLaws
 pub mod DataLaws
+pub mod BodyLaws

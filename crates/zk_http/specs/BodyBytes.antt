@@ -1,6 +1,6 @@
 -- The bytes of a message's body: those at the places that count as the body, in their order. Gaps are left out (RFC 9112,
 -- sections 6.3 and 7.1).
-use Rattle.std.specs.Prelude.{ℕ, zero, suc, ◌+◌, List, [], ◌++◌, length, take, drop, filter_map}
+use Rattle.std.specs.Prelude.{ℕ, zero, suc, ◌+◌, ◌≤◌, List, [], ◌++◌, length, take, drop, filter_map}
 use Rattle.zk_base.specs.Places.{Place}
 use Rattle.zk_base.specs.declared.network.Side.{Side}
 use Rattle.zk_http.specs.declared.body.Body.{Body}
@@ -8,6 +8,7 @@ use Rattle.zk_http.specs.declared.body.Body.TheVariants.{Empty, Length, Chunked,
 use Rattle.zk_http.specs.declared.units.«Unit».{«Unit» as MessageUnit}
 use Rattle.zk_http.specs.Cases.{Case, Before, Within, Held, Over, case_of}
 use Rattle.zk_http.specs.Chunks.{chunk_line, line_break}
+use Rattle.zk_http.specs.Growth.{GoesOn, Grows}
 use Rattle.zk_http.specs.Places.{Stream, Both, of_side}
 use Rattle.zk_http.specs.Reads.{Answer, Waits, Gives, Refuses}
 use Rattle.zk_http.specs.Units.{place}
@@ -71,3 +72,11 @@ bytes_at places = filter_map (λ place. place) places
 -- the bytes of the body that a side is in, as far as the first n places of its stream hold them
 abbrev pub body_bytes : ℕ → Side → Both Stream → Both (List MessageUnit) → List ℕ
 body_bytes n side streams units = bytes_at (body_places n side streams units)
+
+-- ---- laws
+
+-- What has come of a body stays when its stream grows, and goes on with more places.
+abbrev pub BodiesGrow : Type 0
+BodiesGrow =
+    (side : Side) (early late : Both Stream) (units : Both (List MessageUnit)) (n m : ℕ) → Grows (of_side side early) (of_side side late) → n ≤ m
+    → GoesOn (body_places n side early units) (body_places m side late units)

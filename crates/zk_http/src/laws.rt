@@ -1,3 +1,4 @@
+ghost use Rattle.zk_http.specs.BodyBytes.{BodiesGrow};
 ghost use Rattle.zk_http.specs.Grammar.{AreRequests, AreResponses, AreSizes};
 ghost use Rattle.zk_http.specs.Growth.{AreFirstUnits, ArePatient, IsGivenAgain, IsInStream};
 ghost use Rattle.zk_http.specs.Standing.{LookWithin, StandAsTheyGrow, UseWhatIsRead};
@@ -43,4 +44,10 @@ pub fn readers_stand()
 
     // A side without a further unit, that waits for the other or was looked through, has used all that is read.
     ensures uses { UseWhatIsRead }
+{}
+
+/// What the bytes of a body are as streams come, in the subject's own words. There is nothing to run.
+pub fn bodies_stand()
+    // What has come of a body stays when its stream grows, and goes on with more places.
+    ensures grows { BodiesGrow }
 {}

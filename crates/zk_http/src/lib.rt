@@ -13,5 +13,5 @@ mod turn;
 mod units;
 
 pub use http::Http;
-pub use laws::{heads_and_chunk_lines, readers_stand, units_stay};
+pub use laws::{bodies_stand, heads_and_chunk_lines, readers_stand, units_stay};
 pub use units::{Head, Reason, Start, Step, Unit, UnitKind};

@@ -1,6 +1,6 @@
-use Rattle.std.proofs.Common.{◌≡◌, List, [], ◌++◌, take, sym, ap, subst, ◌∙◌, true, false}
+use Rattle.std.proofs.Common.{◌++◌, take, sym, ap, subst, ◌∙◌, true, false}
 use Rattle.std.proofs.lemmas.List.{append-nil}
-use Rattle.zk_http.specs.Turns.{places_of, read_in}
+use Rattle.zk_http.specs.Turns.{places_of}
 use Rattle.zk_http.proofs.DataLaws.{goes_on_with, part_gives}
 use Rattle.zk_http.proofs.turn.read_part.Goals as goal
 

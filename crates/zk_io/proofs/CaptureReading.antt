@@ -18,8 +18,8 @@ use Rattle.zk_pcap.specs.Header.{counted, header_of, number_of}
 use Rattle.zk_pcap.specs.Record.{record_at, is_too_long, end_of}
 use Rattle.zk_pcap.specs.Standing.{StandsFor, RestIs}
 use Rattle.zk_io.specs.declared.capture.CaptureReader.{CaptureReader}
-use Rattle.zk_load.specs.declared.stop.Stop.{Stop}
-use Rattle.zk_load.specs.Parts.{DoesPart}
+use Rattle.zk_outcome.specs.declared.stop.Stop.{Stop}
+use Rattle.zk_outcome.specs.Parts.{DoesPart}
 use Rattle.zk_io.specs.Reading.{HasRead, SameInput, IsReading, IsReadThrough, IsCapture, SaysPart, OverCapture, next_place}
 use Rattle.zk_pcap.specs.Feed.{IsSure}
 use Rattle.zk_pcap.proofs.FeedLemmas.{record_place, record_stays, too_long_stays, feeds_read}
@@ -27,7 +27,7 @@ use Rattle.zk_pcap.proofs.HeaderLemmas.{header_of_counted}
 use Rattle.zk_pcap.proofs.FrontLemmas.{header_stays, fronts_begin}
 use Rattle.zk_pcap.proofs.RecordLemmas.{end_from-stand, stand_more}
 use Rattle.zk_pcap.proofs.StandingLemmas.{stand_along}
-use Rattle.zk_load.proofs.SoFar.{IsReadSoFar, read_more}
+use Rattle.zk_outcome.proofs.SoFar.{IsReadSoFar, read_more}
 
 -- ---- pieces
 

@@ -4,11 +4,11 @@ use Rattle.std.specs.Option.{option_map}
 use Rattle.zk_base.specs.Shelf.{Outside, is_open, rest_of, lies_under, FailsToStart, FailsToRead, OpensInput}
 use Rattle.zk_pcap.specs.Header.{header_of}
 use Rattle.zk_io.specs.declared.capture.CaptureReader.{CaptureReader}
-use Rattle.zk_load.specs.declared.found.Found.{Found}
-use Rattle.zk_load.specs.declared.found.Found.TheVariants.{Accepted, Refused}
-use Rattle.zk_load.specs.declared.stop.Stop.{Stop}
-use Rattle.zk_load.specs.declared.stop.Stop.TheVariants.{ReadFault}
-use Rattle.zk_load.proofs.SoFar.{IsReadSoFar}
+use Rattle.zk_outcome.specs.declared.found.Found.{Found}
+use Rattle.zk_outcome.specs.declared.found.Found.TheVariants.{Accepted, Refused}
+use Rattle.zk_outcome.specs.declared.stop.Stop.{Stop}
+use Rattle.zk_outcome.specs.declared.stop.Stop.TheVariants.{ReadFault}
+use Rattle.zk_outcome.proofs.SoFar.{IsReadSoFar}
 use Rattle.zk_io.specs.Reading.{HasRead, HasJustRead, IsFoundSoon, IsJudged, IsJustRead, IsStoppedEarly, is_short}
 use Rattle.zk_io.proofs.OpenCapture.{all_left}
 

@@ -18,14 +18,16 @@ use Rattle.zk_pcap.specs.Header.{counted, header_of}
 use Rattle.zk_pcap.proofs.FrontLemmas.{header_stays}
 use Rattle.zk_pcap.proofs.HeaderLemmas.{header_of_counted}
 use Rattle.zk_io.specs.declared.capture.CaptureReader.{CaptureReader}
-use Rattle.zk_load.specs.declared.found.Found.{Found}
-use Rattle.zk_load.specs.declared.found.Found.TheVariants.{Accepted, Refused}
+use Rattle.zk_outcome.specs.declared.found.Found.{Found}
+use Rattle.zk_outcome.specs.declared.found.Found.TheVariants.{Accepted, Refused}
 use Rattle.zk_io.specs.Opened.{link_by, link_in, judged, opened}
-use Rattle.zk_load.specs.Parts.{IsReadOf, IsRefusal, DoesWithoutFault, DoesAll, Finds}
+use Rattle.zk_outcome.specs.Found.{IsRefusal, Finds}
+use Rattle.zk_outcome.specs.Input.{IsReadOf}
+use Rattle.zk_outcome.specs.Parts.{DoesWithoutFault, DoesAll}
 use Rattle.zk_io.specs.Reading.{HasRead, is_short, IsOpen, IsJudged, IsCapture, OpensCapture, FindsCapture}
-use Rattle.zk_load.proofs.Doing.{none_appended, start_all, does_both_all}
+use Rattle.zk_outcome.proofs.Doing.{none_appended, start_all, does_both_all}
 use Rattle.zk_io.proofs.CaptureReading.{told_header}
-use Rattle.zk_load.proofs.SoFar.{none_of_input}
+use Rattle.zk_outcome.proofs.SoFar.{none_of_input}
 
 -- an input that is opened can be read
 readable : (inputs : Option Files) (name : List ℕ) → IsTrue (is_open (opened_reading inputs name))

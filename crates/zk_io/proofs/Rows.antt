@@ -1,7 +1,7 @@
 -- Small files as captures, computed by the checker.
 use Rattle.std.proofs.Common.{◌≡◌, ℕ, List, [], ◌∷◌, codes, Some, None, refl}
 use Rattle.zk_base.specs.declared.endings.Ending.TheVariants.{NoInput, CaptureRefused, CutShort}
-use Rattle.zk_load.specs.declared.found.Found.TheVariants.{Accepted, Refused}
+use Rattle.zk_outcome.specs.declared.found.Found.TheVariants.{Accepted, Refused}
 use Rattle.zk_pcap.specs.declared.captures.CaptureEnding.TheVariants.{Whole, Cut}
 use Rattle.zk_io.specs.Opened.{opened, link_in, end_of_capture}
 

@@ -1,11 +1,12 @@
 -- What is said so far of a text that goes on.
 use Rattle.std.proofs.Common.{◌≡◌, List, ℕ, [], ◌++◌, refl, sym, ap, subst, ◌∙◌, append_assoc}
 use Rattle.zk_base.specs.Shelf.{Outside}
-use Rattle.zk_load.specs.declared.stop.Stop.{Stop}
-use Rattle.zk_load.specs.declared.stop.Stop.TheVariants.{NoMemory}
+use Rattle.zk_outcome.specs.declared.stop.Stop.{Stop}
+use Rattle.zk_outcome.specs.declared.stop.Stop.TheVariants.{NoMemory}
 use Rattle.zk_io.specs.Said.{HasSaid, HandsOver}
-use Rattle.zk_load.specs.Parts.{DoesAll, DoesPart, IsPrefix}
-use Rattle.zk_load.proofs.Doing.{does_nothing_without_fault, does_both_all, does_both_part, does_part_of, prefix_all, out_of_memory}
+use Rattle.zk_outcome.specs.Parts.{DoesAll, DoesPart}
+use Rattle.zk_outcome.specs.Prefix.{IsPrefix}
+use Rattle.zk_outcome.proofs.Doing.{does_nothing_without_fault, does_both_all, does_both_part, does_part_of, prefix_all, out_of_memory}
 use Rattle.std.proofs.Common.{append-nil, Result, Ok, Err, OnOk}
 
 pub said_nothing : (first : Outside) → HasSaid first [] [] first

@@ -10,8 +10,8 @@ use Rattle.zk_pcap.specs.declared.headers.Header.{Header}
 use Rattle.zk_pcap.specs.CaptureFault.{place_of}
 use Rattle.zk_pcap.specs.Header.{header_of}
 use Rattle.zk_pcap.specs.Capture.{capture_of}
-use Rattle.zk_load.specs.declared.found.Found.{Found}
-use Rattle.zk_load.specs.declared.found.Found.TheVariants.{Accepted, Refused}
+use Rattle.zk_outcome.specs.declared.found.Found.{Found}
+use Rattle.zk_outcome.specs.declared.found.Found.TheVariants.{Accepted, Refused}
 
 -- the capture that was read from a file, or how it ends for the fault in it
 abbrev pub judged : List ℕ → Result Capture CaptureFault → Found Capture

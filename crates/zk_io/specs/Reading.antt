@@ -15,12 +15,13 @@ use Rattle.zk_pcap.specs.Standing.{StandsFor, first_record}
 use Rattle.zk_base.specs.declared.endings.Ending.TheVariants.{NoInput, CaptureRefused}
 use Rattle.zk_pcap.specs.CaptureFault.{place_of}
 use Rattle.zk_io.specs.declared.capture.CaptureReader.{CaptureReader}
-use Rattle.zk_load.specs.declared.found.Found.{Found}
-use Rattle.zk_load.specs.declared.found.Found.TheVariants.{Accepted, Refused}
+use Rattle.zk_outcome.specs.declared.found.Found.{Found}
+use Rattle.zk_outcome.specs.declared.found.Found.TheVariants.{Accepted, Refused}
 use Rattle.zk_io.specs.Opened.{opened}
-use Rattle.zk_load.specs.declared.stop.Stop.{Stop}
-use Rattle.zk_load.specs.declared.stop.Stop.TheVariants.{ReadFault, WriteFault, NoMemory}
-use Rattle.zk_load.specs.Parts.{DoesAll, DoesPart, Finds}
+use Rattle.zk_outcome.specs.declared.stop.Stop.{Stop}
+use Rattle.zk_outcome.specs.declared.stop.Stop.TheVariants.{ReadFault, WriteFault, NoMemory}
+use Rattle.zk_outcome.specs.Found.{Finds}
+use Rattle.zk_outcome.specs.Parts.{DoesAll, DoesPart}
 
 -- the open input stays as it was
 abbrev pub SameInput : Outside → Outside → Type 0

@@ -1,7 +1,7 @@
 -- What is said of a text, which goes out in pieces.
 use Rattle.std.specs.Prelude.{◌≡◌, ℕ, List, [], ◌∷◌, ◌++◌}
 use Rattle.zk_base.specs.Shelf.{Outside}
-use Rattle.zk_load.specs.Parts.{DoesAll}
+use Rattle.zk_outcome.specs.Parts.{DoesAll}
 
 -- a line ends in a line feed
 abbrev pub line_end : List ℕ

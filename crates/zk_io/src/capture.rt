@@ -7,12 +7,12 @@ ghost use Rattle.zk_pcap.specs.View.{packet_of};
 ghost use Rattle.zk_pcap.specs.declared.headers.Header.{Header as HeaderData};
 ghost use Rattle.zk_pcap.specs.declared.records.Packet.{Packet as PacketData};
 ghost use Rattle.zk_io.specs.Opened.{end_of_capture};
-ghost use Rattle.zk_load.specs.Parts.{DoesAll, DoesPart};
+ghost use Rattle.zk_outcome.specs.Parts.{DoesAll, DoesPart};
 
 use crate::front::read_front;
 use std::alloc::Global;
 use zk_base::{Bytes, Ending, Got, Mem, Shelf, Started};
-use zk_load::{Found, Stop};
+use zk_outcome::{Found, Stop};
 use zk_pcap::{CAPTURE_MAX, CaptureEnding, Feed, HEADER_LEN, Header, Next, PacketView};
 
 /// How many bytes of a capture are asked for at once. No longer buffer is lent to `CaptureReader::open`.

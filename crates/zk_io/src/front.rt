@@ -1,12 +1,12 @@
 ghost use Rattle.std.specs.Prelude.{◌≡◌, ◌⊎◌, ◌+◌, ◌≤◌, ◌<◌, [], true, false, length, IsTrue, IfSome, IfOk, OnOk, IfErr};
 ghost use Rattle.zk_base.specs.Shelf.{is_open, rest_of};
 ghost use Rattle.zk_pcap.specs.Header.{header_of};
-ghost use Rattle.zk_load.specs.Parts.{DoesAll, DoesPart};
+ghost use Rattle.zk_outcome.specs.Parts.{DoesAll, DoesPart};
 ghost use Rattle.zk_io.specs.Reading.{HasRead, IsJustRead, IsStoppedEarly, is_short};
 
 use std::alloc::Global;
 use zk_base::{Bytes, Got, Shelf};
-use zk_load::Stop;
+use zk_outcome::Stop;
 use zk_pcap::{CaptureFault, Header};
 
 /// Reads the first bytes of the open input, up to those by which the header is judged.

@@ -1,11 +1,11 @@
 ghost use Rattle.std.specs.Prelude.{◌≡◌, ◌≤◌, ◌+◌, [], ◌++◌, length, OnOk, IfErr};
 ghost use Rattle.zk_io.specs.Said.{line_end, HandsOver};
 ghost use Rattle.zk_io.specs.Reading.{SameInput};
-ghost use Rattle.zk_load.specs.Parts.{DoesAll, DoesPart};
+ghost use Rattle.zk_outcome.specs.Parts.{DoesAll, DoesPart};
 
 use std::alloc::AllocError;
 use zk_base::Shelf;
-use zk_load::{Stop, written};
+use zk_outcome::{Stop, written};
 
 /// Output is handed over in pieces of about this many bytes.
 pub const PIECE: usize = 1 << 16;

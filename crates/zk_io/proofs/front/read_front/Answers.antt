@@ -1,6 +1,6 @@
 use Rattle.std.proofs.Common.{◌≡◌, ◌+◌, ◌<◌, ℕ, List, ◌++◌, length, take, refl, sym, ap, ◌∙◌, arith, length-append, length-take-le}
 use Rattle.std.proofs.lemmas.Result.{err_from_is_err_and}
-use Rattle.zk_load.proofs.SoFar.{read_more, stopped_for_memory, stopped_by_input}
+use Rattle.zk_outcome.proofs.SoFar.{read_more, stopped_for_memory, stopped_by_input}
 use Rattle.zk_io.proofs.EarlyLaws.{failed_early}
 use Rattle.zk_io.proofs.front.read_front.Goals as goal
 

@@ -1,5 +1,5 @@
 use Rattle.std.proofs.Common.{◌+◌, ◌-◌, ◌≤◌, length}
-use Rattle.zk_load.proofs.SoFar.{IsReadSoFar}
+use Rattle.zk_outcome.proofs.SoFar.{IsReadSoFar}
 use Rattle.zk_io.specs.Reading.{IsJustRead}
 use Rattle.zk_io.proofs.front.read_front.Given as goal
 

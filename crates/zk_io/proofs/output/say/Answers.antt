@@ -1,6 +1,6 @@
 use Rattle.std.proofs.Common.{[], OnOk, IfErr, sym, subst}
-use Rattle.zk_load.specs.Parts.{DoesAll, DoesPart}
-use Rattle.zk_load.proofs.Doing.{said_all, said_stopped}
+use Rattle.zk_outcome.specs.Parts.{DoesAll, DoesPart}
+use Rattle.zk_outcome.proofs.Doing.{said_all, said_stopped}
 use Rattle.zk_io.proofs.output.say.Goals as goal
 
 pub returns-clause-said : goal.returns-clause-said

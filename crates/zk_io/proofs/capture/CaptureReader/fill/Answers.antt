@@ -7,7 +7,7 @@ use Rattle.zk_pcap.specs.declared.records.Packet.{Packet}
 use Rattle.zk_pcap.specs.Capture.{end_from}
 use Rattle.zk_pcap.specs.Standing.{StandsFor, IsNext, first_record, is_packet}
 use Rattle.zk_base.specs.Shelf.{Outside}
-use Rattle.zk_load.proofs.Doing.{does_both_all, does_both_part}
+use Rattle.zk_outcome.proofs.Doing.{does_both_all, does_both_part}
 use Rattle.zk_io.specs.declared.capture.CaptureReader.{CaptureReader}
 use Rattle.zk_io.specs.Reading.{MeetsTooLong, has_next}
 use Rattle.zk_io.proofs.capture.CaptureReader.fill.Goals as goal

@@ -2,7 +2,7 @@ use Rattle.std.proofs.Common.{◌≡◌, ℕ, ◌+◌, List, [], Option, IsTrue,
 use Rattle.zk_base.specs.Shelf.{is_open}
 use Rattle.zk_pcap.specs.declared.headers.Header.{Header}
 use Rattle.zk_pcap.specs.declared.records.Packet.{Packet}
-use Rattle.zk_load.specs.Parts.{DoesAll}
+use Rattle.zk_outcome.specs.Parts.{DoesAll}
 use Rattle.zk_io.specs.Reading.{IsReading, MeetsTooLong, has_ended, has_next}
 use Rattle.zk_io.proofs.capture.CaptureReader.fill.Given as goal
 

@@ -1,7 +1,7 @@
 use Rattle.std.proofs.Common.{[], ◌≡◌, ◌≤◌, ◌<◌, ◌^◌, ◌++◌, take, length, refl, inl, arith, length-append, length-take-le}
 use Rattle.std.proofs.lemmas.Result.{err_from_is_err_and}
-use Rattle.zk_load.proofs.Doing.{out_of_memory}
-use Rattle.zk_load.proofs.SoFar.{stopped_by_input}
+use Rattle.zk_outcome.proofs.Doing.{out_of_memory}
+use Rattle.zk_outcome.proofs.SoFar.{stopped_by_input}
 use Rattle.zk_io.proofs.CaptureReading.{has_read_more, read_nothing, reading_more, reading_over}
 use Rattle.zk_io.proofs.capture.CaptureReader.read_piece.Goals as goal
 

@@ -7,9 +7,11 @@ use Rattle.zk_base.specs.declared.endings.ScriptKind.TheVariants.{TooLarge}
 use Rattle.zk_base.specs.Shelf.{Files, Outside, HasRisen}
 use Rattle.zk_tree.specs.declared.decl.Tree.{Tree}
 use Rattle.zk_token.specs.Tokens.{tokens_of}
-use Rattle.zk_load.specs.declared.found.Found.TheVariants.{Refused}
+use Rattle.zk_outcome.specs.declared.found.Found.TheVariants.{Refused}
 use Rattle.zk_load.specs.Script.{Refusal, script_max, tree_read, script_of, accepted, script_in}
-use Rattle.zk_load.specs.Parts.{IsRefusal, IsReadBeyond, IsReadOf, DoesWithoutFault, Finds, SameAbsences}
+use Rattle.zk_outcome.specs.Found.{IsRefusal, Finds}
+use Rattle.zk_outcome.specs.Input.{IsReadBeyond, IsReadOf}
+use Rattle.zk_outcome.specs.Parts.{DoesWithoutFault, SameAbsences}
 
 -- what is read of the input that is told under a name
 told : (inputs : Option Files) (files : Files) (name : List ℕ) (found : Option (List ℕ)) (most : ℕ) → inputs ≡ Some files → IfSome inputs (λ fs. IsReadOf most (fs name) found) → IsReadOf most (files name) found

@@ -1,6 +1,4 @@
-pub mod Doing
 mod Finding
 mod LoadLaws
 mod Rows
-pub mod SoFar
 mod TextLaws

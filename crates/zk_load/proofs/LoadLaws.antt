@@ -12,18 +12,20 @@ use Rattle.zk_tree.specs.declared.decl.Decl.{Decl}
 use Rattle.zk_tree.specs.declared.decl.Decl as decl
 use Rattle.zk_tree.specs.declared.decl.Tree.{Tree}
 use Rattle.zk_tree.specs.Opening.{trees}
-use Rattle.zk_load.specs.declared.found.Found.{Found}
-use Rattle.zk_load.specs.declared.found.Found.TheVariants.{Accepted, Refused}
+use Rattle.zk_outcome.specs.declared.found.Found.{Found}
+use Rattle.zk_outcome.specs.declared.found.Found.TheVariants.{Accepted, Refused}
 use Rattle.zk_load.specs.declared.loading.Scripts.{Scripts}
-use Rattle.zk_load.specs.declared.stop.Stop.{Stop}
-use Rattle.zk_load.specs.declared.stop.Stop.TheVariants as stop
+use Rattle.zk_outcome.specs.declared.stop.Stop.{Stop}
+use Rattle.zk_outcome.specs.declared.stop.Stop.TheVariants as stop
 use Rattle.zk_load.specs.Loading as plain
 use Rattle.zk_load.specs.Loading.{Loading, loads_in, loads_of, is_read, unread, ends_with, asking, after, load_from, loading}
 use Rattle.zk_load.specs.Loads.{LoadsAll, LoadsPart}
-use Rattle.zk_load.specs.Parts.{Does, DoesAll, DoesPart, Finds, IsPrefix, IsRefusal}
+use Rattle.zk_outcome.specs.Found.{Finds, IsRefusal}
+use Rattle.zk_outcome.specs.Parts.{Does, DoesAll, DoesPart}
+use Rattle.zk_outcome.specs.Prefix.{IsPrefix}
 use Rattle.zk_load.specs.Pending.{Waits}
 use Rattle.zk_load.specs.Script.{script_in}
-use Rattle.zk_load.proofs.Doing.{does_nothing_without_fault, does_both, does_both_all, without_fault_both, cause_since, prefix_none, prefix_of_none, prefix_behind, prefix_trans}
+use Rattle.zk_outcome.proofs.Doing.{does_nothing_without_fault, does_both, does_both_all, without_fault_both, cause_since, prefix_none, prefix_of_none, prefix_behind, prefix_trans}
 
 pub export_loads : (place : ℕ) (decls : List Decl) → loads_in (decl.Export place decls) ≡ flat_map loads_in decls
 unfolding trees

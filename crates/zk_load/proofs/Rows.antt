@@ -6,7 +6,7 @@ use Rattle.zk_base.specs.declared.endings.ScriptKind.TheVariants.{NoTree, OpenSt
 use Rattle.zk_base.specs.Shelf.{Files}
 use Rattle.zk_parse.specs.Opening.{reading}
 use Rattle.zk_tree.specs.Opening.{trees}
-use Rattle.zk_load.specs.declared.found.Found.TheVariants.{Refused}
+use Rattle.zk_outcome.specs.declared.found.Found.TheVariants.{Refused}
 use Rattle.zk_load.specs.Loading.{Scripts, load_from, loading}
 
 -- a and b load each other, and a default script; c is no tree, and d has no tokens

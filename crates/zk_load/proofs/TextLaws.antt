@@ -4,8 +4,8 @@ use Rattle.std.proofs.lemmas.List.{drop_all}
 use Rattle.std.specs.Borrow.{Bor}
 use Rattle.zk_base.specs.declared.endings.Ending.{Ending}
 use Rattle.zk_tree.specs.declared.decl.Tree.{Tree}
-use Rattle.zk_load.specs.declared.found.Found.{Found}
-use Rattle.zk_load.specs.declared.found.Found.TheVariants.{Accepted, Refused}
+use Rattle.zk_outcome.specs.declared.found.Found.{Found}
+use Rattle.zk_outcome.specs.declared.found.Found.TheVariants.{Accepted, Refused}
 use Rattle.zk_load.specs.Loading.{Scripts, before_others, scripts_in}
 use Rattle.zk_load.specs.Script.{accepted, script_of}
 

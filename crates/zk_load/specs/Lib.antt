@@ -1,5 +1,3 @@
-pub mod Parts
-pub mod Stop
 pub mod Script
 pub mod Loading
 pub mod Loads

@@ -8,8 +8,8 @@ use Rattle.zk_base.specs.declared.endings.ScriptKind.TheVariants.{TooMany}
 use Rattle.zk_base.specs.Shelf.{Files}
 use Rattle.zk_tree.specs.declared.decl.Decl.{Decl, Load, Export', Row_of-Decl, end_of-Decl, more_of-Decl}
 use Rattle.zk_tree.specs.declared.decl.Tree.{Tree}
-use Rattle.zk_load.specs.declared.found.Found.{Found}
-use Rattle.zk_load.specs.declared.found.Found.TheVariants.{Accepted, Refused}
+use Rattle.zk_outcome.specs.declared.found.Found.{Found}
+use Rattle.zk_outcome.specs.declared.found.Found.TheVariants.{Accepted, Refused}
 use Rattle.zk_load.specs.Script.{accepted, script_in, script_of}
 
 -- the most files that a run may read

@@ -3,11 +3,13 @@ use Rattle.std.specs.Prelude.{◌≡◌, ◌≢◌, ℕ, List, [], Some}
 use Rattle.zk_base.specs.declared.endings.Ending.{Ending}
 use Rattle.zk_base.specs.declared.endings.Ending.TheVariants.{NoInput}
 use Rattle.zk_base.specs.Shelf.{Files, Outside, HasRisen}
-use Rattle.zk_load.specs.declared.found.Found.{Found}
-use Rattle.zk_load.specs.declared.found.Found.TheVariants.{Refused}
-use Rattle.zk_load.specs.declared.stop.Stop.{Stop}
+use Rattle.zk_outcome.specs.declared.found.Found.{Found}
+use Rattle.zk_outcome.specs.declared.found.Found.TheVariants.{Refused}
+use Rattle.zk_outcome.specs.declared.stop.Stop.{Stop}
 use Rattle.zk_load.specs.Loading.{Scripts, loading}
-use Rattle.zk_load.specs.Parts.{Does, DoesWithoutFault, HasCause, IsPrefix, IsRefusal, SameAbsences}
+use Rattle.zk_outcome.specs.Found.{IsRefusal}
+use Rattle.zk_outcome.specs.Parts.{Does, DoesWithoutFault, HasCause, SameAbsences}
+use Rattle.zk_outcome.specs.Prefix.{IsPrefix}
 
 -- Behind some scripts those of these names are read, or the run ends. Where inputs are told, they say what is found and asked for.
 pub record LoadsAll (before : Scripts) (names : List (List ℕ)) (old : Outside) (found : Found Scripts) (new : Outside) : Type 0 where

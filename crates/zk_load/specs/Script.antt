@@ -10,8 +10,8 @@ use Rattle.zk_token.specs.Fault.{Fault}
 use Rattle.zk_token.specs.Fault as fault
 use Rattle.zk_token.specs.Tokens.{tokens_of}
 use Rattle.zk_parse.specs.Trees.{tree_of}
-use Rattle.zk_load.specs.declared.found.Found.{Found}
-use Rattle.zk_load.specs.declared.found.Found.TheVariants.{Accepted, Refused}
+use Rattle.zk_outcome.specs.declared.found.Found.{Found}
+use Rattle.zk_outcome.specs.declared.found.Found.TheVariants.{Accepted, Refused}
 
 -- why a text is refused, and at which byte
 pub record Refusal : Type 0 where

@@ -6,13 +6,12 @@ ghost use Rattle.zk_tree.specs.declared.decl.Tree.{Tree as TreeData};
 ghost use Rattle.zk_load.specs.Loads.{LoadsAll, LoadsPart};
 ghost use Rattle.zk_load.specs.Loading.{is_read, loads_of, unread};
 
-use crate::found::Found;
 use crate::loads::loads_of;
 use crate::script::read_script;
-use crate::stop::Stop;
 use indexmap::IndexSet;
 use std::alloc::Global;
 use zk_base::{Bytes, Ending, Mem, ScriptKind, Sequence, Shelf, Word};
+use zk_outcome::{Found, Stop};
 use zk_scope::Whole;
 use zk_tree::Tree;
 

@@ -1,11 +1,12 @@
 ghost use Rattle.std.specs.Prelude.{◌≡◌, ◌<◌, [], ◌∷◌, length, IsTrue, IfSome, IsSome, IsNone, IfOk, OnOk, IfErr};
 ghost use Rattle.zk_base.specs.Shelf.{is_open, rest_of, HasRisen};
-ghost use Rattle.zk_load.specs.Parts.{DoesWithoutFault, DoesAll, DoesPart, IsReadBeyond, IsReadOf};
-ghost use Rattle.zk_load.specs.Parts.{SameAbsences};
+ghost use Rattle.zk_outcome.specs.Input.{IsReadBeyond, IsReadOf};
+ghost use Rattle.zk_outcome.specs.Parts.{DoesWithoutFault, DoesAll, DoesPart};
+ghost use Rattle.zk_outcome.specs.Parts.{SameAbsences};
 
-use crate::stop::Stop;
 use std::alloc::Global;
 use zk_base::{Bytes, Got, Shelf, Started};
+use zk_outcome::Stop;
 
 /// How many bytes an input is asked for at once.
 const CHUNK: usize = 1 << 18;

@@ -1,12 +1,12 @@
 ghost use Rattle.std.specs.Prelude.{◌≡◌, [], ◌∷◌, Ok, IfOk, IfErr};
-ghost use Rattle.zk_load.specs.Parts.{DoesPart, Finds};
+ghost use Rattle.zk_outcome.specs.Found.{Finds};
+ghost use Rattle.zk_outcome.specs.Parts.{DoesPart};
 ghost use Rattle.zk_load.specs.Script.{accepted, script_in, script_of, tree_read, place_of_token};
 
-use crate::found::Found;
 use crate::reading::read_input;
-use crate::stop::Stop;
 use std::alloc::Global;
 use zk_base::{Bytes, Ending, Mem, ScriptKind, Shelf};
+use zk_outcome::{Found, Stop};
 use zk_parse::{ParseFault, parse};
 use zk_token::{LexFault, tokens};
 use zk_tree::{Token, Tree};

@@ -3,10 +3,10 @@
 ghost use Rattle.std.specs.Prelude.{◌≡◌, List, ℕ, map, IfOk};
 ghost use Rattle.zk_load.specs.Loading.{scripts_in};
 
-use crate::found::Found;
 use crate::script::read_text;
 use std::alloc::Global;
 use zk_base::{Bytes, Mem, Sequence};
+use zk_outcome::Found;
 use zk_tree::Tree;
 
 /// The scripts with these names and texts, in order, or how a run ends at the first that is refused.

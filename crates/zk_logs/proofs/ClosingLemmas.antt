@@ -9,7 +9,7 @@ use Rattle.std.proofs.lemmas.Map.Keys.{IsDistinct-tail}
 use Rattle.zk_base.specs.declared.time.Moment.{Moment}
 use Rattle.zk_base.specs.Shelf.{Files, Outside, IsCreated, with_piece, appended}
 use Rattle.zk_ascii.specs.Text.{close_text}
-use Rattle.zk_logs.specs.declared.fault.LogFault.{LogFault}
+use Rattle.zk_outcome.specs.declared.stop.Stop.{Stop}
 use Rattle.zk_logs.specs.Logs.{Row, file_name, open_files, log_files}
 use Rattle.zk_logs.specs.Outputs.{files_over, OutputsBegun}
 use Rattle.zk_logs.specs.Stopped.{ChangesOutputs, IsStoppedBy}
@@ -186,13 +186,13 @@ closes_more bytes end all entries entry old now new closes hands =
     }
 
 -- where it is stopped, all is begun
-pub closes_stopped : {K : Type 0} (bytes : K → List ℕ) (end : Moment) (all entries : List (K × List ℕ)) (entry : K × List ℕ) (fault : LogFault) (old now new : Outside)
-    → Closes bytes end all (entry ∷ entries) old now → HandsPart (file_name (bytes entry.0)) (entry.1 ++ close_text end) now fault new
-    → ((before : Option Files) (rows : List Row) → AreWritten before (open_files rows) (waiting bytes all) old.outputs → OutputsBegun (log_files rows end) before new.outputs) × IsStoppedBy fault old new
-closes_stopped bytes end all entries entry fault old now new closes hands = (
+pub closes_stopped : {K : Type 0} (bytes : K → List ℕ) (end : Moment) (all entries : List (K × List ℕ)) (entry : K × List ℕ) (stop : Stop) (old now new : Outside)
+    → Closes bytes end all (entry ∷ entries) old now → HandsPart (file_name (bytes entry.0)) (entry.1 ++ close_text end) now stop new
+    → ((before : Option Files) (rows : List Row) → AreWritten before (open_files rows) (waiting bytes all) old.outputs → OutputsBegun (log_files rows end) before new.outputs) × IsStoppedBy stop old new
+closes_stopped bytes end all entries entry stop old now new closes hands = (
   λ before rows written.
       closing_broken_off bytes before now.outputs new.outputs rows end entry entries hands.handed hands.rest (closes.closing before rows written) hands.joined hands.outputs,
-  stopped_both fault old now new closes.only hands.stopped,
+  stopped_both stop old now new closes.only hands.stopped,
 )
 
 pub closes_done : {K : Type 0} (bytes : K → List ℕ) (end : Moment) (all : List (K × List ℕ)) (old now : Outside) → Closes bytes end all [] old now
@@ -207,8 +207,8 @@ handed_as path path' piece piece' line line' old new rest same_path same_piece s
     subst (λ p. HandsOver (file_name p) (piece' ++ line') old new rest) same_path
     (subst (λ t. HandsOver (file_name path) (t ++ line') old new rest) same_piece (subst (λ t. HandsOver (file_name path) (piece ++ t) old new rest) same_line hands))
 
-pub part_as : (fault : LogFault) (path path' piece piece' line line' : List ℕ) (old new : Outside) → path ≡ path' → piece ≡ piece' → line ≡ line'
-    → HandsPart (file_name path) (piece ++ line) old fault new → HandsPart (file_name path') (piece' ++ line') old fault new
-part_as fault path path' piece piece' line line' old new same_path same_piece same_line hands =
-    subst (λ p. HandsPart (file_name p) (piece' ++ line') old fault new) same_path
-    (subst (λ t. HandsPart (file_name path) (t ++ line') old fault new) same_piece (subst (λ t. HandsPart (file_name path) (piece ++ t) old fault new) same_line hands))
+pub part_as : (stop : Stop) (path path' piece piece' line line' : List ℕ) (old new : Outside) → path ≡ path' → piece ≡ piece' → line ≡ line'
+    → HandsPart (file_name path) (piece ++ line) old stop new → HandsPart (file_name path') (piece' ++ line') old stop new
+part_as stop path path' piece piece' line line' old new same_path same_piece same_line hands =
+    subst (λ p. HandsPart (file_name p) (piece' ++ line') old stop new) same_path
+    (subst (λ t. HandsPart (file_name path) (t ++ line') old stop new) same_piece (subst (λ t. HandsPart (file_name path) (piece ++ t) old stop new) same_line hands))

@@ -1,37 +1,43 @@
 -- What single calls of a shelf change of the outside.
-use Rattle.std.proofs.Common.{◌≡◌, ℕ, List, [], ◌++◌, false, Option, IsSome, IfSome, take, drop, Result, Ok, Err, OnOk, IfErr, refl, sym, ap, subst, ◌∙◌, append_assoc}
+use Rattle.std.proofs.Common.{◌≡◌, ℕ, List, [], ◌++◌, Option, Some, None, IsSome, IfSome, take, drop, Result, Ok, Err, OnOk, IfErr, refl, sym, ap, subst, ◌∙◌, append_assoc}
 use Rattle.std.specs.Option.{option_map}
-use Rattle.std.specs.Str.{bytes_eq}
 use Rattle.std.proofs.lemmas.List.{append-nil, take-append-drop}
-use Rattle.zk_base.specs.Shelf.{Files, Outside, HasRisen, Puts, IsCreated, with_piece, created, after_append}
-use Rattle.zk_logs.specs.declared.fault.LogFault.{LogFault}
-use Rattle.zk_logs.specs.declared.fault.LogFault.TheVariants.{Failed, NoMemory}
-use Rattle.zk_logs.specs.Stopped.{ChangesOutputs, IsStoppedBy, answer_of}
+use Rattle.zk_base.specs.declared.shelf.Fault.TheVariants as fault
+use Rattle.zk_base.specs.declared.shelf.Wrote.{Wrote}
+use Rattle.zk_base.specs.declared.shelf.Wrote.TheVariants as wrote
+use Rattle.zk_base.specs.Shelf.{Files, Outside, HasRisen, Puts, IsCreated, with_piece, after_append}
+use Rattle.zk_outcome.specs.declared.stop.Stop.{Stop}
+use Rattle.zk_outcome.specs.declared.stop.Stop.TheVariants.{ReadFault, WriteFault, NoMemory}
+use Rattle.zk_outcome.specs.Stop.{written_by}
+use Rattle.zk_outcome.proofs.Doing.{cause_since}
+use Rattle.zk_logs.specs.Stopped.{ChangesOutputs, IsStoppedBy}
 use Rattle.zk_logs.specs.Handed.{HandsOver, HandsPart}
 use Rattle.zk_logs.proofs.OutputLemmas.{both_pieces, no_piece, stays_there}
 
 -- What changes -------------------------------------------------------------------------------------------------
 
-pub only_outputs : (old new : Outside) (outputs : Option Files) → new ≡ record old { outputs = outputs } → ChangesOutputs old new
-only_outputs old new outputs is = is ∙ ap (λ (o : Option Files). record old { outputs = o }) (sym (ap (λ (o : Outside). o.outputs) is))
+pub only_outputs : (old new : Outside) (outputs : Option Files) → new ≡ record old { outputs = outputs; last = None } → ChangesOutputs old new
+only_outputs old new outputs is = is ∙ ap (λ (o : Outside). record old { outputs = o.outputs; last = o.last }) (sym is)
 
-pub failed_with : (old new : Outside) (outputs : Option Files) (count : ℕ) → HasRisen old.write_faults count → new ≡ record old { outputs = outputs; write_faults = count }
-    → IsStoppedBy Failed old new
-failed_with old new outputs count risen is =
-    let outputs_is : outputs ≡ new.outputs = sym (ap (λ (o : Outside). o.outputs) is) in
-    let count_is : count ≡ new.write_faults = sym (ap (λ (o : Outside). o.write_faults) is) in (
-      subst (λ n. HasRisen old.write_faults n) count_is risen,
-      is ∙ ap (λ (o : Option Files). record old { outputs = o; write_faults = count }) outputs_is
-          ∙ ap (λ (n : ℕ). record old { outputs = new.outputs; write_faults = n }) count_is,
-    )
+pub failed_with : (old new : Outside) (outputs : Option Files) (count : ℕ) → HasRisen old.write_faults count
+    → new ≡ record old { outputs = outputs; write_faults = count; last = Some fault.Write } → IsStoppedBy WriteFault old new
+failed_with old new outputs count risen is = (
+  (
+    subst (λ n. HasRisen old.write_faults n) (sym (ap (λ (o : Outside). o.write_faults) is)) risen,
+    ap (λ (o : Outside). o.read_faults) is,
+    ap (λ (o : Outside). o.last) is,
+  ),
+  is ∙ ap (λ (o : Outside). record old { outputs = o.outputs; write_faults = o.write_faults; last = o.last }) (sym is),
+)
 
 pub only_both : (old mid new : Outside) → ChangesOutputs old mid → ChangesOutputs mid new → ChangesOutputs old new
-only_both old mid new first second = second ∙ ap (λ (o : Outside). record o { outputs = new.outputs }) first
+only_both old mid new first second = second ∙ ap (λ (o : Outside). record o { outputs = new.outputs; last = new.last }) first
 
-pub stopped_both : (fault : LogFault) (old mid new : Outside) → ChangesOutputs old mid → IsStoppedBy fault mid new → IsStoppedBy fault old new
-stopped_both Failed old mid new first second = (
-  subst (λ n. HasRisen n new.write_faults) (ap (λ (o : Outside). o.write_faults) first) second.0,
-  second.1 ∙ ap (λ (o : Outside). record o { outputs = new.outputs; write_faults = new.write_faults }) first,
+pub stopped_both : (stop : Stop) (old mid new : Outside) → ChangesOutputs old mid → IsStoppedBy stop mid new → IsStoppedBy stop old new
+stopped_both ReadFault old mid new first second = absurd second
+stopped_both WriteFault old mid new first second = (
+  cause_since old mid WriteFault new (record { read = ap (λ (o : Outside). o.read_faults) first; write = ap (λ (o : Outside). o.write_faults) first }) second.0,
+  second.1 ∙ ap (λ (o : Outside). record o { outputs = new.outputs; write_faults = new.write_faults; last = new.last }) first,
 )
 stopped_both NoMemory old mid new first second = only_both old mid new first second
 
@@ -43,23 +49,28 @@ stays_created old new name own part there is =
 
 -- What is handed over ------------------------------------------------------------------------------------------
 
-pub hands_none : (name text : List ℕ) (old : Outside) → HandsPart name text old NoMemory old
-hands_none name text old = record { handed = []; rest = text; joined = refl; outputs = no_piece old.outputs name; stopped = refl }
-
--- a call that fails hands over a prefix
-pub puts_part : (fault : LogFault) (name text : List ℕ) (old new : Outside) → Puts (after_append old name) old text (answer_of (Err fault)) new → HandsPart name text old fault new
-puts_part Failed name text old new puts = record {
+-- where adding to an output is stopped
+pub appended_stopped : (wrote : Wrote) (name text : List ℕ) (old new : Outside) → Puts (after_append old name) old text wrote new
+    → IfErr (written_by wrote) (λ stop. HandsPart name text old stop new)
+appended_stopped wrote.Done name text old new puts = tt
+appended_stopped wrote.Failed name text old new puts = record {
   handed = take puts.length text;
   rest = drop puts.length text;
   joined = sym (take-append-drop puts.length text);
   outputs = ap (λ (o : Outside). o.outputs) puts.left;
   stopped = failed_with old new _ puts.count puts.risen puts.left;
 }
-puts_part NoMemory name text old new puts = subst (λ (o : Outside). HandsPart name text old NoMemory o) (sym puts) (hands_none name text old)
+appended_stopped wrote.NoMemory name text old new puts = record {
+  handed = [];
+  rest = text;
+  joined = refl;
+  outputs = ap (λ (o : Outside). o.outputs) puts ∙ no_piece old.outputs name;
+  stopped = only_outputs old new old.outputs puts;
+}
 
 -- a prefix of what is there of a longer text
-pub longer_part : (fault : LogFault) (name text more : List ℕ) (old new : Outside) → HandsPart name text old fault new → HandsPart name (text ++ more) old fault new
-longer_part fault name text more old new part = record {
+pub longer_part : (stop : Stop) (name text more : List ℕ) (old new : Outside) → HandsPart name text old stop new → HandsPart name (text ++ more) old stop new
+longer_part stop name text more old new part = record {
   handed = part.handed;
   rest = part.rest ++ more;
   joined = ap (λ t. t ++ more) part.joined ∙ append_assoc part.handed part.rest more;
@@ -68,14 +79,14 @@ longer_part fault name text more old new part = record {
 }
 
 -- all of a text, and then a prefix of what is behind it
-pub later_part : (fault : LogFault) (name text more : List ℕ) (old mid new : Outside) → mid ≡ after_append old name text → HandsPart name more mid fault new
-    → HandsPart name (text ++ more) old fault new
-later_part fault name text more old mid new first part = record {
+pub later_part : (stop : Stop) (name text more : List ℕ) (old mid new : Outside) → mid ≡ after_append old name text → HandsPart name more mid stop new
+    → HandsPart name (text ++ more) old stop new
+later_part stop name text more old mid new first part = record {
   handed = text ++ part.handed;
   rest = part.rest;
   joined = ap (λ t. text ++ t) part.joined ∙ sym (append_assoc text part.handed part.rest);
   outputs = part.outputs ∙ ap (λ (o : Outside). option_map (λ (files : Files). with_piece files name part.handed) o.outputs) first ∙ both_pieces old.outputs name text part.handed;
-  stopped = stopped_both fault old mid new (only_outputs old mid _ first) part.stopped;
+  stopped = stopped_both stop old mid new (only_outputs old mid _ first) part.stopped;
 }
 
 -- two texts
@@ -88,12 +99,12 @@ hands_both name text more old mid new first second = record {
 }
 
 -- the second of two texts
-pub second_handed : (answer : Result (Unit {0}) LogFault) (name text more : List ℕ) (old mid new : Outside) → mid ≡ after_append old name text
-    → Puts (after_append mid name) mid more (answer_of answer) new → OnOk answer (HandsOver name (text ++ more) old new [])
-second_handed (Ok done) name text more old mid new first puts = hands_both name text more old mid new first puts
-second_handed (Err fault) name text more old mid new first puts = tt
+pub second_handed : (answer : Result (Unit {0}) Stop) (name text more : List ℕ) (old mid new : Outside) → mid ≡ after_append old name text
+    → OnOk answer (new ≡ after_append mid name more) → OnOk answer (HandsOver name (text ++ more) old new [])
+second_handed (Ok done) name text more old mid new first second = hands_both name text more old mid new first second
+second_handed (Err stop) name text more old mid new first second = tt
 
-pub second_stopped : (answer : Result (Unit {0}) LogFault) (name text more : List ℕ) (old mid new : Outside) → mid ≡ after_append old name text
-    → Puts (after_append mid name) mid more (answer_of answer) new → IfErr answer (λ fault. HandsPart name (text ++ more) old fault new)
-second_stopped (Ok done) name text more old mid new first puts = tt
-second_stopped (Err fault) name text more old mid new first puts = later_part fault name text more old mid new first (puts_part fault name more mid new puts)
+pub second_stopped : (answer : Result (Unit {0}) Stop) (name text more : List ℕ) (old mid new : Outside) → mid ≡ after_append old name text
+    → IfErr answer (λ stop. HandsPart name more mid stop new) → IfErr answer (λ stop. HandsPart name (text ++ more) old stop new)
+second_stopped (Ok done) name text more old mid new first part = tt
+second_stopped (Err stop) name text more old mid new first part = later_part stop name text more old mid new first part

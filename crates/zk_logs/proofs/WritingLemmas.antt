@@ -3,13 +3,13 @@ use Rattle.std.proofs.Common.{◌≡◌, ℕ, List, [], ◌∷◌, ◌++◌, Boo
 use Rattle.std.specs.Map.{set_value}
 use Rattle.std.specs.Str.{bytes_eq}
 use Rattle.zk_base.specs.declared.time.Moment.{Moment}
-use Rattle.zk_base.specs.Shelf.{Files, Outside, Creates, IsCreated, with_file}
+use Rattle.zk_base.specs.Shelf.{Files, Outside, IsCreated, created, with_file}
 use Rattle.zk_ascii.specs.Text.{header_text, row_text}
-use Rattle.zk_logs.specs.declared.fault.LogFault.{LogFault}
-use Rattle.zk_logs.specs.declared.fault.LogFault.TheVariants.{Failed, NoMemory}
+use Rattle.zk_outcome.specs.declared.stop.Stop.{Stop}
+use Rattle.zk_outcome.specs.declared.stop.Stop.TheVariants.{ReadFault, WriteFault, NoMemory}
 use Rattle.zk_logs.specs.Logs.{Row, file_name, open_files, log_files}
 use Rattle.zk_logs.specs.Outputs.{OutputsBegun}
-use Rattle.zk_logs.specs.Stopped.{answer_of}
+use Rattle.zk_logs.specs.Stopped.{IsNotBegun}
 use Rattle.zk_logs.specs.Handed.{HandsOver, HandsPart}
 use Rattle.zk_logs.specs.Written.{AreWritten}
 use Rattle.zk_logs.proofs.OutputLemmas.{same_bytes}
@@ -34,10 +34,10 @@ Begun row waits old new =
 abbrev pub Created : Files → Outside → Type 0
 Created waits outside = (name : List ℕ) → IsSome (waits name) → IsCreated outside name
 
--- nothing happened
-pub nothing_begun : (row : Row) (waits : Files) (old new : Outside) → new ≡ old → Begun row waits old new
+-- nothing is written
+pub nothing_begun : (row : Row) (waits : Files) (old new : Outside) → new.outputs ≡ old.outputs → Begun row waits old new
 nothing_begun row waits old new same before rows more end written =
-    subst (λ (o : Outside). OutputsBegun (log_files (rows ++ row ∷ more) end) before o.outputs) (sym same) (rows_begun before old.outputs rows (row ∷ more) end waits written)
+    subst (λ outputs. OutputsBegun (log_files (rows ++ row ∷ more) end) before outputs) (sym same) (rows_begun before old.outputs rows (row ∷ more) end waits written)
 
 -- A log that is open -----------------------------------------------------------------------------------------------
 
@@ -53,28 +53,28 @@ module _ (row : Row) (entries : Entries) (piece : List ℕ) (found : at_path pat
     set_here : (other : List ℕ) → waiting path_of entries' other ≡ with_file (waiting path_of entries) (file_name row.path) piece' other
     set_here other = ap (λ es. waiting path_of es other) set ∙ piece_set path_of entries row.path piece piece' other found
 
-    pub open_writes : (answer : Result (Unit {0}) LogFault) → OnOk answer (HandsOver (file_name row.path) (piece ++ line) old new piece')
+    pub open_writes : (answer : Result (Unit {0}) Stop) → OnOk answer (HandsOver (file_name row.path) (piece ++ line) old new piece')
         → OnOk answer (Writes row (waiting path_of entries) old (waiting path_of entries') new)
     open_writes (Ok done) hands = λ before rows written.
         row_added before old.outputs new.outputs rows row (waiting path_of entries) (waiting path_of entries') piece hands.handed piece' written waits_here
         (ap (λ t. piece ++ t) (sym is) ∙ hands.joined) hands.outputs set_here
-    open_writes (Err fault) hands = tt
+    open_writes (Err stop) hands = tt
 
     there_before : (name : List ℕ) (b : Bool) → bytes_eq (file_name row.path) name ≡ b → IsSome (cond b (Some piece') (waiting path_of entries name)) → IsSome (waiting path_of entries name)
     there_before name true e there = subst (λ p. IsSome p) (sym (ap (waiting path_of entries) (sym (same_bytes (file_name row.path) name e)) ∙ waits_here)) refl
     there_before name false e there = there
 
-    pub open_still_created : (answer : Result (Unit {0}) LogFault) → Created (waiting path_of entries) old → OnOk answer (HandsOver (file_name row.path) (piece ++ line) old new piece')
+    pub open_still_created : (answer : Result (Unit {0}) Stop) → Created (waiting path_of entries) old → OnOk answer (HandsOver (file_name row.path) (piece ++ line) old new piece')
         → OnOk answer (Created (waiting path_of entries') new)
     open_still_created (Ok done) there hands = λ name waits.
         stays_created old new name (file_name row.path) hands.handed
         (there name (there_before name (bytes_eq (file_name row.path) name) refl (subst (λ p. IsSome p) (set_here name) waits))) hands.outputs
-    open_still_created (Err fault) there hands = tt
+    open_still_created (Err stop) there hands = tt
 
-    pub open_begun : (answer : Result (Unit {0}) LogFault) → IfErr answer (λ fault. HandsPart (file_name row.path) (piece ++ line) old fault new)
+    pub open_begun : (answer : Result (Unit {0}) Stop) → IfErr answer (λ stop. HandsPart (file_name row.path) (piece ++ line) old stop new)
         → OnErr answer (Begun row (waiting path_of entries) old new)
     open_begun (Ok done) hands = tt
-    open_begun (Err fault) hands = λ before rows more end written.
+    open_begun (Err stop) hands = λ before rows more end written.
         row_broken_off before old.outputs new.outputs rows more end row (waiting path_of entries) piece hands.handed hands.rest written waits_here
         (ap (λ t. piece ++ t) (sym is) ∙ hands.joined) hands.outputs
 
@@ -84,13 +84,14 @@ module _ (row : Row) (entries : Entries) (none : at_path path_of entries row.pat
   none_here : waiting path_of entries (file_name row.path) ≡ None
   none_here = sym (by_path path_of entries row.path) ∙ none
 
-  pub new_begun : (answer : Result (Unit {0}) LogFault) → Creates old (file_name row.path) (answer_of answer) new → OnErr answer (Begun row (waiting path_of entries) old new)
+  pub new_begun : (answer : Result (Unit {0}) Stop) → IfErr answer (λ stop. IsNotBegun (file_name row.path) stop old new) → OnErr answer (Begun row (waiting path_of entries) old new)
   new_begun (Ok done) creates = tt
-  new_begun (Err Failed) creates = λ before rows more end written.
+  new_begun (Err ReadFault) creates = absurd creates
+  new_begun (Err WriteFault) creates = λ before rows more end written.
       row_uncreated creates.there before old.outputs new.outputs rows more end row (waiting path_of entries) written none_here (ap (λ (o : Outside). o.outputs) creates.after)
-  new_begun (Err NoMemory) creates = nothing_begun row (waiting path_of entries) old new creates
+  new_begun (Err NoMemory) creates = nothing_begun row (waiting path_of entries) old new (ap (λ (o : Outside). o.outputs) creates)
 
-  pub new_writes : (answer : Result (Unit {0}) LogFault) (waits waits' : Files) (line : List ℕ) → Creates old (file_name row.path) (answer_of answer) new
+  pub new_writes : (answer : Result (Unit {0}) Stop) (waits waits' : Files) (line : List ℕ) → OnOk answer (new ≡ created old (file_name row.path))
       → OnOk answer ((other : List ℕ) → waits' other ≡ with_file waits (file_name row.path) (header_text row.path row.columns row.at ++ line) other)
       → ((name : List ℕ) → waits name ≡ waiting path_of entries name) → line ≡ row_text row.cells → OnOk answer (Writes row (waiting path_of entries) old waits' new)
   new_writes (Ok done) waits waits' line creates begun same is = λ before rows written.
@@ -98,4 +99,4 @@ module _ (row : Row) (entries : Entries) (none : at_path path_of entries row.pat
       (λ other. begun other
       ∙ ap (λ found. cond (bytes_eq (file_name row.path) other) (Some (header_text row.path row.columns row.at ++ line)) found) (same other)
       ∙ ap (λ t. with_file (waiting path_of entries) (file_name row.path) (header_text row.path row.columns row.at ++ t) other) is)
-  new_writes (Err fault) waits waits' line creates begun same is = tt
+  new_writes (Err stop) waits waits' line creates begun same is = tt

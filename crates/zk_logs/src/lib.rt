@@ -2,11 +2,9 @@
 //! in pieces and closed at the end (Zeek manual, Logging Framework).
 #![tactic(auto)]
 
-mod fault;
 mod laws;
 mod logs;
 mod pieces;
 
-pub use fault::LogFault;
 pub use laws::{each_path_has_its_file, what_is_written_stays};
 pub use logs::LogFiles;

@@ -3,19 +3,19 @@ ghost use Rattle.std.specs.Option.{option_map};
 ghost use Rattle.std.specs.Str.{bytes_eq};
 ghost use Rattle.std.specs.HashMap.{get_by};
 ghost use Rattle.zk_base.specs.declared.time.Moment.{Moment as MomentData};
-ghost use Rattle.zk_base.specs.Shelf.{Files, Outside, Creates, with_file};
+ghost use Rattle.zk_base.specs.Shelf.{Files, Outside, created, with_file};
 ghost use Rattle.zk_ascii.specs.Dates.{HasDate};
 ghost use Rattle.zk_ascii.specs.Text.{header_text};
 ghost use Rattle.zk_logs.specs.Logs.{Row, file_name, log_files};
 ghost use Rattle.zk_logs.specs.Outputs.{files_over, OutputsBegun};
-ghost use Rattle.zk_logs.specs.Stopped.{ChangesOutputs, IsStoppedBy, answer_of};
+ghost use Rattle.zk_logs.specs.Stopped.{ChangesOutputs, IsNotBegun, IsStoppedBy};
 
-use crate::fault::{LogFault, written};
 use crate::pieces::{add_line, close_log, file_name};
 use indexmap::IndexMap;
 use std::alloc::Global;
 use zk_ascii::{close, header, row};
 use zk_base::{Bytes, Moment, Shelf};
+use zk_outcome::{Stop, written};
 use zk_value::{Cell, Column};
 
 /// The logs that are open, and what waits to be handed over to each. A log is found by its path.
@@ -48,7 +48,7 @@ impl LogFiles {
         columns: &[Column],
         cells: &[Cell],
         at: Moment,
-    ) -> Result<(), LogFault>
+    ) -> Result<(), Stop>
         requires date { HasDate at }
         requires created { AreCreated self.old (S.outside shelf.old) }
         ensures written { let row : Row = record { path = path.now; columns = columns.now; cells = cells.now; at = at } in
@@ -56,11 +56,11 @@ impl LogFiles {
             → HasWritten before (rows ++ row ∷ []) self.new (S.outside shelf.new).outputs) }
         ensures created { OnOk result (AreCreated self.new (S.outside shelf.new)) }
         ensures only { OnOk result (ChangesOutputs (S.outside shelf.old) (S.outside shelf.new)) }
-        // Whatever rows come behind it, a fault leaves the outputs as before or begun.
+        // Whatever rows come behind it, where it is stopped the outputs are as before or begun.
         ensures begun { let row : Row = record { path = path.now; columns = columns.now; cells = cells.now; at = at } in
             OnErr result ((before : Option Files) (rows more : List Row) (end : MomentData) → HasWritten before rows self.old (S.outside shelf.old).outputs
             → OutputsBegun (log_files (rows ++ row ∷ more) end) before (S.outside shelf.new).outputs) }
-        ensures stopped { IfErr result (λ fault. IsStoppedBy fault (S.outside shelf.old) (S.outside shelf.new)) }
+        ensures stopped { IfErr result (λ stop. IsStoppedBy stop (S.outside shelf.old) (S.outside shelf.new)) }
     {
         let line = row(self.alloc, cells)?;
         match self.pieces.get_mut(path) {
@@ -77,12 +77,13 @@ impl LogFiles {
         columns: &[Column],
         at: Moment,
         line: &[u8],
-    ) -> Result<(), LogFault>
+    ) -> Result<(), Stop>
         requires date { HasDate at }
         requires new { get_by (λ key. bytes_eq path.now key.items) self.old.pieces ≡ None }
         ensures begun { let text = header_text path.now columns.now at ++ line.now in
             OnOk result ((other : List ℕ) → pieces_of self.new other ≡ with_file (pieces_of self.old) (file_name path.now) text other) }
-        ensures creates { Creates (S.outside shelf.old) (file_name path.now) (answer_of result) (S.outside shelf.new) }
+        ensures creates { OnOk result (S.outside shelf.new ≡ created (S.outside shelf.old) (file_name path.now)) }
+        ensures stopped { IfErr result (λ stop. IsNotBegun (file_name path.now) stop (S.outside shelf.old) (S.outside shelf.new)) }
     {
         let mut piece = header(self.alloc, path, columns, at)?;
         piece.append(line)?;
@@ -95,7 +96,7 @@ impl LogFiles {
     }
 
     /// Closes the logs: what waits is handed over with the line that ends each file. No log is open then.
-    pub fn close<S: Shelf>(&mut self, shelf: &mut S, at: Moment) -> Result<(), LogFault>
+    pub fn close<S: Shelf>(&mut self, shelf: &mut S, at: Moment) -> Result<(), Stop>
         requires date { HasDate at }
         requires created { AreCreated self.old (S.outside shelf.old) }
         ensures closed { OnOk result ((before : Option Files) (rows : List Row) → HasWritten before rows self.old (S.outside shelf.old).outputs
@@ -105,7 +106,7 @@ impl LogFiles {
         ensures only { OnOk result (ChangesOutputs (S.outside shelf.old) (S.outside shelf.new)) }
         ensures begun { OnErr result ((before : Option Files) (rows : List Row) → HasWritten before rows self.old (S.outside shelf.old).outputs
             → OutputsBegun (log_files rows at) before (S.outside shelf.new).outputs) }
-        ensures stopped { IfErr result (λ fault. IsStoppedBy fault (S.outside shelf.old) (S.outside shelf.new)) }
+        ensures stopped { IfErr result (λ stop. IsStoppedBy stop (S.outside shelf.old) (S.outside shelf.new)) }
     {
         let line = close(self.alloc, at)?;
         'logs: for (path, piece) in self.pieces.iter() {

@@ -12,10 +12,10 @@ use Rattle.zk_base.specs.declared.shelf.Got.TheVariants as got
 use Rattle.zk_base.specs.declared.shelf.Wrote.{Wrote}
 use Rattle.zk_base.specs.declared.shelf.Wrote.TheVariants as wrote
 use Rattle.zk_base.specs.declared.counts.Counts.{Counts}
-use Rattle.zk_base.specs.Counts.{with_absence, with_read_fault, with_write_fault}
+use Rattle.zk_base.specs.Counts.{with_absence, with_read_fault, with_write_fault, without_fault}
 use Rattle.zk_base.specs.Shelf.{Outside, Closed, Untold, HasRisen}
 
--- whether an input is open, and the counts; nothing of what files hold
+-- whether an input is open, the counts and the last fault; nothing of what files hold
 abbrev pub untold : Bool → Counts → Outside
 untold is_open counts = record {
   inputs = None;
@@ -27,6 +27,7 @@ untold is_open counts = record {
   read_faults = counts.read_faults;
   write_faults = counts.write_faults;
   absences = counts.absences;
+  last = counts.last;
 }
 
 -- what comes of a start where the file can't be opened: only one that isn't found is absent
@@ -41,14 +42,14 @@ started_of (Err error) = started_on_error (error_kind error)
 
 -- what a start counts; it takes no memory, so it never wants any
 abbrev pub CountsStart : Counts → Started → Counts → Type 0
-CountsStart old started.Open new = new ≡ old
+CountsStart old started.Open new = new ≡ without_fault old
 CountsStart old started.Absent new = (new ≡ with_absence old) × HasRisen old.absences new.absences
 CountsStart old started.Failed new = (new ≡ with_read_fault old) × HasRisen old.read_faults new.read_faults
 CountsStart old started.NoMemory new = ⊥
 
 -- what a write counts; it takes no memory, so it never wants any
 abbrev pub CountsWrite : Counts → Wrote → Counts → Type 0
-CountsWrite old wrote.Done new = new ≡ old
+CountsWrite old wrote.Done new = new ≡ without_fault old
 CountsWrite old wrote.Failed new = (new ≡ with_write_fault old) × HasRisen old.write_faults new.write_faults
 CountsWrite old wrote.NoMemory new = ⊥
 

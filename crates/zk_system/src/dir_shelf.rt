@@ -46,7 +46,7 @@ impl<F: Files, O: Write, E: Write> DirShelf<F, O, E> {
         }
     }
 
-    /// The faults and absences that it has counted.
+    /// The faults and absences that it has counted, and what its last call failed at.
     pub fn counts(&self) -> Counts
         ensures { result ≡ self.now.counts }
     {
@@ -97,6 +97,7 @@ impl<F: Files, O: Write, E: Write> Shelf for DirShelf<F, O, E> {
         let Some(file) = &mut self.input else {
             unreachable!()
         };
+        self.counts.clear_fault();
         match read_some(file, buf) {
             Ok(0) => Got::End,
             Ok(n) => Got::Bytes(n),
@@ -144,13 +145,17 @@ impl<F: Files, O: Write, E: Write> Shelf for DirShelf<F, O, E> {
     }
 }
 
-/// What became of the opening of a file, which is counted if none was opened.
+/// What became of the opening of a file, which is counted if none was opened. An absent file is no
+/// fault.
 fn started<T>(opened: &io::Result<T>, counts: &mut Counts) -> Started
     ensures answer { result ≡ started_of opened.now }
     ensures counted { CountsStart counts.old result counts.new }
 {
     match opened {
-        Ok(_) => Started::Open,
+        Ok(_) => {
+            counts.clear_fault();
+            Started::Open
+        }
         Err(error) if error.kind() == ErrorKind::NotFound => {
             counts.add_absence();
             Started::Absent
@@ -162,14 +167,17 @@ fn started<T>(opened: &io::Result<T>, counts: &mut Counts) -> Started
     }
 }
 
-/// What became of a write, which is counted if it failed.
+/// What became of a write, which is counted if it failed, and else takes the last fault away.
 fn wrote(written: io::Result<()>, counts: &mut Counts) -> Wrote
     ensures done { (result ≡ Wrote.Done) ↔ IsOk written }
     ensures failed { IsErr written → result ≡ Wrote.Failed }
     ensures counted { CountsWrite counts.old result counts.new }
 {
     match written {
-        Ok(()) => Wrote::Done,
+        Ok(()) => {
+            counts.clear_fault();
+            Wrote::Done
+        }
         Err(_) => {
             counts.add_write_fault();
             Wrote::Failed

@@ -16,8 +16,8 @@ use sqlite_items::Boxed;
 use std::alloc::Global;
 use zk_base::{Mem, Moment, Shelf};
 use zk_events::{Engine, ItemEnd, lines_given, lines_stay};
-use zk_outcome::Stop;
 use zk_lower::Code;
+use zk_outcome::Stop;
 use zk_traffic::Item;
 
 /// A program that runs over the items of a capture, and what it gives out.

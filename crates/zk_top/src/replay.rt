@@ -22,8 +22,8 @@ use std::alloc::Global;
 use zk_base::{Mem, Moment, PacketView, Shelf};
 use zk_events::{ItemEnd, lines_stay};
 use zk_io::CaptureReader;
-use zk_outcome::Stop;
 use zk_lower::Code;
+use zk_outcome::Stop;
 use zk_traffic::{Options, Traffic, items_stay};
 
 /// A replay of a capture to a program: its traffic, and the program.

@@ -1,8 +1,9 @@
 use Rattle.std.proofs.Common.{◌≡◌, ◌+◌, ◌<◌, [], ◌∷◌, length, length-append, sym, ap, subst, ◌∙◌, arith}
 use Rattle.std.proofs.lemmas.Result.{err_from_is_err_and}
-use Rattle.zk_load.specs.declared.found.Found.TheVariants.{Accepted, Refused}
+use Rattle.zk_outcome.specs.declared.found.Found.TheVariants.{Accepted, Refused}
 use Rattle.zk_load.specs.Loads.{LoadsAll}
-use Rattle.zk_load.specs.Parts.{DoesPart, Finds}
+use Rattle.zk_outcome.specs.Found.{Finds}
+use Rattle.zk_outcome.specs.Parts.{DoesPart}
 use Rattle.zk_load.specs.Script.{script_in}
 use Rattle.zk_load.proofs.LoadLaws.{all_loaded, as_many_read, at_script, few_read, loading_begins, refused_too_many, script_read, script_refused, stopped_at_script, stopped_behind}
 use Rattle.zk_load.proofs.loading.load_scripts.Goals as goal

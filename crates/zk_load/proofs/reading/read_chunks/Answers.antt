@@ -1,6 +1,6 @@
 use Rattle.std.proofs.Common.{ℕ, List, ◌++◌, take, refl}
 use Rattle.std.proofs.lemmas.Result.{err_from_is_err_and}
-use Rattle.zk_load.proofs.SoFar.{read_more, stopped_for_memory, stopped_by_input}
+use Rattle.zk_outcome.proofs.SoFar.{read_more, stopped_for_memory, stopped_by_input}
 use Rattle.zk_load.proofs.reading.read_chunks.Goals as goal
 
 pub loop-shelf-preserved : goal.loop-shelf-preserved

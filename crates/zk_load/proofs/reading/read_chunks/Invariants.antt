@@ -1,5 +1,5 @@
 use Rattle.std.proofs.Common.{◌+◌, ◌-◌, length}
-use Rattle.zk_load.proofs.SoFar.{IsReadSoFar}
+use Rattle.zk_outcome.proofs.SoFar.{IsReadSoFar}
 use Rattle.zk_load.proofs.reading.read_chunks.Given as goal
 
 abbrev pub invariant-loop-shelf : goal.invariant-loop-shelf

@@ -1,7 +1,7 @@
 use Rattle.std.proofs.Common.{[], ◌∷◌}
 use Rattle.std.proofs.lemmas.Result.{err_from_is_err_and}
-use Rattle.zk_load.proofs.Doing.{start_part, start_all, does_both_part, out_of_memory}
-use Rattle.zk_load.proofs.SoFar.{read_of_input, none_of_input}
+use Rattle.zk_outcome.proofs.Doing.{start_part, start_all, does_both_part, call_out_of_memory}
+use Rattle.zk_outcome.proofs.SoFar.{read_of_input, none_of_input}
 use Rattle.zk_load.proofs.reading.read_input.Goals as goal
 
 pub returns-in_err-read_open-in-Open-clause-stopped : goal.returns-in_err-read_open-in-Open-clause-stopped
@@ -20,7 +20,7 @@ returns-in-Failed-clause-stopped g c =
 
 pub returns-in-NoMemory-clause-stopped : goal.returns-in-NoMemory-clause-stopped
 returns-in-NoMemory-clause-stopped g c =
-    out_of_memory (c.args.name.now ∷ []) [] [] (g.S.Shelf.outside c.args.shelf.now) (g.S.Shelf.outside c.start.new.self) c.in-NoMemory.ensures.leaves
+    call_out_of_memory (c.args.name.now ∷ []) [] [] (g.S.Shelf.outside c.args.shelf.now) (g.S.Shelf.outside c.start.new.self) c.in-NoMemory.ensures.leaves
 
 pub returns-in_ok-read_open-in-Open-clause-bytes : goal.returns-in_ok-read_open-in-Open-clause-bytes
 returns-in_ok-read_open-in-Open-clause-bytes g c =

@@ -1,6 +1,6 @@
 use Rattle.std.proofs.Common.{[], refl}
 use Rattle.std.proofs.lemmas.Result.{err_from_is_err_and}
-use Rattle.zk_load.proofs.Doing.{out_of_memory}
+use Rattle.zk_outcome.proofs.Doing.{out_of_memory}
 use Rattle.zk_load.proofs.reading.read_open.Goals as goal
 
 pub returns-in_err-chunk-clause-stopped : goal.returns-in_err-chunk-clause-stopped

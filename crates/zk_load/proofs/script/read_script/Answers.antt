@@ -1,9 +1,9 @@
 use Rattle.std.proofs.Common.{◌≡◌, [], ◌∷◌, Some, None, IfSome, IsSome, IsNone, refl, ap, subst, ◌∙◌, rules}
 use Rattle.std.proofs.lemmas.Result.{err_from_is_err_and}
 use Rattle.zk_base.specs.Shelf.{HasRisen}
-use Rattle.zk_load.specs.Parts.{IsReadOf}
+use Rattle.zk_outcome.specs.Input.{IsReadOf}
 use Rattle.zk_load.specs.Script.{script_max, script_of, accepted}
-use Rattle.zk_load.proofs.Doing.{out_of_memory}
+use Rattle.zk_outcome.proofs.Doing.{out_of_memory}
 use Rattle.zk_load.proofs.Finding.{found_no_script, found_script}
 use Rattle.zk_load.proofs.script.read_script.Goals as goal
 

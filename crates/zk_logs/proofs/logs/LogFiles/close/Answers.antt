@@ -48,13 +48,13 @@ returns-in_err-close_log-clause-begun g c =
     let old = g.S.Shelf.outside c.args.shelf.now in
     let now = g.S.Shelf.outside c.logs.shelf in
     let new = g.S.Shelf.outside c.close_log.new.shelf in
-    let fault = c.in_err-close_log.field-0.0 in
+    let stop = c.in_err-close_log.field-0.0 in
     let entry : Key × List ℕ = (c.in-Some.path.now, c.in-Some.piece.now) in
     let closes = subst (λ (left : List (Key × List ℕ)). Closes path_of c.args.at all left old now) c.in-Some.ensures.steps c.logs.invariant in
     let exit = c.from_residual-in_err-close_log in
     let p = err_from_is_err_and exit.result exit.ensures.1 in
-    rw p.1 (closes_stopped path_of c.args.at all c.next.new.self entry fault old now new closes
-    (part_as fault c.deref.result.now entry.0.items c.as_slice.result.now entry.1 c.as_slice-in-logs.result.now _ now new
+    rw p.1 (closes_stopped path_of c.args.at all c.next.new.self entry stop old now new closes
+    (part_as stop c.deref.result.now entry.0.items c.as_slice.result.now entry.1 c.as_slice-in-logs.result.now _ now new
     c.deref.ensures.value c.as_slice.ensures (c.as_slice-in-logs.ensures ∙ c.in_ok-line.ensures) c.in_err-close_log.ensures.stopped)).0
 
 pub returns-in_err-close_log-clause-stopped : goal.returns-in_err-close_log-clause-stopped
@@ -63,13 +63,13 @@ returns-in_err-close_log-clause-stopped g c =
     let old = g.S.Shelf.outside c.args.shelf.now in
     let now = g.S.Shelf.outside c.logs.shelf in
     let new = g.S.Shelf.outside c.close_log.new.shelf in
-    let fault = c.in_err-close_log.field-0.0 in
+    let stop = c.in_err-close_log.field-0.0 in
     let entry : Key × List ℕ = (c.in-Some.path.now, c.in-Some.piece.now) in
     let closes = subst (λ (left : List (Key × List ℕ)). Closes path_of c.args.at all left old now) c.in-Some.ensures.steps c.logs.invariant in
     let exit = c.from_residual-in_err-close_log in
     let p = err_from_is_err_and exit.result exit.ensures.1 in
-    rw (p.1, p.2) (closes_stopped path_of c.args.at all c.next.new.self entry fault old now new closes
-    (part_as fault c.deref.result.now entry.0.items c.as_slice.result.now entry.1 c.as_slice-in-logs.result.now _ now new
+    rw (p.1, p.2) (closes_stopped path_of c.args.at all c.next.new.self entry stop old now new closes
+    (part_as stop c.deref.result.now entry.0.items c.as_slice.result.now entry.1 c.as_slice-in-logs.result.now _ now new
     c.deref.ensures.value c.as_slice.ensures (c.as_slice-in-logs.ensures ∙ c.in_ok-line.ensures) c.in_err-close_log.ensures.stopped)).1
 
 pub returns-clause-closed : goal.returns-clause-closed

@@ -63,4 +63,4 @@ pub returns-clause-begun : goal.returns-clause-begun
 returns-clause-begun g c =
     let row : Row = record { path = c.args.path.now; columns = c.args.columns.now; cells = c.args.cells.now; at = c.args.at } in
     new_begun row c.args.self.now.pieces.entries (sym c.in-None.ensures.value) (g.S.Shelf.outside c.args.shelf.now) (g.S.Shelf.outside c.begin.new.shelf)
-    c.begin.result c.begin.ensures.creates
+    c.begin.result c.begin.ensures.stopped

@@ -4,8 +4,8 @@ use Rattle.zk_base.specs.declared.endings.Ending.{Ending}
 use Rattle.zk_base.specs.declared.endings.Ending.TheVariants as ending
 use Rattle.zk_base.specs.declared.shelf.Wrote.{Wrote}
 use Rattle.zk_base.specs.declared.shelf.Wrote.TheVariants as wrote
-use Rattle.zk_load.specs.declared.stop.Stop.{Stop}
-use Rattle.zk_load.specs.declared.stop.Stop.TheVariants.{ReadFault, WriteFault, NoMemory}
+use Rattle.zk_outcome.specs.declared.stop.Stop.{Stop}
+use Rattle.zk_outcome.specs.declared.stop.Stop.TheVariants.{ReadFault, WriteFault, NoMemory}
 
 abbrev pub ending_of : Stop → Ending
 ending_of ReadFault = ending.ReadFault

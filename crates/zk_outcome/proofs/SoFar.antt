@@ -3,17 +3,18 @@ use Rattle.std.proofs.Common.{◌≡◌, ℕ, ◌+◌, ◌≤◌, List, [], ◌+
 use Rattle.std.specs.Option.{option_map}
 use Rattle.std.proofs.lemmas.List.{take-append-drop, length-take-le, drop-drop}
 use Rattle.std.proofs.Math.Seq.{take-append_seam}
+use Rattle.zk_base.specs.declared.shelf.Fault.TheVariants as fault
 use Rattle.zk_base.specs.Shelf.{Files, Outside, Reading, Closed, Untold, At, is_open, bytes_from, rest_of, advanced, opened, GivesBytes, FailsToRead, FindsNone, OpensInput, HasRisen}
-use Rattle.zk_load.specs.declared.stop.Stop.TheVariants.{ReadFault, NoMemory}
-use Rattle.zk_load.specs.Parts.{Does, DoesWithoutFault, DoesPart, IsReadBeyond, IsReadOf}
-use Rattle.zk_load.specs.Parts.{SameFaults}
-use Rattle.zk_load.proofs.Doing.{does_nothing, prefix_none, does_both_part}
+use Rattle.zk_outcome.specs.declared.stop.Stop.TheVariants.{ReadFault, NoMemory}
+use Rattle.zk_outcome.specs.Input.{IsReadBeyond, IsReadOf}
+use Rattle.zk_outcome.specs.Parts.{Does, DoesWithoutFault, DoesPart, SameFaults}
+use Rattle.zk_outcome.proofs.Doing.{does_only, prefix_none, does_both_part}
 
--- the bytes stand before what is left, and nothing but the place in the input has changed
+-- the bytes stand before what is left, and nothing has changed but the place in the input and the last fault
 pub record IsReadSoFar (first : Outside) (bytes : List ℕ) (now : Outside) : Type 0 where
   pub is_readable : IsTrue (is_open now.reading)
   pub rest : rest_of first ≡ option_map (λ rest. bytes ++ rest) (rest_of now)
-  pub same : now ≡ record first { reading = now.reading }
+  pub same : now ≡ record first { reading = now.reading; last = now.last }
 
 still_open : (reading : Reading) (n : ℕ) → is_open (advanced reading n) ≡ is_open reading
 still_open Closed n = refl
@@ -58,20 +59,14 @@ read_more first now new bytes longer before after n far given joined =
       is_readable = ap is_open reading ∙ still_open now.reading n ∙ far.is_readable;
       rest = more (rest_of first) (rest_of now) bytes longer before after n far.rest given.bytes joined
           ∙ ap (option_map (λ xs. longer ++ xs)) (sym (ap (λ i. bytes_from i new.reading) inputs ∙ ap (bytes_from now.inputs) reading ∙ rest_on now.inputs now.reading n));
-      same = given.goes_on ∙ ap (λ (o : Outside). record o { reading = advanced now.reading n }) far.same ∙ ap (λ r. record first { reading = r }) (sym reading);
+      same = given.goes_on ∙ ap (λ (o : Outside). record o { reading = advanced now.reading n; last = None }) far.same
+          ∙ ap (λ (o : Outside). record first { reading = o.reading; last = o.last }) (sym given.goes_on);
     }
 
 -- what a read of a part has done
 pub does_read : (first now : Outside) (bytes : List ℕ) → IsReadSoFar first bytes now → Does [] [] [] first now
 does_read first now bytes far =
-    let same : (o : Outside) → Outside = λ o. record first { reading = o.reading } in
-    subst (λ o. Does [] [] [] first o) (sym far.same) (record {
-      inputs_stay = refl;
-      outputs_stay = refl;
-      says = (does_nothing first).says;
-      complains = (does_nothing first).complains;
-      starts = (does_nothing first).starts;
-    })
+    subst (λ o. Does [] [] [] first o) (sym far.same) (does_only first (record first { reading = now.reading; last = now.last }) refl refl refl refl refl)
 
 pub same_faults_read : (first now : Outside) (bytes : List ℕ) → IsReadSoFar first bytes now → SameFaults first now
 same_faults_read first now bytes far = record { read = ap (λ (o : Outside). o.read_faults) far.same; write = ap (λ (o : Outside). o.write_faults) far.same }
@@ -100,14 +95,12 @@ stopped_by_input first now new bytes far fails =
       said_prefix = prefix_none [];
       complained_part = [];
       complained_prefix = prefix_none [];
-      does = subst (λ o. Does [] [] [] now o) (sym fails.after) (record {
-        inputs_stay = refl;
-        outputs_stay = refl;
-        says = (does_nothing now).says;
-        complains = (does_nothing now).complains;
-        starts = (does_nothing now).starts;
-      });
-      cause = (subst (λ n. HasRisen now.read_faults n) (sym (ap (λ (o : Outside). o.read_faults) fails.after)) fails.risen, ap (λ (o : Outside). o.write_faults) fails.after);
+      does = subst (λ o. Does [] [] [] now o) (sym fails.after) (does_only now (record now { read_faults = fails.count; last = Some fault.Read }) refl refl refl refl refl);
+      cause = (
+        subst (λ n. HasRisen now.read_faults n) (sym (ap (λ (o : Outside). o.read_faults) fails.after)) fails.risen,
+        ap (λ (o : Outside). o.write_faults) fails.after,
+        ap (λ (o : Outside). o.last) fails.after,
+      );
       quiet = refl;
     } in
     does_both_part [] [] [] [] [] first now ReadFault new all part

@@ -3,12 +3,12 @@ use Rattle.std.proofs.Common.{◌≡◌, ℕ, List, [], ◌∷◌, ◌++◌, tak
 use Rattle.std.proofs.lemmas.List.{take-append-drop, append-nil}
 use Rattle.zk_base.specs.declared.shelf.Wrote.{Wrote}
 use Rattle.zk_base.specs.declared.shelf.Wrote.TheVariants as wrote
-use Rattle.zk_base.specs.Shelf.{Outside, HasRisen, FailsToStart, OpensInput, Puts, PutsPrefix, after_say, after_complaint, appended}
-use Rattle.zk_load.specs.declared.stop.Stop.{Stop}
-use Rattle.zk_load.specs.declared.stop.Stop.TheVariants.{ReadFault, WriteFault, NoMemory}
-use Rattle.zk_load.specs.Parts.{HasCause, IsQuiet, Does, DoesWithoutFault, DoesAll, DoesPart}
-use Rattle.zk_load.specs.Parts.{IsPrefix, SameFaults}
-use Rattle.zk_load.specs.Stop.{written_by}
+use Rattle.zk_base.specs.Shelf.{Outside, HasRisen, FailsToStart, OpensInput, Puts, PutsPrefix, after_say, after_complaint, appended, without_fault}
+use Rattle.zk_outcome.specs.declared.stop.Stop.{Stop}
+use Rattle.zk_outcome.specs.declared.stop.Stop.TheVariants.{ReadFault, WriteFault, NoMemory}
+use Rattle.zk_outcome.specs.Parts.{SameFaults, HasCause, IsQuiet, Does, DoesWithoutFault, DoesAll, DoesPart}
+use Rattle.zk_outcome.specs.Prefix.{IsPrefix}
+use Rattle.zk_outcome.specs.Stop.{written_by}
 
 -- Prefixes -------------------------------------------------------------------------------------------------
 
@@ -56,14 +56,19 @@ both_named (Some names) a b = ap Some (append_assoc names a b)
 pub same_faults : (old : Outside) → SameFaults old old
 same_faults old = record { read = refl; write = refl }
 
-pub does_nothing : (old : Outside) → Does [] [] [] old old
-does_nothing old = record {
-  inputs_stay = refl;
-  outputs_stay = refl;
-  says = none_appended old.said;
-  complains = none_appended old.complained;
-  starts = none_named old.started;
+-- where all of this stays
+pub does_only : (old new : Outside) → new.inputs ≡ old.inputs → new.outputs ≡ old.outputs → new.said ≡ old.said → new.complained ≡ old.complained → new.started ≡ old.started
+    → Does [] [] [] old new
+does_only old new inputs outputs said complained started = record {
+  inputs_stay = inputs;
+  outputs_stay = outputs;
+  says = said ∙ none_appended old.said;
+  complains = complained ∙ none_appended old.complained;
+  starts = started ∙ none_named old.started;
 }
+
+pub does_nothing : (old : Outside) → Does [] [] [] old old
+does_nothing old = does_only old old refl refl refl refl refl
 
 pub does_nothing_without_fault : (old : Outside) → DoesWithoutFault [] [] [] old old
 does_nothing_without_fault old = record { does = does_nothing old; faults = same_faults old }
@@ -96,8 +101,8 @@ risen_since : (before old new : ℕ) → old ≡ before → HasRisen old new →
 risen_since before old new same risen = subst (λ n. HasRisen n new) same risen
 
 pub cause_since : (a b : Outside) (stop : Stop) (e : Outside) → SameFaults a b → HasCause b stop e → HasCause a stop e
-cause_since a b ReadFault e same cause = (risen_since a.read_faults b.read_faults e.read_faults same.read cause.0, cause.1 ∙ same.write)
-cause_since a b WriteFault e same cause = (risen_since a.write_faults b.write_faults e.write_faults same.write cause.0, cause.1 ∙ same.read)
+cause_since a b ReadFault e same cause = (risen_since a.read_faults b.read_faults e.read_faults same.read cause.0, cause.1 ∙ same.write, cause.2)
+cause_since a b WriteFault e same cause = (risen_since a.write_faults b.write_faults e.write_faults same.write cause.0, cause.1 ∙ same.read, cause.2)
 cause_since a b NoMemory e same cause = record { read = cause.read ∙ same.read; write = cause.write ∙ same.write }
 
 -- a part that is stopped, after one that isn't and has not complained
@@ -135,23 +140,29 @@ quiet_none ReadFault = refl
 quiet_none WriteFault = tt
 quiet_none NoMemory = refl
 
--- stopped before anything was done
-pub stopped_before : (names : List (List ℕ)) (said complained : List ℕ) (old : Outside) (stop : Stop) → HasCause old stop old → DoesPart names said complained old stop old
-stopped_before names said complained old stop cause = record {
+-- a part that has found no memory before it has done anything
+nothing_done : (names : List (List ℕ)) (said complained : List ℕ) (old new : Outside) → Does [] [] [] old new → SameFaults old new → DoesPart names said complained old NoMemory new
+nothing_done names said complained old new does faults = record {
   names_part = [];
   names_prefix = prefix_none names;
   said_part = [];
   said_prefix = prefix_none said;
   complained_part = [];
   complained_prefix = prefix_none complained;
-  does = does_nothing old;
-  cause = cause;
-  quiet = quiet_none stop;
+  does = does;
+  cause = faults;
+  quiet = refl;
 }
 
 pub out_of_memory : (names : List (List ℕ)) (said complained : List ℕ) (old new : Outside) → new ≡ old → DoesPart names said complained old NoMemory new
 out_of_memory names said complained old new same =
-    subst (λ o. DoesPart names said complained old NoMemory o) (sym same) (stopped_before names said complained old NoMemory (same_faults old))
+    subst (λ o. DoesPart names said complained old NoMemory o) (sym same) (nothing_done names said complained old old (does_nothing old) (same_faults old))
+
+-- and one whose call has found none
+pub call_out_of_memory : (names : List (List ℕ)) (said complained : List ℕ) (old new : Outside) → new ≡ without_fault old → DoesPart names said complained old NoMemory new
+call_out_of_memory names said complained old new same =
+    subst (λ o. DoesPart names said complained old NoMemory o) (sym same)
+    (nothing_done names said complained old (without_fault old) (does_only old (without_fault old) refl refl refl refl refl) (record { read = refl; write = refl }))
 
 -- a write that failed --------------------------------------------------------------------------------------
 
@@ -170,7 +181,11 @@ said_part piece old new puts = record {
     complains = ap (λ (o : Outside). o.complained) puts.left ∙ none_appended old.complained;
     starts = ap (λ (o : Outside). o.started) puts.left ∙ none_named old.started;
   };
-  cause = (subst (λ n. HasRisen old.write_faults n) (sym (ap (λ (o : Outside). o.write_faults) puts.left)) puts.risen, ap (λ (o : Outside). o.read_faults) puts.left);
+  cause = (
+    subst (λ n. HasRisen old.write_faults n) (sym (ap (λ (o : Outside). o.write_faults) puts.left)) puts.risen,
+    ap (λ (o : Outside). o.read_faults) puts.left,
+    ap (λ (o : Outside). o.last) puts.left,
+  );
   quiet = tt;
 }
 
@@ -189,7 +204,11 @@ complained_part piece old new puts = record {
     complains = ap (λ (o : Outside). o.complained) puts.left;
     starts = ap (λ (o : Outside). o.started) puts.left ∙ none_named old.started;
   };
-  cause = (subst (λ n. HasRisen old.write_faults n) (sym (ap (λ (o : Outside). o.write_faults) puts.left)) puts.risen, ap (λ (o : Outside). o.read_faults) puts.left);
+  cause = (
+    subst (λ n. HasRisen old.write_faults n) (sym (ap (λ (o : Outside). o.write_faults) puts.left)) puts.risen,
+    ap (λ (o : Outside). o.read_faults) puts.left,
+    ap (λ (o : Outside). o.last) puts.left,
+  );
   quiet = tt;
 }
 
@@ -215,7 +234,7 @@ pub said_stopped : (wrote : Wrote) (piece : List ℕ) (old new : Outside) → Pu
     → IfErr (written_by wrote) (λ stop. DoesPart [] piece [] old stop new)
 said_stopped wrote.Done piece old new after = tt
 said_stopped wrote.Failed piece old new puts = said_part piece old new puts
-said_stopped wrote.NoMemory piece old new same = out_of_memory [] piece [] old new same
+said_stopped wrote.NoMemory piece old new same = call_out_of_memory [] piece [] old new same
 
 pub complained_all : (wrote : Wrote) (piece : List ℕ) (old new : Outside) → Puts (after_complaint old) old piece wrote new
     → OnOk (written_by wrote) (DoesAll [] [] piece old new)
@@ -239,7 +258,7 @@ pub complained_stopped : (wrote : Wrote) (piece : List ℕ) (old new : Outside) 
     → IfErr (written_by wrote) (λ stop. DoesPart [] [] piece old stop new)
 complained_stopped wrote.Done piece old new after = tt
 complained_stopped wrote.Failed piece old new puts = complained_part piece old new puts
-complained_stopped wrote.NoMemory piece old new same = out_of_memory [] [] piece old new same
+complained_stopped wrote.NoMemory piece old new same = call_out_of_memory [] [] piece old new same
 
 -- a start ----------------------------------------------------------------------------------------------------
 
@@ -258,7 +277,11 @@ start_part name old new fails = record {
     complains = ap (λ (o : Outside). o.complained) fails.after ∙ none_appended old.complained;
     starts = ap (λ (o : Outside). o.started) fails.after;
   };
-  cause = (subst (λ n. HasRisen old.read_faults n) (sym (ap (λ (o : Outside). o.read_faults) fails.after)) fails.risen, ap (λ (o : Outside). o.write_faults) fails.after);
+  cause = (
+    subst (λ n. HasRisen old.read_faults n) (sym (ap (λ (o : Outside). o.read_faults) fails.after)) fails.risen,
+    ap (λ (o : Outside). o.write_faults) fails.after,
+    ap (λ (o : Outside). o.last) fails.after,
+  );
   quiet = refl;
 }
 

@@ -1,6 +1,6 @@
 ghost use Rattle.std.specs.Prelude.{◌≡◌};
-ghost use Rattle.zk_load.specs.declared.stop.Stop.TheVariants.{NoMemory};
-ghost use Rattle.zk_load.specs.Stop.{written_by};
+ghost use Rattle.zk_outcome.specs.declared.stop.Stop.TheVariants.{NoMemory};
+ghost use Rattle.zk_outcome.specs.Stop.{written_by};
 
 use std::alloc::{AllocError, AllocFailed};
 use zk_base::{Ending, Mem, Wrote};
@@ -43,8 +43,16 @@ impl From<AllocError> for Stop {
     }
 }
 
+impl<T: Drop> From<AllocFailed<T>> for Stop {
+    ghost from_gives = { λ _ stop. stop ≡ NoMemory };
+
+    fn from(_: AllocFailed<T>) -> Stop {
+        Stop::NoMemory
+    }
+}
+
 impl From<Stop> for Ending {
-    ghost use Rattle.zk_load.specs.Stop.{ending_of};
+    ghost use Rattle.zk_outcome.specs.Stop.{ending_of};
 
     ghost from_gives = { λ stop ending. ending ≡ ending_of stop };
 

@@ -1,0 +1,5 @@
+pub mod Found
+pub mod Input
+pub mod Parts
+pub mod Prefix
+pub mod Stop

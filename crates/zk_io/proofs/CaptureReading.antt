@@ -109,17 +109,19 @@ behind_more whole header bytes piece packets reader after old new is read stands
 
 -- the end of a capture was met, or as many bytes were read as count
 pub behind_over : (whole : Option (List ℕ)) (header : Header) (bytes : List ℕ) (packets : List Packet) (reader after : CaptureReader) (old new : Outside)
-    → IsBehind whole header bytes packets reader old → new ≡ old → StandsFor after.feed header bytes packets → after.link ≡ reader.link → after.passed ≡ reader.passed → after.left ≡ reader.left
+    → IsBehind whole header bytes packets reader old → SameInput old new → StandsFor after.feed header bytes packets → after.link ≡ reader.link → after.passed ≡ reader.passed → after.left ≡ reader.left
     → (reader.left ≡ 0) ⊎ IfSome (rest_of old) (λ rest. rest ≡ []) → IsBehind whole header bytes packets after new
-behind_over whole header bytes packets reader after old new is unmoved stands link same left over = record {
-  link = link ∙ is.link;
-  opens = is.opens;
-  stands = stands;
-  read = subst (HasRead whole bytes) (sym unmoved) is.read;
-  counted = ap (λ n. n + length bytes) left ∙ is.counted;
-  read_out = λ out. subst (λ n. (n ≡ 0) ⊎ IfSome (rest_of new) (λ rest. rest ≡ [])) (sym left) (subst (λ o. (reader.left ≡ 0) ⊎ IfSome (rest_of o) (λ rest. rest ≡ [])) (sym unmoved) over);
-  passed = same ∙ is.passed;
-}
+behind_over whole header bytes packets reader after old new is (reading, inputs) stands link same left over =
+    let rest : rest_of new ≡ rest_of old = ap (λ i. bytes_from i new.reading) inputs ∙ ap (bytes_from old.inputs) reading in
+    record {
+      link = link ∙ is.link;
+      opens = is.opens;
+      stands = stands;
+      read = has_read_on whole bytes old new is.read (reading, inputs);
+      counted = ap (λ n. n + length bytes) left ∙ is.counted;
+      read_out = λ out. subst (λ n. (n ≡ 0) ⊎ IfSome (rest_of new) (λ r. r ≡ [])) (sym left) (subst (λ left_over. (reader.left ≡ 0) ⊎ IfSome left_over (λ r. r ≡ [])) (sym rest) over);
+      passed = same ∙ is.passed;
+    }
 
 -- packets take up places, each one at least
 places_of : (header : Header) (bytes : List ℕ) (from : ℕ) (packets : List Packet) (to : ℕ) → StandBetween (record_at header bytes) from packets to → from + length packets ≤ to

@@ -5,7 +5,7 @@ use Rattle.zk_base.specs.declared.endings.Ending.TheVariants.{NoInput}
 use Rattle.zk_outcome.specs.declared.found.Found.TheVariants.{Refused}
 use Rattle.zk_io.specs.Reading.{FindsCapture, IsJudged}
 use Rattle.zk_outcome.specs.declared.stop.Stop.TheVariants.{NoMemory}
-use Rattle.zk_outcome.proofs.Doing.{out_of_memory, start_part, start_all, does_both_all, does_both_part}
+use Rattle.zk_outcome.proofs.Doing.{call_out_of_memory, out_of_memory, start_part, start_all, does_both_all, does_both_part}
 use Rattle.zk_io.proofs.OpenCapture.{open_input, found_by, found_absent, open_by}
 use Rattle.zk_io.proofs.EarlyLaws.{failed_start, stopped_early, found_soon}
 use Rattle.zk_io.proofs.capture.CaptureReader.open.Goals as goal
@@ -64,7 +64,7 @@ returns-in-Failed-clause-stopped g c =
 
 pub returns-in-NoMemory-clause-stopped : goal.returns-in-NoMemory-clause-stopped
 returns-in-NoMemory-clause-stopped g c =
-    out_of_memory (c.args.file.now ∷ []) [] [] (g.S.Shelf.outside c.args.shelf.now) (g.S.Shelf.outside c.start.new.self) c.in-NoMemory.ensures.leaves
+    call_out_of_memory (c.args.file.now ∷ []) [] [] (g.S.Shelf.outside c.args.shelf.now) (g.S.Shelf.outside c.start.new.self) c.in-NoMemory.ensures.leaves
 
 pub returns-in_err-name-clause-early : goal.returns-in_err-name-clause-early
 returns-in_err-name-clause-early g c =

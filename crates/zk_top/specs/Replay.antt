@@ -120,17 +120,17 @@ pub record IsOver (first : Beginning) (plan : Plan) (packets : List Captured) (l
 pub record IsThrough (first : Beginning) (plan : Plan) (whole : Option (List ℕ)) (last : Moment) (replay : Replay) (reader : CaptureReader) (now : Outside) : Type 0 where
   pub bytes : List ℕ
   pub records : List Captured
-  pub reading : IsReading whole bytes packets reader now
+  pub reading : IsReading whole bytes records reader now
   pub through : IsReadThrough bytes reader
-  pub last_is : last ≡ network_time packets
-  pub played : HasPlayed first plan packets false replay now
+  pub last_is : last ≡ network_time records
+  pub played : HasPlayed first plan records false replay now
 
 -- the run ended in a flood over the first packets of the capture
 pub record IsFlooded (first : Beginning) (plan : Plan) (whole : Option (List ℕ)) (moment : Moment) (replay : Replay) (now : Outside) : Type 0 where
   pub records : List Captured
   pub ending : CaptureEnding
-  pub all : IsCapture whole packets ending
-  pub flooded : HasFlooded first plan packets true moment replay now
+  pub all : IsCapture whole records ending
+  pub flooded : HasFlooded first plan records true moment replay now
 
 abbrev pub HasCome : Beginning → Plan → Option (List ℕ) → Came → Replay → CaptureReader → Outside → Type 0
 HasCome first plan whole (Through last) replay reader now = IsThrough first plan whole last replay reader now
@@ -145,27 +145,27 @@ IsRead (Flooded moment) whole packets reader now = Unit {0}
 pub record HasRun (first : Beginning) (plan : Plan) (whole : Option (List ℕ)) (came : Came) (replay : Replay) (reader : CaptureReader) (now : Outside) : Type 0 where
   pub records : List Captured
   pub ending : CaptureEnding
-  pub all : IsCapture whole packets ending
-  pub over : IsOver first plan packets (network_time packets) came replay now
-  pub read : IsRead came whole packets reader now
+  pub all : IsCapture whole records ending
+  pub over : IsOver first plan records (network_time records) came replay now
+  pub read : IsRead came whole records reader now
 
 -- And all that it gave out was said and written.
 pub record Replays (plan : Plan) (whole : Option (List ℕ)) (old : Outside) (came : Came) (reader : CaptureReader) (new : Outside) : Type 0 where
   pub records : List Captured
   pub ending : CaptureEnding
-  pub all : IsCapture whole packets ending
-  pub ends : came ≡ came_of (network_time packets) (progress_over plan packets)
-  pub gives : GivesAll (output_over plan packets).text (files_of plan packets) old new
-  pub read : IsRead came whole packets reader new
+  pub all : IsCapture whole records ending
+  pub ends : came ≡ came_of (network_time records) (progress_over plan records)
+  pub gives : GivesAll (output_over plan records).text (files_of plan records) old new
+  pub read : IsRead came whole records reader new
 
 -- Or it has logged so many rows.
 pub record Counts (plan : Plan) (whole : Option (List ℕ)) (came : Came) (rows : RowCounts) (reader : CaptureReader) (new : Outside) : Type 0 where
   pub records : List Captured
   pub ending : CaptureEnding
-  pub all : IsCapture whole packets ending
-  pub ends : came ≡ came_of (network_time packets) (progress_over plan packets)
-  pub rows_are : rows ≡ counts_of (output_over plan packets).rows
-  pub read : IsRead came whole packets reader new
+  pub all : IsCapture whole records ending
+  pub ends : came ≡ came_of (network_time records) (progress_over plan records)
+  pub rows_are : rows ≡ counts_of (output_over plan records).rows
+  pub read : IsRead came whole records reader new
 
 -- A run is stopped before its logs are closed.
 abbrev pub StopsOver : Option (List ℕ) → Plan → Beginning → Stop → Outside → Type 0

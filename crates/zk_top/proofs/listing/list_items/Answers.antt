@@ -44,7 +44,7 @@ returns-in_err-fill-clause-stopped g c =
     (lines_begin c.items_stay.ensures packets others) c.in_err-fill.ensures.stopped))
 
 pub take_packet-requires : goal.take_packet-requires
-take_packet-requires g c = c.packet.ensures.limits c.link-2.result
+take_packet-requires g c = c.packet.ensures.limits c.link-in-packets.result
 
 pub returns-in_err-take_packet-clause-stopped : goal.returns-in_err-take_packet-clause-stopped
 returns-in_err-take_packet-clause-stopped g c =
@@ -53,13 +53,13 @@ returns-in_err-take_packet-clause-stopped g c =
     let mid = g.S.Shelf.outside c.fill.new.shelf in
     let new = g.S.Shelf.outside c.take_packet.new.shelf in
     let stop = c.in_err-take_packet.field-0.0 in
-    let packet = captured c.link-2.result c.packet.result in
+    let packet = captured c.link-in-packets.result c.packet.result in
     let exit = c.from_residual-in_err-take_packet in
     let p = err_from_is_err_and exit.result exit.ensures.1 in
     rw (p.1, p.2) (λ whole bytes is.
     let (longer, packets, reading, listed) = c.packets.invariant.goes_on whole bytes is in
     let (further, filled) = c.in_ok-fill.ensures.goes_on whole longer packets reading in
-    let at = next_at further c.fill.new.self c.packet.result c.link-2.result c.link-2.ensures.link (c.packet.ensures.captured whole further packets mid filled) in
+    let at = next_at further c.fill.new.self c.packet.result c.link-in-packets.result c.link-in-packets.ensures.link (c.packet.ensures.captured whole further packets mid filled) in
     let part = c.in_err-take_packet.ensures.stopped first packets (listed_on first packets c.packets.listing old mid listed c.in_ok-fill.ensures.read) in
     let more = packets ++ packet ∷ [] in
     says_part_next whole further packets packet c.fill.new.self mid (capture_lines) first stop new filled at
@@ -70,13 +70,13 @@ pub packets-smaller : goal.packets-smaller
 packets-smaller g c =
     let old = g.S.Shelf.outside c.packets.shelf in
     let mid = g.S.Shelf.outside c.fill.new.shelf in
-    let packet = captured c.link-2.result c.packet.result in
+    let packet = captured c.link-in-packets.result c.packet.result in
     let (whole, bytes, packets, reading) = c.packets.invariant.under_way in
     let (further, filled) = c.in_ok-fill.ensures.goes_on whole bytes packets reading in
-    let at = next_at further c.fill.new.self c.packet.result c.link-2.result c.link-2.ensures.link (c.packet.ensures.captured whole further packets mid filled) in
+    let at = next_at further c.fill.new.self c.packet.result c.link-in-packets.result c.link-in-packets.ensures.link (c.packet.ensures.captured whole further packets mid filled) in
     let behind = c.advance.ensures.goes_on whole further packets packet mid filled at in
     let same = same_place whole bytes further packets c.packets.reader c.fill.new.self old mid reading filled in
-    let later = later_place whole further packets packet c.fill.new.self c.advance.new.self mid filled at behind in
+    let later = later_place whole further packets packet c.fill.new.self c.advance.new.self mid filled behind in
     omega (arith, same, later.0, later.1)
 
 pub packets-preserved : goal.packets-preserved
@@ -85,18 +85,18 @@ packets-preserved g c =
     let old = g.S.Shelf.outside c.packets.shelf in
     let mid = g.S.Shelf.outside c.fill.new.shelf in
     let new = g.S.Shelf.outside c.take_packet.new.shelf in
-    let packet = captured c.link-2.result c.packet.result in
+    let packet = captured c.link-in-packets.result c.packet.result in
     record {
       under_way =
           let (whole, bytes, packets, reading) = c.packets.invariant.under_way in
           let (further, filled) = c.in_ok-fill.ensures.goes_on whole bytes packets reading in
-          let at = next_at further c.fill.new.self c.packet.result c.link-2.result c.link-2.ensures.link (c.packet.ensures.captured whole further packets mid filled) in
+          let at = next_at further c.fill.new.self c.packet.result c.link-in-packets.result c.link-in-packets.ensures.link (c.packet.ensures.captured whole further packets mid filled) in
           let behind = c.advance.ensures.goes_on whole further packets packet mid filled at in
           (whole, further, packets ++ packet ∷ [], reading_on whole further (packets ++ packet ∷ []) c.advance.new.self mid new behind c.in_ok-take_packet.ensures.input);
       goes_on = λ whole bytes is.
           let (longer, packets, reading, listed) = c.packets.invariant.goes_on whole bytes is in
           let (further, filled) = c.in_ok-fill.ensures.goes_on whole longer packets reading in
-          let at = next_at further c.fill.new.self c.packet.result c.link-2.result c.link-2.ensures.link (c.packet.ensures.captured whole further packets mid filled) in
+          let at = next_at further c.fill.new.self c.packet.result c.link-in-packets.result c.link-in-packets.ensures.link (c.packet.ensures.captured whole further packets mid filled) in
           let behind = c.advance.ensures.goes_on whole further packets packet mid filled at in (
             further,
             packets ++ packet ∷ [],

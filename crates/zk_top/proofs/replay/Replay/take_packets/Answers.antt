@@ -91,7 +91,7 @@ packets-smaller g c =
     let at = next_at further c.fill.new.self c.packet-packet.result c.link.result c.link.ensures.link (c.packet-packet.ensures.captured whole further packets mid filled) in
     let behind = c.advance.ensures.goes_on whole further packets packet mid filled at in
     let same = same_place whole bytes further packets c.packets.reader c.fill.new.self old mid reading filled in
-    let later = later_place whole further packets packet c.fill.new.self c.advance.new.self mid filled at behind in
+    let later = later_place whole further packets packet c.fill.new.self c.advance.new.self mid filled behind in
     omega (arith, same, later.0, later.1)
 
 pub packets-preserved : goal.packets-preserved

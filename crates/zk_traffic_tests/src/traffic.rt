@@ -3,10 +3,9 @@ ghost use Rattle.std.specs.Prelude.{◌≤ℤ◌, ◌^◌, pos};
 use std::alloc::Global;
 use std::process::Abort;
 use std::test::Fail;
-use zk_base::{LINKTYPE_ETHERNET, Mem, Moment, Side};
+use zk_base::{LINKTYPE_ETHERNET, LINKTYPE_RAW, Mem, Moment, PacketView, Side};
 use zk_conn::ConnState;
 use zk_http::{Reason, Unit, UnitKind};
-use zk_pcap::PacketView;
 use zk_traffic::{Fresh, Options, Traffic, What};
 
 /// What an item shows, its connection and its facts aside.
@@ -190,6 +189,25 @@ fn bytes_that_the_capture_lacks_are_a_gap(rt: HostRuntime) -> Result<(), Fail> {
     give(&rt, &mut traffic, &FRAMES[3..], &mut items)?;
     assert!(rt; traffic.fresh(0).is_none());
     assert!(rt; traffic.kept() == 40);
+    assert!(rt; items.as_slice() == ITEMS.as_slice());
+    Ok(())
+}
+
+/// What an Ethernet frame has ahead of its content, in bytes.
+const ETHERNET_HEADER_LEN: usize = 14;
+
+#[test]
+fn raw_ip_between_ethernet_frames_makes_their_connection(rt: HostRuntime) -> Result<(), Fail> {
+    let mut traffic = no_traffic(rt.alloc())?;
+    let mut items = Vec::new(rt.alloc());
+    let (hundredths, answer) = FRAMES[1];
+    assert!(rt; answer.len() > ETHERNET_HEADER_LEN);
+    let raw = [(hundredths, &answer[ETHERNET_HEADER_LEN..])];
+    give(&rt, &mut traffic, &FRAMES[..1], &mut items)?;
+    traffic.set_link(LINKTYPE_RAW);
+    give(&rt, &mut traffic, &raw, &mut items)?;
+    traffic.set_link(LINKTYPE_ETHERNET);
+    give(&rt, &mut traffic, &FRAMES[2..], &mut items)?;
     assert!(rt; items.as_slice() == ITEMS.as_slice());
     Ok(())
 }

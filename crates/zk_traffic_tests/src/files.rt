@@ -8,7 +8,7 @@ use std::os::unix::fs::symlink;
 use std::path::{Path, PathBuf};
 use std::test::Fail;
 use std::{env, fs, process};
-use zk_base::{Counts, Got, Shelf, Started, Wrote};
+use zk_base::{Counts, Fault, Got, Shelf, Started, Wrote};
 use zk_system::DirShelf;
 
 /// Makes a folder of this process's own in the system's folder for what is temporary.
@@ -102,6 +102,7 @@ fn what_cannot_be_read_or_written_is_counted(rt: HostRuntime) -> Result<(), Fail
         read_faults: 3,
         write_faults: 5,
         absences: 1,
+        last: Some(Fault::Write),
     };
     assert!(rt; counted(rt.alloc(), &rt) == Some(counts));
     Ok(())

@@ -143,7 +143,7 @@ fn in_pieces(alloc: Global, file: &[u8], size: usize) -> Result<(Vec<Packet>, Op
             let Next::Packet(view) = feed.next() else {
                 break;
             };
-            found.push(view.to_packet(alloc)?)?;
+            found.push(Packet::copy_of(alloc, view)?)?;
             feed.advance();
         }
     }
